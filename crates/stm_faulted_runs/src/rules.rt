@@ -192,7 +192,8 @@ fn fault_in(alloc: Global, program: &Program, found: &FoundFault) -> Result<Stri
     ensures { IfOk result (λ said. IsReasonSaid program.now (SomeOf found.now) (string_bytes said)) }
 {
     let json = write_program(alloc, program)?;
-    let said = fault_at_place(alloc, &json, first_statement(&json), found);
+    let first = first_statement(&json);
+    let said = fault_at_place(alloc, &json, first, found);
     drop(json);
     said
 }

@@ -17,6 +17,7 @@ use Rattle.stm_leaving.specs.declared.ways.Ways.{Ways}
 use Rattle.stm_leaving.specs.Source.{Source, Sources, Plain, Choice, Items, Count, Nil, Next, in_copies}
 use Rattle.stm_leaving.specs.PartsView.{sources_of}
 use Rattle.stm_leaving.specs.CopiesView.{copies_of}
+use Rattle.stm_marks.specs.Marks.{mark}
 use Rattle.stm_leaving.specs.Leaving.{returns_only, continues_only, keeps_to, keeps_to_one, keep_to, is_allowed}
 use Rattle.stm_leaving.specs.Closed.{nothing, closed}
 use Rattle.stm_leaving.specs.LeavingLaw.{source_over}
@@ -35,7 +36,8 @@ use Rattle.stm_terms.specs.Outcome.{Outcome, Read, bad, ◌>>=◌}
 use Rattle.stm_terms.specs.Room.{block_room}
 use Rattle.stm_terms.specs.Scope.{variable_of, with_item, next_of, knows, may_give}
 use Rattle.stm_source.specs.declared.leaving.Around.{Around}
-use Rattle.stm_source.specs.declared.leaving.Around.TheVariants as around
+use Rattle.stm_source.specs.declared.leaving.Loops.{Loops}
+use Rattle.stm_source.specs.declared.leaving.Loops.TheVariants as loops
 use Rattle.stm_source.specs.declared.leaving.Ending.{Ending}
 use Rattle.stm_source.specs.declared.leaving.Ending.TheVariants.{GoesOn}
 use Rattle.stm_source.specs.declared.leaving.Leave.{Leave}
@@ -43,12 +45,12 @@ use Rattle.stm_source.specs.declared.leaving.Leave.TheVariants as leave
 use Rattle.stm_source.specs.declared.programs.Look.{Look}
 use Rattle.stm_source.specs.declared.statements.Simple.{Simple}
 use Rattle.stm_source.specs.declared.statements.TheConstants.{MOST_STATEMENTS}
-use Rattle.stm_source.specs.Leaving.{is_left, in_turns, in_items, leave_word, leaving_part}
+use Rattle.stm_source.specs.Leaving.{is_left, around_all, in_turns, items_in, in_items, leave_word, leave_fault, leaving_by, leaving_part}
 use Rattle.stm_source.specs.Loops.{after_zero, unknown_item}
 use Rattle.stm_source.specs.Statements.{simple_of, behind_front, plain_behind, simple_at, put_at, assigned, set_by, assigned_by, assignment_at, next_sign, is_variable}
 use Rattle.stm_source.specs.Statements.{set_new, named_by, let_by, let_at, ReadParts, ReadBlock, ReadStatement, Blocks, otherwise_by, else_by, choice_by, choice_at}
 use Rattle.stm_source.specs.Statements.{counted_by, copy_at, copy_room, copies_from, copies_at, loop_in, loop_by, loop_at, simple_word, simple_by, short_by, going_on, plain_at}
-use Rattle.stm_source.specs.Statements.{statement_kind, statement_by, then_all, then_up, closed_or, statements_from, block_at}
+use Rattle.stm_source.specs.Statements.{with_mark, statement_kind, statement_by, then_all, then_up, closed_or, statements_from, block_at}
 use Rattle.stm_source.specs.Programs.{first_scope, parts_at, program_by, program_of, program_in_room}
 use Rattle.stm_source.specs.Allowed.{WhatIsReadIsAllowed, ReadProgramsRunAlike}
 
@@ -73,17 +75,23 @@ by_test P false a b h i = i
 -- ---- ways
 
 -- the ways in which a statement may leave its block, by the loops around it
+abbrev ways_in : Loops → Ways
+ways_in loops.Program = returns_only
+ways_in loops.Items = record { returns = true; breaks = true; continues = true }
+ways_in loops.Turns = continues_only
+ways_in loops.ItemsOfTurns = record { returns = false; breaks = true; continues = true }
+
 abbrev ways_of : Around → Ways
-ways_of around.Program = returns_only
-ways_of around.Items = record { returns = true; breaks = true; continues = true }
-ways_of around.Turns = continues_only
-ways_of around.ItemsOfTurns = record { returns = false; breaks = true; continues = true }
+ways_of a = ways_in a.loops
+
+copies_in : (l : Loops) → in_copies (ways_in l) ≡ ways_in (items_in l)
+copies_in loops.Program = refl
+copies_in loops.Items = refl
+copies_in loops.Turns = refl
+copies_in loops.ItemsOfTurns = refl
 
 copies_ways : (a : Around) → in_copies (ways_of a) ≡ ways_of (in_items a)
-copies_ways around.Program = refl
-copies_ways around.Items = refl
-copies_ways around.Turns = refl
-copies_ways around.ItemsOfTurns = refl
+copies_ways a = copies_in a.loops
 
 -- ---- lists of statements
 
@@ -160,20 +168,32 @@ let_kept : (a : Around) (levels : ℕ) (scope : Scope) (at : ℕ) (tokens : List
 let_kept a levels scope at tokens None = tt
 let_kept a levels scope at tokens (Some v) = named_kept a levels scope v tokens (next_name tokens)
 
-leave_kept : (a : Around) (l : Leave) (at : ℕ) → All (λ p. keeps_to_one (ways_of a) p ≡ true) (leaving_part a l at)
+leave_in : (l : Loops) (leave : Leave) (at : ℕ) → All (λ p. keeps_to_one (ways_in l) p ≡ true) (leaving_by leave at (leave_fault l leave))
 unfolding keeps_to
-leave_kept around.Program leave.Return at = refl
-leave_kept around.Items leave.Return at = refl
-leave_kept around.Turns leave.Return at = tt
-leave_kept around.ItemsOfTurns leave.Return at = tt
-leave_kept around.Program leave.Break at = tt
-leave_kept around.Items leave.Break at = refl
-leave_kept around.Turns leave.Break at = tt
-leave_kept around.ItemsOfTurns leave.Break at = refl
-leave_kept around.Program leave.Continue at = tt
-leave_kept around.Items leave.Continue at = refl
-leave_kept around.Turns leave.Continue at = refl
-leave_kept around.ItemsOfTurns leave.Continue at = refl
+leave_in loops.Program leave.Return at = refl
+leave_in loops.Items leave.Return at = refl
+leave_in loops.Turns leave.Return at = tt
+leave_in loops.ItemsOfTurns leave.Return at = tt
+leave_in loops.Program leave.Break at = tt
+leave_in loops.Items leave.Break at = refl
+leave_in loops.Turns leave.Break at = tt
+leave_in loops.ItemsOfTurns leave.Break at = refl
+leave_in loops.Program leave.Continue at = tt
+leave_in loops.Items leave.Continue at = refl
+leave_in loops.Turns leave.Continue at = refl
+leave_in loops.ItemsOfTurns leave.Continue at = refl
+
+leave_kept : (a : Around) (l : Leave) (at : ℕ) → All (λ p. keeps_to_one (ways_of a) p ≡ true) (leaving_part a l at)
+leave_kept a l at = leave_in a.loops l at
+
+-- a mark keeps to everything
+mark_kept : (a b : Around) (at : ℕ) (ss : List Source) → Kept a ss → Kept a (with_mark b at ss)
+unfolding keeps_to
+mark_kept a b at ss h = by_marks b.marks
+  where
+    by_marks : (x : Bool) → Kept a (if x then Plain (mark at) ∷ ss else ss)
+    by_marks true = h
+    by_marks false = h
 
 short_kept : (a : Around) (levels : ℕ) (scope : Scope) (w : Word) (tokens rest : List Token) (l : Option Leave) → KeptParts a (short_by levels a scope w tokens rest l)
 short_kept a levels scope w tokens rest (Some l) = bind _ _ _ _ (leave_kept a l (place tokens)) (λ p h. keep_behind (ways_of a) [] p h)
@@ -186,26 +206,26 @@ short_kept a levels scope w tokens rest None = of_simple (simple_word w)
 -- ---- choices and loops, of a reader of blocks that keeps
 
 choice_kept : (a : Around) (choice : List Token → ReadParts) (block : Blocks) (levels : ℕ) (scope : Scope) (tokens : List Token) →
-    ((ts : List Token) → KeptParts a (choice ts)) → ((sc : Scope) (ts : List Token) → KeptBlock a (block sc ts)) → KeptParts a (choice_by choice block levels scope tokens)
+    ((ts : List Token) → KeptParts a (choice ts)) → ((sc : Scope) (ts : List Token) → KeptBlock a (block sc ts)) → KeptParts a (choice_by a choice block levels scope tokens)
 unfolding keeps_to
 choice_kept a choice block levels scope tokens h i =
     any _ _ _ (λ c. bind _ _ _ _ (i scope c.1) (λ t yes. bind _ _ _ _ (otherwise (after_word word.Else t.2) t.2)
     (λ e no. keep_behind (ways_of a) c.0.front (Choice c.0.condition t.0 e.0) (and_from _ _ yes no))))
   where
-    of_if : (ts : List Token) (r : Option (List Token)) → KeptBlock a (otherwise_by choice block scope ts r)
-    of_if ts (Some rest) = bind _ _ _ _ (h rest) (λ s k. k)
+    of_if : (ts : List Token) (r : Option (List Token)) → KeptBlock a (otherwise_by a choice block scope ts r)
+    of_if ts (Some rest) = bind _ _ _ _ (h rest) (λ s k. mark_kept a a (place ts) s.0 k)
     of_if ts None = i scope ts
 
-    otherwise : (r : Option (List Token)) (ts : List Token) → KeptBlock a (else_by choice block scope ts r)
+    otherwise : (r : Option (List Token)) (ts : List Token) → KeptBlock a (else_by a choice block scope ts r)
     otherwise None ts = refl
     otherwise (Some rest) ts = of_if rest (after_word word.If rest)
 
 choices_kept : (a : Around) (block : Blocks) (levels : ℕ) (scope : Scope) (more : ℕ) (tokens : List Token) → ((sc : Scope) (ts : List Token) → KeptBlock a (block sc ts)) →
-    KeptParts a (choice_at block levels scope more tokens)
+    KeptParts a (choice_at a block levels scope more tokens)
 unfolding choice_at
 choices_kept a block levels scope zero tokens i = tt
 choices_kept a block levels scope (suc more) tokens i =
-    choice_kept a (choice_at block levels scope more) block levels scope tokens (λ ts. choices_kept a block levels scope more ts i) i
+    choice_kept a (choice_at a block levels scope more) block levels scope tokens (λ ts. choices_kept a block levels scope more ts i) i
 
 -- copies: each keeps to the ways of a copy
 keep_copies : (w : Ways) (cs : List Sources) (c : Sources) → keep_to w (copies_of cs) ≡ true → keeps_to w c ≡ true → keep_to w (copies_of (cs ++ c ∷ [])) ≡ true
@@ -215,25 +235,25 @@ keep_copies w (d ∷ cs) c h i =
     let both = and_parts (keeps_to w d) (keep_to w (copies_of cs)) h in
     and_from (keeps_to w d) (keep_to w (copies_of (cs ++ c ∷ []))) both.0 (keep_copies w cs c both.1 i)
 
-copies_kept : (w : Ways) (copy : Item → List Token → Read Sources) (tokens : List Token) (room : ℕ) (done : List Sources) (items : List Item) (rest : List Token) →
-    ((i : Item) (ts : List Token) → All (λ c. keeps_to w c.0 ≡ true) (copy i ts)) → keep_to w (copies_of done) ≡ true →
-    All (λ c. keep_to w (copies_of c.0) ≡ true) (copies_from copy tokens room done items rest)
-copies_kept w copy tokens room done [] rest h k = k
-copies_kept w copy tokens room done (i ∷ is) rest h k =
+copies_kept : (w : Ways) (copy : Item → List Token → Read Sources) (a : Around) (tokens : List Token) (room : ℕ) (done : List Sources) (items : List Item)
+    (rest : List Token) → ((i : Item) (ts : List Token) → All (λ c. keeps_to w c.0 ≡ true) (copy i ts)) → keep_to w (copies_of done) ≡ true →
+    All (λ c. keep_to w (copies_of c.0) ≡ true) (copies_from copy a tokens room done items rest)
+copies_kept w copy a tokens room done [] rest h k = k
+copies_kept w copy a tokens room done (i ∷ is) rest h k =
     by_test _ (nat_eq room 0) _ _ k (bind _ _ _ _ (h i tokens)
-    (λ c kept. copies_kept w copy tokens (copy_room room c.0) (done ++ c.0 ∷ []) is c.1 h (keep_copies w done c.0 k kept)))
+    (λ c kept. copies_kept w copy a tokens (copy_room a room c.0) (done ++ c.0 ∷ []) is c.1 h (keep_copies w done c.0 k kept)))
 
 items_kept : (a : Around) (block : Blocks) (scope : Scope) (name : List ℕ) (items : List Item) (tokens : List Token) →
-    ((sc : Scope) (ts : List Token) → All (λ b. keeps_to (in_copies (ways_of a)) b.0 ≡ true) (block sc ts)) → KeptRead a (copies_at block scope name items tokens)
+    ((sc : Scope) (ts : List Token) → All (λ b. keeps_to (in_copies (ways_of a)) b.0 ≡ true) (block sc ts)) → KeptRead a (copies_at a block scope name items tokens)
 unfolding keeps_to
 items_kept a block scope name [] tokens i = any _ _ _ (λ c. refl)
 items_kept a block scope name (x ∷ xs) tokens i =
-    bind _ _ _ _ (copies_kept (in_copies (ways_of a)) (copy_at block scope name) tokens MOST_STATEMENTS [] (x ∷ xs) tokens
+    bind _ _ _ _ (copies_kept (in_copies (ways_of a)) (copy_at block scope name) a tokens MOST_STATEMENTS [] (x ∷ xs) tokens
     (λ it ts. bind _ _ _ _ (i (with_item scope name it) ts) (λ b k. k)) refl)
     (λ c kept. and_from (keep_to (in_copies (ways_of a)) (copies_of c.0)) true kept refl)
 
 counted_kept : (a : Around) (block : Blocks) (levels : ℕ) (scope : Scope) (v : ℕ) (inner : Scope) (tokens : List Token) →
-    ((sc : Scope) (ts : List Token) → KeptBlock around.Turns (block sc ts)) → KeptRead a (counted_by block levels scope v inner tokens)
+    ((sc : Scope) (ts : List Token) → KeptBlock (in_turns a) (block sc ts)) → KeptRead a (counted_by block levels scope v inner tokens)
 unfolding keeps_to
 counted_kept a block levels scope v inner tokens i =
     any _ _ _ (λ count. any _ _ _ (λ f. any _ _ _ (λ limit. bind _ _ _ _ (i inner limit.1)
@@ -249,7 +269,7 @@ loop_kept a block levels scope tokens (Some p) i =
     own sc ts = subst (λ (w : Ways). All (λ b. keeps_to w b.0 ≡ true) (block (in_items a) sc ts)) (sym (copies_ways a)) (i (in_items a) sc ts)
 
     of_zero : (inner : List Token) (bound : Option (List Token)) → KeptRead a (loop_in block levels a scope (place tokens) p.0 inner bound)
-    of_zero inner (Some bound) = any _ _ _ (λ counted. counted_kept a (block (in_turns a)) levels scope counted.0 counted.1 bound (i around.Turns))
+    of_zero inner (Some bound) = any _ _ _ (λ counted. counted_kept a (block (in_turns a)) levels scope counted.0 counted.1 bound (i (in_turns a)))
     of_zero inner None = any _ _ _ (λ items. items_kept a (block (in_items a)) scope p.0 items.0 items.1 own)
 
 -- ---- statements, and blocks
@@ -281,7 +301,8 @@ statement_kept : (a : Around) (block : Around → Blocks) (levels : ℕ) (scope 
     ((b : Around) (sc : Scope) (ts : List Token) → KeptBlock b (block b sc ts)) → KeptStatement a (statement_by block levels a scope tokens)
 unfolding statement_by
 statement_kept a block levels scope [] i = tt
-statement_kept a block levels scope (t ∷ ts) i = kind_kept a block levels scope t.kind (t ∷ ts) ts i
+statement_kept a block levels scope (t ∷ ts) i =
+    bind _ _ _ _ (kind_kept a block levels scope t.kind (t ∷ ts) ts i) (λ x k. mark_kept a a t.at x.0 k)
 
 then_kept : (w : Ways) (ss : List Source) (b : Sources) → keeps_to w (sources_of ss) ≡ true → keeps_to w b ≡ true → keeps_to w (then_all ss b) ≡ true
 unfolding keeps_to
@@ -316,9 +337,11 @@ block_kept (suc levels) a scope tokens =
 
 read_kept : (look : Look) (arguments : Arguments) (tokens : List Token) → All (λ p. is_allowed p.1 ≡ true) (parts_at look arguments tokens)
 read_kept look arguments tokens =
-    any _ _ _ (λ inner. any _ _ _ (λ keys. bind _ _ _ _ (statements_kept around.Program (statement_by (block_at (MOST_BRACKETS - 1)) (MOST_BRACKETS - 1) around.Program)
-    (λ sc ts. statement_kept around.Program (block_at (MOST_BRACKETS - 1)) (MOST_BRACKETS - 1) sc ts (block_kept (MOST_BRACKETS - 1)))
-    0 GoesOn (length keys.1) (first_scope arguments look inner) keys.1) (λ b k. k)))
+    let a = around_all look.marks in
+    let n = MOST_BRACKETS - 1 in
+    any _ _ _ (λ inner. any _ _ _ (λ keys. bind _ _ _ _
+    (statements_kept a (statement_by (block_at n) n a) (λ sc ts. statement_kept a (block_at n) n sc ts (block_kept n)) 0 GoesOn (length keys.1)
+    (first_scope arguments look inner) keys.1) (λ b k. k)))
 
 pub what_is_read_is_allowed : WhatIsReadIsAllowed
 what_is_read_is_allowed look arguments tokens rest keys parts is =

@@ -9,7 +9,6 @@ mod bulk;
 mod constants;
 mod definitions;
 mod events;
-pub mod laws;
 mod leaving;
 mod loops;
 mod openings;

@@ -118,6 +118,7 @@ fn begun_world(alloc: Global, scenario: &Scenario) -> Result<World, ReplayFault>
 }
 
 /// The world that a checkpoint leads to.
+#[tactic(auto, using(crate::proofs::Resuming::resumes))]
 fn resumed_world(alloc: Global, text: &[u8], at: usize) -> Result<World, ReplayFault>
     ensures { IfOk result (λ w. resumed (checkpoint_in text.now) ≡ Some w) }
 {

@@ -9,5 +9,5 @@ abbrev pub invariant-loop-line : goal.invariant-loop-line
 invariant-loop-line l = record {
   can_next : (goal.iterator-loop-line).can_next l.line-iterator;
   ends : (goal.iterator-loop-line).is_finite l.line-iterator;
-  said : held_in l.report.lines ≡ option_map (joined l.held) (left_in l.stage (into_iter_items l.line-iterator));
+  said : held_in l.fn.report.lines ≡ option_map (joined l.held) (left_in l.stage (into_iter_items l.line-iterator));
 }

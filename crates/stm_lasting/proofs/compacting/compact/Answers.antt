@@ -4,7 +4,7 @@ use Rattle.stm_lasting.proofs.compacting.compact.Goals as goal
 
 pub returns-in-Ok-clause-kept : goal.returns-in-Ok-clause-kept
 returns-in-Ok-clause-kept g c =
-    kept_alone (g.D.Disk.seen c.checkpoint.new.self.disk) c.args.text.now c.args.after.now c.in-Ok.ensures.acknowledged.1 c.requires.leads
+    kept_alone _ c.args.text.now c.args.after.now c.in-Ok.ensures.acknowledged.1 c.requires.leads
 
 pub returns-in-Ok-clause-any_moment : goal.returns-in-Ok-clause-any_moment
 returns-in-Ok-clause-any_moment g c =

@@ -243,6 +243,28 @@ fn begins_at_the_top(spot: Spot<'_>) -> bool {
     }
 }
 
+/// What is said of a token in whose place one of these words is wanted, which begin such a thing, or one of others beside them.
+fn no_such_word(
+    alloc: Global,
+    found: &str,
+    spot: Spot<'_>,
+    noun: &str,
+    words: &[&str],
+    beside: &str,
+) -> Result<String, AllocError> {
+    let name = name_in(spot);
+    if is_called(spot) && nearest(alloc, words, name)?.is_empty() {
+        return format!(in alloc; "{found} is no {noun}: a program is called by start alone");
+    }
+    if noun == STATEMENT && begins_at_the_top(spot) {
+        return format!(in alloc;
+            "{found} is no statement, and stands outside of blocks alone: a }} is missing before it"
+        );
+    }
+    let list = allowed(alloc, words, beside, name)?;
+    format!(in alloc; "{found} is no {noun}: {list}")
+}
+
 /// What is said of a token in whose place another one is wanted.
 fn syntax_words(
     alloc: Global,
@@ -260,19 +282,7 @@ fn syntax_words(
     }
     match wanted_at(spot) {
         Wanted::Words(noun, words, beside) => {
-            let name = name_in(spot);
-            if is_called(spot) && nearest(alloc, words, name)?.is_empty() {
-                return format!(in alloc;
-                    "{found} is no {noun}: a program is called by start alone"
-                );
-            }
-            if noun == STATEMENT && begins_at_the_top(spot) {
-                return format!(in alloc;
-                    "{found} is no statement, and stands outside of blocks alone: a }} is missing before it"
-                );
-            }
-            let list = allowed(alloc, words, beside, name)?;
-            format!(in alloc; "{found} is no {noun}: {list}")
+            no_such_word(alloc, found, spot, noun, words, beside)
         }
         Wanted::Said(wanted) => format!(in alloc; "found {found}, where {wanted} is wanted"),
         Wanted::OperatorOr(wanted) => {

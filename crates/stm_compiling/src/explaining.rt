@@ -444,7 +444,59 @@ fn words_at(
     }
 }
 
-/// Adds a line for each of up to so many faults behind this one, in what is left of a source without the parts that have one.
+/// The line of a fault in what is left of a source, with its place in that source.
+fn line_left(
+    alloc: Global,
+    name: &str,
+    source: &str,
+    left: &str,
+    bad: BadSource,
+) -> Result<String, AllocError> {
+    let left = left.as_bytes();
+    let tokens = tokens_of(alloc, left)?;
+    let said = words_at(alloc, left, spot_at(tokens.as_slice(), bad.at), bad)?;
+    drop(tokens);
+    let Position { line, column } = position_in(source.as_bytes(), bad.at);
+    format!(in alloc; "\n{name}:{line}:{column}: {said}")
+}
+
+/// Adds a line for the fault behind this one in what is left of a source, and returns it, if there is one.
+fn push_next(
+    alloc: Global,
+    name: &str,
+    source: &str,
+    rest: &mut Rest,
+    last: BadSource,
+    words: &mut String,
+) -> Result<Option<BadSource>, AllocError> {
+    let Some(next) = rest.next_behind(alloc, last)? else {
+        return Ok(None);
+    };
+    let line = line_left(alloc, name, source, rest.text.as_str(), next)?;
+    words.push_str(line.as_str())?;
+    Ok(Some(next))
+}
+
+/// Adds a line for each of up to so many faults behind this one in what is left of a source.
+fn push_rest(
+    alloc: Global,
+    name: &str,
+    source: &str,
+    rest: &mut Rest,
+    bad: BadSource,
+    words: &mut String,
+) -> Result<(), AllocError> {
+    let mut last = bad;
+    for _turn in 0..MOST_MORE {
+        match push_next(alloc, name, source, rest, last, words)? {
+            Some(next) => last = next,
+            None => return Ok(()),
+        }
+    }
+    Ok(())
+}
+
+/// The same in a whole source, without the parts that have one.
 fn push_more(
     alloc: Global,
     name: &str,
@@ -453,20 +505,9 @@ fn push_more(
     words: &mut String,
 ) -> Result<(), AllocError> {
     let mut rest = Rest::new(alloc, source)?;
-    let mut last = bad;
-    for _turn in 0..MOST_MORE {
-        let Some(next) = rest.next_behind(alloc, last)? else {
-            return Ok(());
-        };
-        let left = rest.text.as_bytes();
-        let tokens = tokens_of(alloc, left)?;
-        let said = words_at(alloc, left, spot_at(tokens.as_slice(), next.at), next)?;
-        let Position { line, column } = position_in(source.as_bytes(), next.at);
-        let more = format!(in alloc; "\n{name}:{line}:{column}: {said}")?;
-        words.push_str(more.as_str())?;
-        last = next;
-    }
-    Ok(())
+    let pushed = push_rest(alloc, name, source, &mut rest, bad, words);
+    drop(rest);
+    pushed
 }
 
 /// The explanation of the first fault of a source, as a line, and behind it lines for others.

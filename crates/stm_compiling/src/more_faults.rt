@@ -180,10 +180,28 @@ impl Rest {
             return Ok(false);
         }
         let tokens = tokens_of(alloc, self.text.as_bytes())?;
-        Ok(match token_at(tokens.as_slice(), bad.at) {
+        let is_gone = self.has_lost(tokens.as_slice(), bad.at);
+        drop(tokens);
+        Ok(is_gone)
+    }
+
+    /// Whether the name that begins at a byte may have been that of something which was left out.
+    fn has_lost(&self, tokens: &[Token], at: usize) -> bool {
+        match token_at(tokens, at) {
             Some(TokenKind::Name(name)) => has_word(self.gone.as_str(), name.as_str()),
             _ => false,
-        })
+        }
+    }
+
+    /// The first fault behind this one of what is left without its part.
+    fn fault_without(
+        &mut self,
+        alloc: Global,
+        bad: BadSource,
+    ) -> Result<Option<BadSource>, AllocError> {
+        self.reads = self.reads.saturating_sub(1);
+        self.leave_out(alloc, bad.at)?;
+        self.fault_behind(alloc, bad.at)
     }
 
     /// The next fault behind this one, where the part with this one is left out, and those of which it is.
@@ -194,9 +212,7 @@ impl Rest {
     ) -> Result<Option<BadSource>, AllocError> {
         let mut last = bad;
         for _turn in 0..self.reads {
-            self.reads = self.reads.saturating_sub(1);
-            self.leave_out(alloc, last.at)?;
-            let Some(next) = self.fault_behind(alloc, last.at)? else {
+            let Some(next) = self.fault_without(alloc, last)? else {
                 return Ok(None);
             };
             if !self.is_of_what_is_gone(alloc, next)? {

@@ -277,14 +277,16 @@ impl<'a> Account<'a> {
 
     /// Notes to which fault the program of a runner came in a world, where that is to be said and it is the first one.
     fn note_fault(&mut self, world: &World, runner: u64) -> Result<(), AllocError> {
+        let alloc = self.alloc;
+        let programs = self.programs;
         let index = runner.saturating_sub(1);
-        if index >= self.runners.len() as u64 || index >= self.programs.len() as u64 {
+        if index >= self.runners.len() as u64 || index >= programs.len() as u64 {
             return Ok(());
         }
+        let program = &programs[index as usize];
         let runs = &mut self.runners[index as usize];
         if runs.fault.is_none() {
-            let program = &self.programs[index as usize];
-            runs.fault = Some(fault_in(self.alloc, program, world)?);
+            runs.fault = Some(fault_in(alloc, program, world)?);
         }
         Ok(())
     }

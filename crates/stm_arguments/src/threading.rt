@@ -26,7 +26,8 @@ then stmrun threads --workers 2 s.json prints
   [\"value\",\"b\",\"1\"]
   [\"end\",3]
 
-With --ends a line for each job stands after the second, [\"job\",0,\"committed\",3,1] here: the job's number, how it
+With --ends stand after the second line how many attempts were made in all, [\"attempts\",1] here, for each key over which commits
+failed how many did, as [\"conflicts\",\"a\",37], and a line for each job, [\"job\",0,\"committed\",3,1]: the job's number, how it
 ended, the revision after its commit, its abort's text, its fault, why it was refused (ended), or the key of
 its last conflict (gaveup), and how many attempts of it were made.
 
@@ -89,7 +90,7 @@ pub(crate) fn threads_command<'a>(alloc: Global) -> Result<Command<'a>, AllocErr
         .arg(flag(
             alloc,
             "ends",
-            "Whether a line is printed for the end of each job",
+            "Whether the end of each job is printed, and how often commits failed over each key",
         ))?
         .arg(option(
             alloc,

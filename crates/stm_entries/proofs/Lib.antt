@@ -3,3 +3,4 @@ pub mod Replaying
 pub mod Adding
 pub mod LeaseLemmas
 pub mod ListedLeases
+pub mod Restored

@@ -6,3 +6,4 @@ pub mod Laws
 pub mod LiveLeases
 pub mod Codes
 pub mod Entered
+pub mod Restored

@@ -1,9 +1,10 @@
 -- What entries are replayed over: a store without its moment.
 --
 -- etcd's API reference, "Revisions" and "Lease": one history with one revision counter, and the leases that are live.
-use Rattle.std.specs.Prelude.{ℕ}
+use Rattle.std.specs.Prelude.{ℕ, []}
 use Rattle.std.specs.FinMap as finmap
-use Rattle.stm_history.specs.History.{History, opened_at}
+use Rattle.stm_history.specs.Opening.{Opening, opening_at}
+use Rattle.stm_history.specs.History.{History}
 use Rattle.stm_leases.specs.Live.{Live}
 use Rattle.stm_outcome.specs.Terms.{Terms, widest_terms}
 use Rattle.stm_txn.specs.Standing.{Standing}
@@ -13,9 +14,13 @@ pub record Replayed : Type 0 where
   pub history : History
   pub live : Live
 
+-- A store that opens with what each key was there, and no live lease: where leases were live, the entries begin with their grants.
+abbrev pub opened_with : Opening → Replayed
+opened_with start = record { history = record { opening = start; revisions = [] }; live = finmap.empty }
+
 -- an empty store that opens at a revision
 abbrev pub opening : ℕ → Replayed
-opening number = record { history = opened_at number; live = finmap.empty }
+opening number = opened_with (opening_at number)
 
 -- a store without its moment
 abbrev pub without_moment : Standing → Replayed

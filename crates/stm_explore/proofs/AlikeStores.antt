@@ -2,10 +2,11 @@
 use Rattle.std.proofs.Common.{◌≡◌, ◌∙◌, ℕ, ◌-◌, Bool, false, cond, [], map, sym, ap, subst, arith}
 use Rattle.std.specs.Prelude.{nat_lt}
 use Rattle.std.proofs.lemmas.Bool.Decides.{nat_tests}
+use Rattle.stm_history.specs.Opening.{Opening}
 use Rattle.stm_history.specs.History.{History}
 use Rattle.stm_history.specs.Cut.{cut, opening_of_cut, revisions_above}
 use Rattle.stm_txn.specs.Standing.{Standing, with_watchers, kept}
-use Rattle.stm_entries.specs.Replayed.{Replayed, opening, without_moment}
+use Rattle.stm_entries.specs.Replayed.{Replayed, opened_with, without_moment}
 use Rattle.stm_entries.specs.Replay.{replay}
 use Rattle.stm_entries.proofs.Adding.{replay_only_adds}
 use Rattle.stm_world.specs.World.{World}
@@ -18,11 +19,7 @@ parts_alike s t history live floor limit moment =
 
 -- the history of a world is the one to which its entries lead, and so are its live leases
 pub record LedTo (w : World) : Type 0 where
-  pub replays : replay w.entries (opening w.standing.history.opening.number) ≡ without_moment w.standing
-
-opens : (w : World) → LedTo w → w.standing.history.opening ≡ (opening w.standing.history.opening.number).history.opening
-opens w led =
-    sym (ap (λ (r : Replayed). r.history.opening) led.replays) ∙ (replay_only_adds w.entries (opening w.standing.history.opening.number)).opening
+  pub replays : replay w.entries (opened_with w.standing.history.opening) ≡ without_moment w.standing
 
 -- the same floor, limit and moment
 pub record SameTerms (s t : Standing) : Type 0 where
@@ -52,38 +49,29 @@ never_compacted s none =
 all_kept : (s a : Standing) (h : History) → a ≡ kept s → h ≡ a.history → a.floor ≡ 0 → h ≡ s.history
 all_kept s a h one first none = first ∙ ap (λ (x : Standing). x.history) one ∙ never_compacted s (sym (ap (λ (x : Standing). x.floor) one) ∙ none)
 
-pub same_opening : (s t a b : Standing) (h g : History) → a ≡ kept s → b ≡ kept t → h ≡ a.history → g ≡ b.history → a.floor ≡ 0 → b.floor ≡ 0 →
-    h.opening.number ≡ g.opening.number → s.history.opening.number ≡ t.history.opening.number
-same_opening s t a b h g one two first second none nothing same =
-    sym (ap (λ (x : History). x.opening.number) (all_kept s a h one first none)) ∙ same ∙ ap (λ (x : History). x.opening.number) (all_kept t b g two second nothing)
-
 pub whole_compared : (s t a b : Standing) (h g : History) → a ≡ kept s → b ≡ kept t → h ≡ a.history → g ≡ b.history → a.floor ≡ 0 → b.floor ≡ 0 →
     (h.opening ≡ g.opening → h.revisions ≡ g.revisions) → s.history.opening ≡ t.history.opening → s.history.revisions ≡ t.history.revisions
 whole_compared s t a b h g one two first second none nothing compared =
     subst (λ (x : History). x.opening ≡ t.history.opening → x.revisions ≡ t.history.revisions) (all_kept s a h one first none)
     (subst (λ (y : History). h.opening ≡ y.opening → h.revisions ≡ y.revisions) (all_kept t b g two second nothing) compared)
 
-pub alike_by_revisions : (v w : World) → LedTo v → LedTo w → v.standing.history.opening.number ≡ w.standing.history.opening.number →
+pub alike_by_revisions : (v w : World) → LedTo v → LedTo w → v.standing.history.opening ≡ w.standing.history.opening →
     SameTerms v.standing w.standing → (v.standing.history.opening ≡ w.standing.history.opening → v.standing.history.revisions ≡ w.standing.history.revisions) →
     ((r : Replayed) → (replay v.entries r).live ≡ (replay w.entries r).live) → with_watchers v.standing [] ≡ with_watchers w.standing []
 alike_by_revisions v w first second opened terms revisions leases =
-    let n : ℕ = v.standing.history.opening.number in
-    let m : ℕ = w.standing.history.opening.number in
-    let openings : v.standing.history.opening ≡ w.standing.history.opening =
-    opens v first ∙ ap (λ k. (opening k).history.opening) opened ∙ sym (opens w second) in
-    let later : v.standing.history.revisions ≡ w.standing.history.revisions = revisions openings in
-    let histories : v.standing.history ≡ w.standing.history = λ i. record { opening = openings i; revisions = later i } in
+    let later : v.standing.history.revisions ≡ w.standing.history.revisions = revisions opened in
+    let histories : v.standing.history ≡ w.standing.history = λ i. record { opening = opened i; revisions = later i } in
     let lives : v.standing.live ≡ w.standing.live =
-    sym (ap (λ (r : Replayed). r.live) first.replays) ∙ leases (opening n) ∙ ap (λ k. (replay w.entries (opening k)).live) opened
+    sym (ap (λ (r : Replayed). r.live) first.replays) ∙ leases (opened_with v.standing.history.opening) ∙ ap (λ (o : Opening). (replay w.entries (opened_with o)).live) opened
     ∙ ap (λ (r : Replayed). r.live) second.replays in
     parts_alike v.standing w.standing histories lives terms.floor terms.limit terms.moment
 
-pub alike_by_entries : (v w : World) → LedTo v → LedTo w → v.standing.history.opening.number ≡ w.standing.history.opening.number →
+pub alike_by_entries : (v w : World) → LedTo v → LedTo w → v.standing.history.opening ≡ w.standing.history.opening →
     SameTerms v.standing w.standing → v.entries ≡ w.entries → with_watchers v.standing [] ≡ with_watchers w.standing []
 alike_by_entries v w first second opened terms entries =
     let led : without_moment v.standing ≡ without_moment w.standing =
-    sym first.replays ∙ ap (λ es. replay es (opening v.standing.history.opening.number)) entries
-    ∙ ap (λ k. replay w.entries (opening k)) opened ∙ second.replays in
+    sym first.replays ∙ ap (λ es. replay es (opened_with v.standing.history.opening)) entries
+    ∙ ap (λ (o : Opening). replay w.entries (opened_with o)) opened ∙ second.replays in
     parts_alike v.standing w.standing (ap (λ (r : Replayed). r.history) led) (ap (λ (r : Replayed). r.live) led) terms.floor terms.limit terms.moment
 
 -- alike runners over alike stores

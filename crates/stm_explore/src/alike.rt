@@ -30,6 +30,7 @@ fn have_same_terms(left: &Store, right: &Store) -> bool
 ///
 /// It says no where a compaction has dropped revisions of a store.
 fn have_same_whole_store(one: &SharedWorld, other: &SharedWorld) -> bool
+    requires { one.now.standing.history.opening ≡ other.now.standing.history.opening }
     ensures { result ≡ true → with_watchers one.now.standing [] ≡ with_watchers other.now.standing [] }
 {
     let store = one.store();
@@ -51,13 +52,10 @@ fn have_same_whole_store(one: &SharedWorld, other: &SharedWorld) -> bool
 
 /// Whether two worlds have the same entries, and stores of the same floor, limit and moment: so they have the same history and live leases.
 fn have_same_entries(one: &SharedWorld, other: &SharedWorld) -> bool
+    requires { one.now.standing.history.opening ≡ other.now.standing.history.opening }
     ensures { result ≡ true → with_watchers one.now.standing [] ≡ with_watchers other.now.standing [] }
 {
     if !have_same_terms(one.store(), other.store()) {
-        return false;
-    }
-    let opened = one.opened_at();
-    if opened != other.opened_at() {
         return false;
     }
     are_same_entries(one.history(), other.history())
@@ -69,6 +67,9 @@ fn have_same_entries(one: &SharedWorld, other: &SharedWorld) -> bool
 fn have_same_store(one: &SharedWorld, other: &SharedWorld) -> bool
     ensures { result ≡ true → with_watchers one.now.standing [] ≡ with_watchers other.now.standing [] }
 {
+    if !one.opens_alike(other) {
+        return false;
+    }
     let floor = one.store().floor();
     if floor == 0 {
         return have_same_whole_store(one, other);

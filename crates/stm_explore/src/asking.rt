@@ -114,8 +114,8 @@ fn push_laid(
     Ok(())
 }
 
-/// The keys that are laid over a state, where this is known of the ends of runners.
-fn laid(alloc: Global, ends: &[Option<RunnerEnd>]) -> Result<Vec<KeyValue>, AllocError>
+/// The keys that `When::Last` lays over a state, where this is known of the ends of runners. It fails only when out of memory.
+pub fn laid(alloc: Global, ends: &[Option<RunnerEnd>]) -> Result<Vec<KeyValue>, AllocError>
     ensures { IfOk result (λ keys. keys.items ≡ laid ends.now) }
 {
     let mut keys = Vec::new(alloc);

@@ -5,7 +5,7 @@ ghost use Rattle.stm_serial_search.specs.Search.{AreProgramsOf};
 
 use crate::audience::Audience;
 use crate::final_words::{AskedOutput, outputs_asked, wrong_ends};
-use crate::key_use::{AskedKey, KeyUse};
+use crate::key_use::{AskedKey, KeyUse, VaryingRule, varying_rules};
 use crate::near_keys::{are_of_a_list, nearest};
 use crate::rules::{RuleAnswer, has_kept};
 use crate::seen_ends::SeenEnds;
@@ -14,6 +14,7 @@ use std::alloc::{AllocError, Global};
 use stm_events::EventRefusal;
 use stm_explain::shown;
 use stm_explore::When;
+use stm_faulted_runs::fault_on;
 use stm_history::Text;
 use stm_meaning::{End, Run};
 use stm_program::Program;
@@ -75,12 +76,18 @@ struct Runs {
     ends: Vec<Came>,
     /// How many outputs a run of it had at most.
     outputs: usize,
+    /// To which fault its program came where it first came to one, and why, where that is to be said.
+    fault: Option<String>,
 }
 
 /// How the programs of runners end, each run alone, in every serial order.
 #[derive(Drop)]
-struct Account {
+struct Account<'a> {
     alloc: Global,
+    /// The rules that make keys of variables, and so may ask for another one at each place.
+    varying: Vec<VaryingRule<'a>>,
+    /// The runners' programs.
+    programs: &'a [Program],
     /// By the runners' numbers.
     runners: Vec<Runs>,
     /// Which keys are asked for, and which are put.
@@ -99,14 +106,26 @@ struct Account {
     is_cut: bool,
 }
 
-impl Follower for Account {
+impl Follower for Account<'_> {
     fn may_move(&mut self) -> bool {
         self.is_whole = self.goes_on();
         self.is_whole
     }
 
+    fn came(&mut self, world: &World) {
+        if self.note_place(world).is_err() {
+            self.is_cut = true;
+        }
+    }
+
     fn ran(&mut self, runner: u64, run: &Run) {
         if self.note_run(runner, run).is_err() {
+            self.is_cut = true;
+        }
+    }
+
+    fn stopped(&mut self, world: &World, runner: u64, run: &Run) {
+        if self.note_stop(world, runner, run).is_err() {
             self.is_cut = true;
         }
     }
@@ -125,6 +144,12 @@ pub(crate) fn shown_text(alloc: Global, text: &str) -> Result<String, AllocError
     let shown = shown(alloc, &json);
     drop(json);
     shown
+}
+
+/// To which fault a program comes in a world, where in it, and why.
+fn fault_in(alloc: Global, program: &Program, world: &World) -> Result<String, AllocError> {
+    let state = world.state()?;
+    fault_on(alloc, program, &state)
 }
 
 /// Where such an end is among these.
@@ -159,6 +184,7 @@ fn no_runs(alloc: Global) -> Runs {
         has_committed: false,
         ends: Vec::new(alloc),
         outputs: 0,
+        fault: None,
     }
 }
 
@@ -171,7 +197,7 @@ fn no_account(alloc: Global, count: usize) -> Result<Vec<Runs>, AllocError> {
     Ok(runners)
 }
 
-impl Account {
+impl<'a> Account<'a> {
     /// Whether something is yet to be learned, and one move more may be made for it.
     fn goes_on(&mut self) -> bool {
         if self.left == 0 || self.is_cut {
@@ -187,7 +213,7 @@ impl Account {
 
     /// Whether it is yet to be seen of something that is asked for whether a run has it.
     fn asks(&self) -> bool {
-        !self.outputs.is_empty() || self.keys.is_open()
+        !self.outputs.is_empty() || !self.varying.is_empty() || self.keys.is_open()
     }
 
     /// Whether nothing puts a key, by what the spelling of programs says of it or by their runs in all serial orders.
@@ -206,11 +232,15 @@ impl Account {
         count: usize,
         keys: KeyUse,
         outputs: Vec<AskedOutput>,
+        varying: Vec<VaryingRule<'a>>,
+        programs: &'a [Program],
         told: Told,
-    ) -> Result<Account, AllocError> {
+    ) -> Result<Account<'a>, AllocError> {
         let runners = no_account(alloc, count)?;
         Ok(Account {
             alloc,
+            varying,
+            programs,
             runners,
             keys,
             outputs,
@@ -220,6 +250,16 @@ impl Account {
             is_whole: true,
             is_cut: false,
         })
+    }
+
+    /// Notes what the rules ask for at a place that make keys of variables.
+    fn note_place(&mut self, world: &World) -> Result<(), AllocError> {
+        if self.varying.is_empty() || self.is_cut {
+            return Ok(());
+        }
+        let state = world.state()?;
+        self.keys
+            .note_rules_on(self.alloc, &state, self.varying.as_slice())
     }
 
     /// Notes how a run of a runner ended.
@@ -232,6 +272,30 @@ impl Account {
             End::Done => self.note_commit(runner, run.output.len()),
             End::Aborted(text) => self.note_abort(runner, text),
             End::Faulted(fault) => self.note_word(runner, "faulted", fault.name()),
+        }
+    }
+
+    /// Notes to which fault the program of a runner came in a world, where that is to be said and it is the first one.
+    fn note_fault(&mut self, world: &World, runner: u64) -> Result<(), AllocError> {
+        let alloc = self.alloc;
+        let programs = self.programs;
+        let index = runner.saturating_sub(1);
+        if index >= self.runners.len() as u64 || index >= programs.len() as u64 {
+            return Ok(());
+        }
+        let program = &programs[index as usize];
+        let runs = &mut self.runners[index as usize];
+        if runs.fault.is_none() {
+            runs.fault = Some(fault_in(alloc, program, world)?);
+        }
+        Ok(())
+    }
+
+    /// Notes that a run of a runner stopped in a world.
+    fn note_stop(&mut self, world: &World, runner: u64, run: &Run) -> Result<(), AllocError> {
+        match (&run.end, self.told) {
+            (End::Faulted(_), Told::All) if !self.is_cut => self.note_fault(world, runner),
+            _ => Ok(()),
         }
     }
 
@@ -340,9 +404,42 @@ fn is_said(runs: &Runs, told: Told) -> bool {
     }
 }
 
+/// Says to which fault the program of a runner first comes, where that was noted.
+fn tell_fault<O: Audience>(
+    alloc: Global,
+    runner: usize,
+    runs: &Runs,
+    audience: &mut O,
+) -> Result<(), AllocError> {
+    if let Some(fault) = &runs.fault {
+        let fault = fault.as_str();
+        let line = format!(in alloc; "the program of runner {runner} comes to {fault}")?;
+        audience.hear_fault(line.as_str());
+    }
+    Ok(())
+}
+
+/// Says how the runs of a runner ended, which are of these.
+fn tell_runner<O: Audience>(
+    alloc: Global,
+    runner: usize,
+    runs: &Runs,
+    of: &str,
+    audience: &mut O,
+) -> Result<(), AllocError> {
+    let line = line_of(alloc, runner, runs, of)?;
+    if runs.has_committed {
+        audience.hear(line.as_str());
+    } else {
+        audience.doubt(line.as_str());
+    }
+    drop(line);
+    tell_fault(alloc, runner, runs, audience)
+}
+
 /// Says how the runs of each runner ended of which it is to be said. The account is of these runs.
 fn tell_runs<O: Audience>(
-    account: &Account,
+    account: &Account<'_>,
     told: Told,
     of: &str,
     audience: &mut O,
@@ -350,12 +447,7 @@ fn tell_runs<O: Audience>(
     for index in 0..account.runners.len() {
         let runs = &account.runners[index];
         if is_said(runs, told) {
-            let line = line_of(account.alloc, index + 1, runs, of)?;
-            if runs.has_committed {
-                audience.hear(line.as_str());
-            } else {
-                audience.doubt(line.as_str());
-            }
+            tell_runner(account.alloc, index + 1, runs, of, audience)?;
         }
     }
     Ok(())
@@ -387,7 +479,7 @@ fn key_line(
 }
 
 /// A key that is so near to one which nothing puts that this is most likely misspelt; an empty text where there is none.
-fn meant<'a>(account: &'a Account, key: &Text) -> Result<&'a str, AllocError> {
+fn meant<'a>(account: &'a Account<'_>, key: &Text) -> Result<&'a str, AllocError> {
     let alloc = account.alloc;
     if !account.is_strange(key) {
         return Ok("");
@@ -401,7 +493,11 @@ fn meant<'a>(account: &'a Account, key: &Text) -> Result<&'a str, AllocError> {
 }
 
 /// The line of a key that a runner asks for and that nothing puts.
-fn runner_key_line(account: &Account, asked: &AskedKey, near: &str) -> Result<String, AllocError> {
+fn runner_key_line(
+    account: &Account<'_>,
+    asked: &AskedKey,
+    near: &str,
+) -> Result<String, AllocError> {
     let alloc = account.alloc;
     let who = runner_word(alloc, asked.who)?;
     let is_sure = !account.keys.may_be_put(&asked.key);
@@ -411,7 +507,7 @@ fn runner_key_line(account: &Account, asked: &AskedKey, near: &str) -> Result<St
 /// Says of a key that a runner asks for that nothing puts it: where another key is most likely meant, and where it is to be said how its runs ended. That
 /// is worth a doubt, if none of them committed.
 fn tell_asked<O: Audience>(
-    account: &Account,
+    account: &Account<'_>,
     asked: &AskedKey,
     runs: &Runs,
     audience: &mut O,
@@ -431,7 +527,7 @@ fn tell_asked<O: Audience>(
 }
 
 /// Says which keys the runners ask for that nothing puts.
-fn tell_of_runners<O: Audience>(account: &Account, audience: &mut O) -> Result<(), AllocError> {
+fn tell_of_runners<O: Audience>(account: &Account<'_>, audience: &mut O) -> Result<(), AllocError> {
     let keys = &account.keys;
     for asked in keys.by_runners.as_slice() {
         if asked.who < account.runners.len() && account.is_unput(&asked.key) {
@@ -441,24 +537,50 @@ fn tell_of_runners<O: Audience>(account: &Account, audience: &mut O) -> Result<(
     Ok(())
 }
 
-/// Says which keys rules ask for that nothing puts.
-fn tell_of_rules<O: Audience>(
-    account: &Account,
+/// Says that a rule asks for a key that nothing puts, and which one is nearest.
+fn tell_of_rule<O: Audience>(
+    account: &Account<'_>,
     answers: &[RuleAnswer],
+    asked: &AskedKey,
     audience: &mut O,
 ) -> Result<(), AllocError> {
     let alloc = account.alloc;
     let keys = &account.keys;
-    for asked in keys.by_rules.as_slice() {
-        if account.is_strange(&asked.key) {
-            let key = &asked.key;
-            let near = nearest(alloc, keys, key, NEAR)?;
-            let who = rule_word(alloc, answers, asked.who)?;
-            let line = key_line(alloc, who.as_str(), key, !keys.may_be_put(key), near)?;
-            audience.doubt(line.as_str());
+    let key = &asked.key;
+    let near = nearest(alloc, keys, key, NEAR)?;
+    let who = rule_word(alloc, answers, asked.who)?;
+    let line = key_line(alloc, who.as_str(), key, !keys.may_be_put(key), near)?;
+    audience.doubt(line.as_str());
+    Ok(())
+}
+
+/// Says which keys rules make of variables that nothing puts, where another one is most likely meant: of a list a rule may well ask for more than is there.
+fn tell_of_made<O: Audience>(
+    account: &Account<'_>,
+    answers: &[RuleAnswer],
+    audience: &mut O,
+) -> Result<(), AllocError> {
+    let keys = &account.keys;
+    for asked in keys.made.as_slice() {
+        if !keys.is_asked(asked) && !meant(account, &asked.key)?.is_empty() {
+            tell_of_rule(account, answers, asked, audience)?;
         }
     }
     Ok(())
+}
+
+/// Says which keys rules ask for that nothing puts.
+fn tell_of_rules<O: Audience>(
+    account: &Account<'_>,
+    answers: &[RuleAnswer],
+    audience: &mut O,
+) -> Result<(), AllocError> {
+    for asked in account.keys.by_rules.as_slice() {
+        if account.is_strange(&asked.key) {
+            tell_of_rule(account, answers, asked, audience)?;
+        }
+    }
+    tell_of_made(account, answers, audience)
 }
 
 /// Says of finals which words they compare with a runner's end that are none.
@@ -484,7 +606,7 @@ fn tell_ends<O: Audience>(
 
 /// Says that a final asks for an output that no run of its runner has.
 fn tell_output<O: Audience>(
-    account: &Account,
+    account: &Account<'_>,
     answers: &[RuleAnswer],
     asked: AskedOutput,
     audience: &mut O,
@@ -511,7 +633,7 @@ fn tell_output<O: Audience>(
 
 /// Says of finals which outputs they ask for that no run has, where all orders were gone through.
 fn tell_outputs<O: Audience>(
-    account: &Account,
+    account: &Account<'_>,
     answers: &[RuleAnswer],
     audience: &mut O,
 ) -> Result<(), AllocError> {
@@ -525,7 +647,7 @@ fn tell_outputs<O: Audience>(
 
 /// Says how the runs of runners ended: at the ends of the schedules in which some wait, where these were seen, and else in serial orders.
 fn tell_ended<O: Audience>(
-    account: &Account,
+    account: &Account<'_>,
     answers: &[RuleAnswer],
     seen: Option<&SeenEnds>,
     audience: &mut O,
@@ -545,7 +667,7 @@ fn tell_ended<O: Audience>(
 
 /// Says what an account of serial orders has.
 fn tell_orders<O: Audience>(
-    account: &Account,
+    account: &Account<'_>,
     answers: &[RuleAnswer],
     seen: Option<&SeenEnds>,
     audience: &mut O,
@@ -570,16 +692,29 @@ fn note_keys(
     keys.note_events(others)
 }
 
+/// The outputs that rules ask for, and the rules that may ask for another key at each place.
+fn asked_by(
+    alloc: Global,
+    answers: &[RuleAnswer],
+) -> Result<(Vec<AskedOutput>, Vec<VaryingRule<'_>>), AllocError> {
+    let outputs = outputs_asked(alloc, answers)?;
+    let varying = varying_rules(alloc, answers)?;
+    Ok((outputs, varying))
+}
+
 /// The account of no run of so many runners, of which this is known of keys.
-fn account_of(
+fn account_of<'a>(
     alloc: Global,
     count: usize,
     keys: KeyUse,
-    answers: &[RuleAnswer],
+    programs: &'a [Program],
+    answers: &'a [RuleAnswer],
     told: Told,
-) -> Result<Account, AllocError> {
-    match outputs_asked(alloc, answers) {
-        Ok(outputs) => Account::new(alloc, count, keys, outputs, told),
+) -> Result<Account<'a>, AllocError> {
+    match asked_by(alloc, answers) {
+        Ok((outputs, varying)) => {
+            Account::new(alloc, count, keys, outputs, varying, programs, told)
+        }
         Err(_) => {
             drop(keys);
             Err(AllocError)
@@ -588,17 +723,17 @@ fn account_of(
 }
 
 /// The account of no run, about rules.
-fn account_before(
+fn account_before<'a>(
     alloc: Global,
     world: &World,
     others: &[WorldEvent],
-    programs: &[Program],
-    answers: &[RuleAnswer],
+    programs: &'a [Program],
+    answers: &'a [RuleAnswer],
     told: Told,
-) -> Result<Account, AllocError> {
+) -> Result<Account<'a>, AllocError> {
     let mut keys = KeyUse::new(alloc, world)?;
     match note_keys(alloc, &mut keys, others, programs, answers) {
-        Ok(()) => account_of(alloc, world.runner_count(), keys, answers, told),
+        Ok(()) => account_of(alloc, world.runner_count(), keys, programs, answers, told),
         Err(_) => {
             drop(keys);
             Err(AllocError)

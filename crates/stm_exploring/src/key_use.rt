@@ -28,6 +28,8 @@ pub(crate) struct KeyUse {
     pub(crate) by_rules: Vec<AskedKey>,
     /// The same of programs.
     pub(crate) by_runners: Vec<AskedKey>,
+    /// The keys that rules ask for at some place, which they make of variables, and that are not there.
+    pub(crate) made: Vec<AskedKey>,
     /// The keys that an event of the others or a run puts.
     pub(crate) put: Vec<Text>,
     /// The keys that a program puts by its spelling, though maybe in no run.
@@ -143,6 +145,39 @@ fn note_asked(
     noted
 }
 
+/// A rule that is asked everywhere and makes keys of variables.
+#[derive(Clone, Copy)]
+pub(crate) struct VaryingRule<'a> {
+    /// Its place among the rules.
+    place: usize,
+    /// Its program.
+    program: &'a Program,
+}
+
+/// Whether a name is not spelled whole.
+fn is_front(name: &Name) -> bool {
+    !name.is_whole
+}
+
+/// The rules that are asked everywhere and make keys of variables: they may ask for other keys at each place.
+pub(crate) fn varying_rules(
+    alloc: Global,
+    answers: &[RuleAnswer],
+) -> Result<Vec<VaryingRule<'_>>, AllocError> {
+    let mut varying = Vec::new(alloc);
+    for (place, a) in answers.iter().enumerate() {
+        if a.rule.when != When::Each {
+            continue;
+        }
+        let program = &a.rule.program;
+        let names = keys_looked_up(alloc, program)?;
+        if names.as_slice().iter().any(is_front) {
+            varying.push(VaryingRule { place, program })?;
+        }
+    }
+    Ok(varying)
+}
+
 impl KeyUse {
     /// Nothing is asked for and nothing is put where a world is.
     pub(crate) fn new(alloc: Global, world: &World) -> Result<KeyUse, AllocError> {
@@ -150,6 +185,7 @@ impl KeyUse {
         Ok(KeyUse {
             state,
             by_rules: Vec::new(alloc),
+            made: Vec::new(alloc),
             by_runners: Vec::new(alloc),
             put: Vec::new(alloc),
             spelled: Vec::new(alloc),
@@ -170,6 +206,19 @@ impl KeyUse {
             if when == When::Each {
                 note_asked(alloc, &mut self.by_rules, &self.state, place, program)?;
             }
+        }
+        Ok(())
+    }
+
+    /// Notes what these rules ask for on a state that it does not have.
+    pub(crate) fn note_rules_on(
+        &mut self,
+        alloc: Global,
+        state: &State,
+        rules: &[VaryingRule<'_>],
+    ) -> Result<(), AllocError> {
+        for rule in rules {
+            note_asked(alloc, &mut self.made, state, rule.place, rule.program)?;
         }
         Ok(())
     }
@@ -263,6 +312,11 @@ impl KeyUse {
             place,
             run.reads.as_slice(),
         )
+    }
+
+    /// Whether a rule asks for a key by its spelling, or where the schedules begin.
+    pub(crate) fn is_asked(&self, asked: &AskedKey) -> bool {
+        is_noted(self.by_rules.as_slice(), asked.who, &asked.key)
     }
 
     /// Whether an event of the others or a run puts a key.

@@ -2,14 +2,15 @@
 use crate::drawing::JobSeat;
 use crate::job_end::JobEnd;
 use stm_hall::Hall;
+use stm_history::{Sequence, Text};
 
 /// All jobs have ended.
 #[derive(Drop)]
 pub struct Gathered {
     /// The end of each job, at its place.
     pub ends: Vec<JobEnd>,
-    /// How many attempts of each job were made, at its place: one more than commits of it failed before its last attempt.
-    pub attempts: Vec<u32>,
+    /// The keys over which commits of each job failed before its last attempt, at its place and in their order: it has made one attempt more.
+    pub lost: Vec<Sequence<Text>>,
     /// How many committed.
     pub committed: usize,
     /// The seat that has drawn the jobs, each once.

@@ -50,3 +50,17 @@ all_pairs so_far es i end reported =
 pub ascends : (es : List StateEntry) (i : ℕ) → length es ≤ i → (0 < i → states.IsAscending es) → states.IsAscending es
 ascends [] i all known = tt
 ascends (e ∷ es) i all known = known (omega (arith, all))
+
+-- lines after lines
+lines_append : (xs ys : List Data) → lines_text (xs ++ ys) ≡ lines_text xs ++ lines_text ys
+lines_append [] ys = refl
+lines_append (x ∷ xs) ys =
+    ap (λ (t : List ℕ). line_text x ++ t) (lines_append xs ys) ∙ sym (append_assoc (line_text x) (lines_text xs) (lines_text ys))
+
+-- a line, and lines after lines
+pub three_parts : (text : List ℕ) (first : Data) (xs ys : List Data) →
+    ((text ++ line_text first) ++ lines_text xs) ++ lines_text ys ≡ text ++ lines_text (first ∷ xs ++ ys)
+three_parts text first xs ys =
+    append_assoc (text ++ line_text first) (lines_text xs) (lines_text ys)
+    ∙ append_assoc text (line_text first) (lines_text xs ++ lines_text ys)
+    ∙ ap (λ (t : List ℕ). text ++ (line_text first ++ t)) (sym (lines_append xs ys))

@@ -13,7 +13,7 @@ use Rattle.std.proofs.lemmas.Map.Entries.{sum_by-insert_entry}
 use Rattle.std.proofs.lemmas.Map.Steps.{lookup-le-sum}
 use Rattle.std.proofs.lemmas.Map.Text.{is_eq-slice_cmp}
 use Rattle.std.proofs.lemmas.Map.Views.{All-values-insert_entry}
-use Rattle.stm_job_texts.specs.Outcomes.{Tally, Counts, times_in}
+use Rattle.stm_job_texts.specs.Tallies.{Tally, Counts, times_in}
 
 -- ---- texts
 

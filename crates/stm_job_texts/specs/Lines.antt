@@ -7,6 +7,7 @@ use Rattle.stm_history.specs.History.{History, now}
 use Rattle.stm_steps.specs.declared.state.StateEntry.{StateEntry}
 use Rattle.stm_meaning.specs.Faults.{fault_name}
 use Rattle.stm_outcome.specs.Names.{refusal_name}
+use Rattle.stm_job.specs.Ends.{attempts_of, failed_keys}
 use Rattle.stm_job.specs.declared.job_end.JobEnd.{JobEnd}
 use Rattle.stm_job.specs.declared.job_end.JobEnd.TheVariants.{Committed, Aborted, Faulted, Refused, GaveUp}
 use Rattle.stm_job.specs.declared.job_end.JobRefusal.{JobRefusal}
@@ -15,6 +16,7 @@ use Rattle.stm_meaning.specs.States.{IsAscending}
 use Rattle.stm_report_lines.specs.LineData.{list, whole}
 use Rattle.stm_report_lines.specs.Text.{line_text, lines_text}
 use Rattle.stm_hall.specs.StateOf.{IsStateOf}
+use Rattle.stm_job_texts.specs.Tallies.{Tally, Counts}
 
 abbrev pub count_line : List ℕ → ℕ → Data
 count_line word count = list (string word ∷ whole count ∷ [])
@@ -54,10 +56,17 @@ lines_of_ends attempts n (end ∷ ends) = end_of_job n end (slice_index attempts
 abbrev pub attempts_in_all : List ℕ → ℕ
 attempts_in_all attempts = min (sum attempts) (2 ^ 64 - 1)
 
--- where the ends are shown, that number and the lines of the ends
-abbrev pub ends_shown : Bool → List JobEnd → List ℕ → List Data
-ends_shown false ends attempts = []
-ends_shown true ends attempts = count_line (codes "attempts") (attempts_in_all attempts) ∷ lines_of_ends attempts 0 ends
+-- how often commits failed over a key
+abbrev pub conflicts_line : List ℕ × ℕ → Data
+conflicts_line counted = list (string (codes "conflicts") ∷ string counted.0 ∷ whole counted.1 ∷ [])
+
+-- where the ends are shown, that number, how often commits failed over each key, and the lines of the ends, to which jobs came after commits that failed over
+-- these keys
+abbrev pub AreEndsShown : Bool → List JobEnd → List (List (List ℕ)) → List Data → Type 0
+AreEndsShown false ends lost lines = lines ≡ []
+AreEndsShown true ends lost lines =
+    (tally : Tally) × Counts (failed_keys ends lost) tally
+    × (lines ≡ count_line (codes "attempts") (attempts_in_all (map attempts_of lost)) ∷ map conflicts_line tally ++ lines_of_ends (map attempts_of lost) 0 ends)
 
 -- ---- the whole
 
@@ -71,9 +80,9 @@ text_of jobs committed reported entries revision =
     ++ lines_text (value_lines entries)
     ++ line_text (count_line (codes "end") revision)
 
--- the text is that of this number of jobs, of the number of them that committed, of their ends and attempts, where these are shown, and of the state
--- that the history has come to
-abbrev pub AreLinesOf : Bool → List JobEnd → List ℕ → ℕ → ℕ → History → List ℕ → Type 0
-AreLinesOf shown ends attempts jobs committed h text =
+-- the text is that of this number of jobs, of the number of them that committed, of their ends and of the keys over which commits failed before, where these
+-- are shown, and of the state that the history has come to
+abbrev pub AreLinesOf : Bool → List JobEnd → List (List (List ℕ)) → ℕ → ℕ → History → List ℕ → Type 0
+AreLinesOf shown ends lost jobs committed h text =
     (entries : List StateEntry) × IsStateOf h entries × IsAscending entries
-    × (text ≡ text_of jobs committed (ends_shown shown ends attempts) entries (now h))
+    × (lines : List Data) × AreEndsShown shown ends lost lines × (text ≡ text_of jobs committed lines entries (now h))

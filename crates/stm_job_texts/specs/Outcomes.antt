@@ -1,14 +1,9 @@
 -- What runs of jobs come to, each outcome once, and how often it came.
 --
 -- The words are those of docs/FORMATS.md, "The command line"; an outcome is written as that of a whole schedule is, followed by how often it came.
-use Rattle.std.specs.Prelude.{◌≡◌, ◌≤◌, ℕ, List, [], ◌∷◌, ◌++◌, All, map, count_by, sum, length}
-use Rattle.std.specs.Prelude.{Option, None, Some, slice_get, unwrap_or, bytes_eq, codes, decimal}
-use Rattle.std.specs.BTreeMap.{is_at}
-use Rattle.std.specs.Map.{keys_of, lookup, values_of}
+use Rattle.std.specs.Prelude.{◌≡◌, ℕ, List, [], ◌∷◌, ◌++◌, map}
+use Rattle.std.specs.Prelude.{Option, None, Some, slice_get, codes, decimal}
 use Rattle.std.specs.List.{concat}
-use Rattle.std.specs.List.Sorted.{IsStrictlySortedBy}
-use Rattle.std.specs.Ordering.{nat_cmp}
-use Rattle.std.specs.Cmp.Lexicographic.{slice_cmp}
 use Rattle.serde_json.specs.Data.{Data, string}
 use Rattle.serde_json.specs.Written.{compact_text}
 use Rattle.stm_steps.specs.declared.state.StateEntry.{StateEntry}
@@ -23,6 +18,7 @@ use Rattle.stm_report_lines.specs.LineData.{list, value_data}
 use Rattle.stm_report_lines.specs.Text.{line_text}
 use Rattle.stm_job.specs.declared.job_end.JobEnd.{JobEnd}
 use Rattle.stm_job.specs.declared.job_end.JobEnd.TheVariants.{Committed, Aborted, Faulted, Refused, GaveUp}
+use Rattle.stm_job_texts.specs.Tallies.{Tally}
 use Rattle.stm_job_texts.specs.Lines.{count_line, job_refusal_name}
 
 -- ---- what a run comes to
@@ -66,22 +62,6 @@ IsFrontOf ends after text =
     (state : List StateEntry) × IsStateOf after.standing.history state × IsAscending state × (text ≡ front_text state after.entries ends)
 
 -- ---- how often each came
-
--- texts, each with how often it came
-abbrev pub Tally : Type 0
-Tally = List (List ℕ × ℕ)
-
--- how often a text came, by the tally
-abbrev pub times_in : Tally → List ℕ → ℕ
-times_in tally text = unwrap_or (lookup (is_at (slice_cmp nat_cmp text)) tally) 0
-
--- The tally is that of these texts: each of them stands in it once, ascending by bytes, with how often it came, and the numbers add up to how many texts there
--- are.
-pub record Counts (texts : List (List ℕ)) (tally : Tally) : Type 0 where
-  pub ascending : IsStrictlySortedBy (slice_cmp nat_cmp) (keys_of tally)
-  pub times : (text : List ℕ) → times_in tally text ≡ count_by (bytes_eq text) texts
-  pub came : All (λ (n : ℕ). 1 ≤ n) (values_of tally)
-  pub total : sum (values_of tally) ≡ length texts
 
 -- the beginning of an outcome's line is followed by how often the outcome came
 abbrev pub times_line : List ℕ × ℕ → List ℕ

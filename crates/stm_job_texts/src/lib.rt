@@ -5,6 +5,7 @@
 #![tactic(auto)]
 
 mod accepting;
+mod conflicts;
 mod opening;
 mod outcome;
 mod printing;

@@ -1,14 +1,18 @@
 //! What is printed of a run of jobs.
-ghost use Rattle.std.specs.Prelude.{◌≡◌, ◌++◌, false, length, IfOk, OnOk, string_bytes};
-ghost use Rattle.serde_json.specs.Data.{string};
+ghost use Rattle.std.specs.Prelude.{◌≡◌, ◌++◌, false, true, List, map, length, IfOk, OnOk, string_bytes};
+ghost use Rattle.serde_json.specs.Data.{Data, string};
 ghost use Rattle.serde_json.specs.View.{view};
 ghost use Rattle.stm_report_lines.specs.LineData.{whole};
 ghost use Rattle.stm_meaning.specs.States.{IsAscending};
 ghost use Rattle.stm_report_lines.specs.Text.{line_text, lines_text};
-ghost use Rattle.stm_job_texts.specs.Lines.{count_line, value_line, value_lines, job_line, job_refusal_name, end_of_job, lines_of_ends, attempts_in_all, ends_shown, AreLinesOf};
+ghost use Rattle.stm_job.specs.Ends.{attempts_of};
+ghost use Rattle.stm_job_texts.specs.Lines.{count_line, value_line, value_lines, job_line, job_refusal_name, end_of_job, lines_of_ends, attempts_in_all, conflicts_line, AreEndsShown, AreLinesOf};
 
+use crate::conflicts::conflicts_of;
 use serde_json::{Value as Json, json};
 use std::alloc::{AllocError, Global};
+use std::collections::BTreeMap;
+use stm_history::{Sequence, Text};
 use stm_job::{Gathered, JobEnd, JobRefusal};
 use stm_meaning::State;
 use stm_report_lines::push_line;
@@ -54,7 +58,7 @@ fn number_json(
     job: u64,
     word: &str,
     reported: u64,
-    attempts: u32,
+    attempts: u64,
 ) -> Result<Json, AllocError>
     ensures { IfOk result (λ v. view v ≡ job_line job word.now (whole reported) attempts) }
 {
@@ -67,7 +71,7 @@ fn text_json(
     job: u64,
     word: &str,
     reported: &str,
-    attempts: u32,
+    attempts: u64,
 ) -> Result<Json, AllocError>
     ensures { IfOk result (λ v. view v ≡ job_line job word.now (string reported.now) attempts) }
 {
@@ -81,7 +85,7 @@ fn push_number(
     job: u64,
     word: &str,
     reported: u64,
-    attempts: u32,
+    attempts: u64,
 ) -> Result<(), AllocError>
     ensures { OnOk result (string_bytes text.new ≡ string_bytes text.old ++ line_text (job_line job word.now (whole reported) attempts)) }
 {
@@ -96,7 +100,7 @@ fn push_text(
     job: u64,
     word: &str,
     reported: &str,
-    attempts: u32,
+    attempts: u64,
 ) -> Result<(), AllocError>
     ensures { OnOk result (string_bytes text.new ≡ string_bytes text.old ++ line_text (job_line job word.now (string reported.now) attempts)) }
 {
@@ -121,7 +125,7 @@ fn push_end(
     text: &mut String,
     job: u64,
     end: &JobEnd,
-    attempts: u32,
+    attempts: u64,
 ) -> Result<(), AllocError>
     ensures { OnOk result (string_bytes text.new ≡ string_bytes text.old ++ line_text (end_of_job job end.now attempts)) }
 {
@@ -147,7 +151,7 @@ fn push_ends(
     alloc: Global,
     text: &mut String,
     ends: &[JobEnd],
-    attempts: &[u32],
+    attempts: &[u64],
 ) -> Result<(), AllocError>
     requires { length attempts.now ≡ length ends.now }
     ensures { OnOk result (string_bytes text.new ≡ string_bytes text.old ++ lines_text (lines_of_ends attempts.now 0 ends.now)) }
@@ -159,30 +163,95 @@ fn push_ends(
 }
 
 /// How many attempts were made in all.
-fn attempts_in_all(attempts: &[u32]) -> u64
+fn attempts_in_all(attempts: &[u64]) -> u64
     ensures { result ≡ attempts_in_all attempts.now }
 {
     let mut all = 0u64;
     for made in attempts {
-        all = all.saturating_add(u64::from(*made));
+        all = all.saturating_add(*made);
     }
     all
 }
 
-/// Adds the number of all attempts and the lines of the ends, where they are to be shown.
+/// How many attempts were made of each job whose commits failed over these keys before its last one.
+fn attempts_of_each(alloc: Global, lost: &[Sequence<Text>]) -> Result<Vec<u64>, AllocError>
+    ensures { IfOk result (λ attempts. attempts.items ≡ map attempts_of lost.now) }
+{
+    let mut attempts = Vec::new(alloc);
+    for keys in lost {
+        attempts.push(keys.as_slice().len() as u64 + 1)?;
+    }
+    Ok(attempts)
+}
+
+/// Adds how often commits failed over each key.
+fn push_conflicts(
+    alloc: Global,
+    text: &mut String,
+    tally: &BTreeMap<Text, u64>,
+) -> Result<(), AllocError>
+    ensures { OnOk result (string_bytes text.new ≡ string_bytes text.old ++ lines_text (map conflicts_line tally.now.entries)) }
+{
+    for counted in tally {
+        let (key, times) = counted;
+        push_conflict(alloc, text, key.as_str(), *times)?;
+    }
+    Ok(())
+}
+
+/// Adds the line of a key over which commits failed so often.
+fn push_conflict(alloc: Global, text: &mut String, key: &str, times: u64) -> Result<(), AllocError>
+    ensures { OnOk result (string_bytes text.new ≡ string_bytes text.old ++ line_text (conflicts_line (key.now, times))) }
+{
+    let line = conflict_json(alloc, key, times)?;
+    push_line(alloc, text, &line)
+}
+
+/// The line of a key over which commits failed so often.
+fn conflict_json(alloc: Global, key: &str, times: u64) -> Result<Json, AllocError>
+    ensures { IfOk result (λ v. view v ≡ conflicts_line (key.now, times)) }
+{
+    json!(in alloc; ["conflicts", key, times])
+}
+
+/// Adds the number of all attempts, how often commits failed over each key, and the lines of the ends.
+fn push_all_ends(
+    alloc: Global,
+    text: &mut String,
+    ends: &[JobEnd],
+    lost: &[Sequence<Text>],
+) -> Result<(), AllocError>
+    requires { length lost.now ≡ length ends.now }
+    ensures { OnOk result ((lines : List Data) × AreEndsShown true ends.now lost.now lines
+        × (string_bytes text.new ≡ string_bytes text.old ++ lines_text lines)) }
+{
+    let attempts = attempts_of_each(alloc, lost)?;
+    let tally = conflicts_of(alloc, ends, lost)?;
+    push_count(
+        alloc,
+        text,
+        "attempts",
+        attempts_in_all(attempts.as_slice()),
+    )?;
+    push_conflicts(alloc, text, &tally)?;
+    push_ends(alloc, text, ends, attempts.as_slice())?;
+    Ok(())
+}
+
+/// Adds what is shown of the ends, where they are to be shown.
 fn push_shown(
     alloc: Global,
     text: &mut String,
     ends: &[JobEnd],
-    attempts: &[u32],
+    lost: &[Sequence<Text>],
     with_ends: bool,
 ) -> Result<(), AllocError>
-    requires { length attempts.now ≡ length ends.now }
-    ensures { OnOk result (string_bytes text.new ≡ string_bytes text.old ++ lines_text (ends_shown with_ends ends.now attempts.now)) }
+    requires { length lost.now ≡ length ends.now }
+    ensures { OnOk result ((lines : List Data) × AreEndsShown with_ends ends.now lost.now lines
+        × (string_bytes text.new ≡ string_bytes text.old ++ lines_text lines)) }
 {
     if with_ends {
-        push_count(alloc, text, "attempts", attempts_in_all(attempts))?;
-        push_ends(alloc, text, ends, attempts)
+        push_all_ends(alloc, text, ends, lost)
     } else {
         Ok(())
     }
@@ -201,7 +270,7 @@ fn push_values(alloc: Global, text: &mut String, state: &State) -> Result<(), Al
 }
 
 /// What is printed of a run of `jobs` jobs: how many there are and how many of them committed, where they are to be shown how
-/// many attempts were made in all and a line for the end of each, one for each key that is present with its value, ascending by bytes, and the store's revision.
+/// many attempts were made in all, how often commits failed over each key, ascending by bytes, and a line for the end of each job, then one for each key that is present with its value, ascending by bytes, and the store's revision.
 ///
 /// Each line is a compact JSON array and a line feed. It fails where an allocation failed.
 pub fn lines(
@@ -210,8 +279,8 @@ pub fn lines(
     gathered: &Gathered,
     with_ends: bool,
 ) -> Result<String, AllocError>
-    requires { length gathered.now.attempts.items ≡ length gathered.now.ends.items }
-    ensures { IfOk result (λ text. AreLinesOf with_ends gathered.now.ends.items gathered.now.attempts.items jobs gathered.now.committed
+    requires { length gathered.now.lost.items ≡ length gathered.now.ends.items }
+    ensures { IfOk result (λ text. AreLinesOf with_ends gathered.now.ends.items gathered.now.lost.items jobs gathered.now.committed
         gathered.now.hall.standing.history (string_bytes text)) }
 {
     let state = gathered.hall.state()?;
@@ -222,7 +291,7 @@ pub fn lines(
         alloc,
         &mut text,
         gathered.ends.as_slice(),
-        gathered.attempts.as_slice(),
+        gathered.lost.as_slice(),
         with_ends,
     )?;
     push_values(alloc, &mut text, &state)?;

@@ -1,8 +1,9 @@
 //! How often each outcome came.
-ghost use Rattle.std.specs.Prelude.{◌≡◌, ◌++◌, ◌≤◌, [], ◌∷◌, ℕ, List, map, sum, IfOk, OnOk, string_bytes};
+ghost use Rattle.std.specs.Prelude.{◌≡◌, ◌++◌, ◌≤◌, ◌<◌, ◌^◌, [], ◌∷◌, ℕ, List, map, sum, IfOk, OnOk, string_bytes};
 ghost use Rattle.std.specs.List.{concat};
 ghost use Rattle.std.specs.Map.{values_of};
-ghost use Rattle.stm_job_texts.specs.Outcomes.{Counts, tally_text, times_in, times_line};
+ghost use Rattle.stm_job_texts.specs.Outcomes.{tally_text, times_line};
+ghost use Rattle.stm_job_texts.specs.Tallies.{Counts, times_in};
 
 use crate::printing::push_count;
 use itoa::Buffer;
@@ -22,8 +23,9 @@ fn times_of(tally: &BTreeMap<Text, u64>, text: &Text) -> u64
 }
 
 /// Counts one more of a text, after `before` texts. Where an allocation fails nothing is said of the tally.
-pub fn count_one(tally: &mut BTreeMap<Text, u64>, text: Text, before: u32) -> Result<(), AllocError>
-    requires { sum (values_of tally.old.entries) ≡ before }
+pub fn count_one(tally: &mut BTreeMap<Text, u64>, text: Text, before: u64) -> Result<(), AllocError>
+    requires total { sum (values_of tally.old.entries) ≡ before }
+    requires few { before < 2 ^ 63 }
     ensures { OnOk result ((texts : List (List ℕ)) → Counts texts tally.old.entries → Counts (texts ++ text ∷ []) tally.new.entries) }
 {
     let times = times_of(tally, &text);

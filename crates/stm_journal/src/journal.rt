@@ -7,7 +7,7 @@ ghost use Rattle.stm_outcome.specs.Numbers.{AnswerFits, ReadFits};
 ghost use Rattle.stm_outcome.specs.Terms.{most_operations};
 ghost use Rattle.stm_txn.specs.Standing.{Returns, as_defined, watched, polled, poll_refused, cancelled, compacted};
 ghost use Rattle.stm_attempt.specs.ReadyRun.{IsRunOnItsAnswers};
-ghost use Rattle.stm_journal.specs.JournalState.{made_over, with_store, JournalReturns};
+ghost use Rattle.stm_journal.specs.JournalState.{journal_of, made_over, with_store, JournalReturns};
 ghost use Rattle.stm_journal.specs.Fetched.{fetch_of, fetch_reported, IsFetch, fetch_all_reported, IsRefusalOfAll};
 ghost use Rattle.stm_journal.specs.Fetching.{OnlyReads, fetched, reported_alone, FetchReturns};
 ghost use Rattle.stm_journal.specs.Verdicts.{sent, SentReturns, verdict_of, CommitReturns, CanGoOn};
@@ -76,6 +76,18 @@ impl Journal {
             store,
             entries: Vec::new(alloc),
             start,
+        }
+    }
+
+    /// A journal over a store to which these entries lead. It takes no memory.
+    pub fn with_entries(store: Store, entries: Vec<Entry>) -> Journal
+        ensures { result ≡ journal_of store.standing entries.items (now store.standing.history) }
+    {
+        let revision = store.keys().revision();
+        Journal {
+            store,
+            entries,
+            start: revision,
         }
     }
 

@@ -6,6 +6,8 @@ pub mod Versions
 pub mod Showing
 pub mod Numbers
 pub mod Walked
+pub mod OpeningLaws
+pub mod OpenedChains
 pub mod Present
 pub mod Steps
 pub mod Order

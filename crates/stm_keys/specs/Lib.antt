@@ -1,4 +1,5 @@
 pub mod ApplyNames
+pub mod CanOpen
 pub mod Chains
 pub mod Events
 pub mod Held

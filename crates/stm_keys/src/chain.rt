@@ -1,6 +1,6 @@
 //! The version chain of a key: what the key was before the revisions that are kept, and which of these changed it.
 ghost use Rattle.std.specs.VecDeque.{deque_len};
-ghost use Rattle.std.specs.Prelude.{◌≡◌, ◌==◌, ◌↔◌, ◌<◌, ◌≤◌, IsTrue, if◌then◌else◌, true, None, IfOk, OnOk, reverse, slice_get, option_map, option_copied};
+ghost use Rattle.std.specs.Prelude.{◌≡◌, ◌==◌, ◌↔◌, ◌<◌, ◌≤◌, IsTrue, if◌then◌else◌, true, None, Some, [], IfOk, OnOk, reverse, slice_get, option_map, option_copied};
 ghost use Rattle.std.specs.List.Sorted.{IsNonDecreasing};
 
 use std::alloc::{AllocError, Global};
@@ -106,6 +106,17 @@ impl Chain {
             versions,
             newest: None,
         })
+    }
+
+    /// A chain of no version, whose key was in this state before. It takes no memory.
+    pub(crate) fn opened(alloc: Global, state: KeyState) -> Chain
+        ensures { result.versions ≡ record { before = Some state; numbers = [] } }
+    {
+        Chain {
+            before: Some(state),
+            versions: VecDeque::new(alloc),
+            newest: None,
+        }
     }
 
     /// Makes room for one more.

@@ -2,11 +2,12 @@
 //!
 //! What each put goes through is inlined, so that its values are not copied from call to call.
 ghost use Rattle.std.specs.Prelude.{◌≡◌, ◌+◌, ◌<◌, ◌≤◌, IfOk, OnOk, OnErr, IfSome, List, ℕ, Bool, false, length, Some, None, ◌↔◌, slice_get};
-ghost use Rattle.std.specs.Prelude.{option_copied, [], ◌∷◌, ◌++◌, ◌≢◌, ◌^◌, map, is_some};
+ghost use Rattle.std.specs.Prelude.{option_copied, [], ◌∷◌, ◌++◌, ◌≢◌, ◌^◌, map, is_some, true};
 ghost use Rattle.std.specs.VecDeque.{deque_len, deque_capacity};
 ghost use Rattle.indexmap.specs.IndexMap.{get_by_text};
 ghost use Rattle.stm_history.specs.Opening.{opened_state};
 ghost use Rattle.stm_history.specs.History.{History, opened_at, now, add_revision, key_at, key_now, AreRevisions, IsRevision, state_after_put, version_of};
+ghost use Rattle.stm_keys.specs.CanOpen.{can_open};
 ghost use Rattle.stm_keys.specs.Events.{event_of, events_of, event_about, key_of_event, after_event, AreApart};
 ghost use Rattle.stm_keys.specs.Chains.{versions_in, with_version, no_versions, StandFirst, KeepsPresent, is_left, names_of};
 ghost use Rattle.stm_keys.specs.NextChange.{next_change};
@@ -23,6 +24,7 @@ use crate::event::Event;
 use crate::events::Events;
 use crate::hints::Hints;
 use crate::refusal::{ApplyRefusal, ReadRefusal};
+use crate::restored::opened_chains;
 use crate::shared_text::SharedText;
 use indexmap::IndexMap;
 use std::alloc::{AllocError, Global};
@@ -495,6 +497,31 @@ impl Keys {
         }
         let changes = copy_changes(*self.revisions.allocator(), changes)?;
         self.apply_all(changes)
+    }
+
+    /// The keys of a store that has dropped its revisions up to this one, and what each of them was there. They ascend by bytes. It is as if the store had
+    /// opened so: it has no revision, and no floor. It fails only where an allocation failed.
+    pub fn restored(
+        alloc: Global,
+        number: u64,
+        states: &[(Text, KeyState)],
+    ) -> Result<Keys, AllocError>
+        requires revision { (1 ≤ number) × (number ≤ HIGHEST_REVISION) }
+        requires states { can_open number states.now ≡ true }
+        ensures history { IfOk result (λ keys. keys.history ≡ record { opening = record { number = number; states = states.now }; revisions = [] }) }
+        ensures opened { IfOk result (λ keys. keys.opened ≡ number) }
+        ensures floor { IfOk result (λ keys. keys.floor ≡ 0) }
+    {
+        let chains = opened_chains(alloc, states)?;
+        let present = chains.len();
+        Ok(Keys {
+            opened: number,
+            floor: 0,
+            below: number,
+            revisions: VecDeque::new(alloc),
+            chains,
+            present,
+        })
     }
 
     /// The events of a revision, in the order of operations: none where it is below those that are kept. They are not

@@ -13,6 +13,7 @@ mod hints;
 mod keys;
 pub mod laws;
 mod refusal;
+mod restored;
 mod shared_text;
 
 pub use event::Event;

@@ -1,6 +1,7 @@
 //! The leases that entries leave live.
-ghost use Rattle.std.specs.Prelude.{ℕ, IfOk, OnOk};
-ghost use Rattle.stm_entries.specs.Replayed.{Replayed, opening};
+ghost use Rattle.std.specs.Prelude.{IfOk, OnOk};
+ghost use Rattle.stm_history.specs.Opening.{Opening};
+ghost use Rattle.stm_entries.specs.Replayed.{Replayed, opened_with};
 ghost use Rattle.stm_entries.specs.LiveLeases.{HasLeases};
 ghost use Rattle.stm_entries.specs.Replay.{replay, replay_entry};
 
@@ -32,7 +33,7 @@ fn take_entry(leases: &mut BTreeMap<u64, LiveLease>, entry: &Entry) -> Result<()
 
 /// The leases that are live after these entries, by id. It fails where a growth was refused.
 pub fn live_leases(alloc: Global, entries: &[Entry]) -> Result<BTreeMap<u64, LiveLease>, AllocError>
-    ensures { IfOk result (λ leases. (start : ℕ) → HasLeases leases (replay entries.now (opening start)).live) }
+    ensures { IfOk result (λ leases. (start : Opening) → HasLeases leases (replay entries.now (opened_with start)).live) }
 {
     let mut leases = BTreeMap::new(alloc);
     for entry in entries {

@@ -5,7 +5,7 @@ use Rattle.std.specs.Prelude.{nat_eq, nat_lt, slice_get, IsOk, IfOk}
 use Rattle.std.specs.declared.alloc.AllocError.{AllocError}
 use Rattle.stm_history.specs.declared.key_state.KeyState.{KeyState}
 use Rattle.stm_history.specs.declared.key_state.ReadAnswer.{ReadAnswer}
-use Rattle.stm_history.specs.Opening.{Opening}
+use Rattle.stm_history.specs.Opening.{Opening, opening_at}
 use Rattle.stm_history.specs.History.{History, now, key_now, AreRevisions}
 use Rattle.stm_history.specs.Cut.{cut}
 use Rattle.stm_history.proofs.CutLaws.{cut_at_the_opening}
@@ -38,7 +38,7 @@ use Rattle.stm_journal.specs.Fetched.{fetch_reported, fetch_all_reported}
 use Rattle.stm_journal.specs.StateOf.{IsStateOf, entry_now}
 use Rattle.stm_entries.specs.declared.entry.Entry.{Entry}
 use Rattle.stm_entries.specs.declared.entry.Entry.TheVariants.{Grant as GrantEntry, Renew, Revoke as RevokeEntry, Foreign}
-use Rattle.stm_entries.specs.Replayed.{Replayed, opening, without_moment}
+use Rattle.stm_entries.specs.Replayed.{Replayed, opened_with, without_moment}
 use Rattle.stm_entries.specs.Replay.{replay}
 use Rattle.stm_entries.specs.Laws.{AddsTo}
 use Rattle.stm_entries.proofs.Adding.{replay_only_adds}
@@ -71,6 +71,10 @@ use Rattle.stm_world.proofs.Wants.{NoOutOfMemory, NeverWants, advanced_never}
 use Rattle.stm_world.proofs.NeverOutOfMemory.{raised_never}
 use Rattle.stm_world.proofs.Calls.{call_goes_on, at_moment_follows}
 use Rattle.stm_world.proofs.Appending.{events_append}
+use Rattle.stm_txn.specs.declared.restored.Checkpoint.{Checkpoint}
+use Rattle.stm_txn.specs.Restored.{can_restore, restored}
+use Rattle.stm_world.specs.Restored.{restored_world}
+use Rattle.stm_world.proofs.Restored.{restored_is_sound}
 use Rattle.stm_world.proofs.Sound.{opened_is_sound, step_is_sound, base_is_reached}
 use Rattle.stm_retry.specs.Returns.{IsStep, IsUnchanged, IsCutShort, OutOfMemoryReturns, RefusalReturns, Returns, is_out_of_memory}
 use Rattle.stm_retry.specs.Kept.{whole_store, whole_world, kept_world, IsKeptBy, compact_kept, KeptReturns, BasesAreReached}
@@ -79,24 +83,24 @@ use Rattle.stm_retry.proofs.WorldLemmas.{refusal_cases, reports_sound}
 
 -- ---- the world of which something is kept
 
--- it opens where the entries begin
-pub opens_at : (opened : ℕ) (m : World) → (whole_world opened m).standing.history.opening.number ≡ opened
-opens_at opened m = ap (λ (o : Opening). o.number) (replay_only_adds m.entries (opening opened)).opening
+-- it opens with what the entries begin with
+pub opens_with : (opened : Opening) (m : World) → (whole_world opened m).standing.history.opening ≡ opened
+opens_with opened m = (replay_only_adds m.entries (opened_with opened)).opening
 
 -- its revisions are some
-pub are_revisions : (opened : ℕ) (m : World) → AreRevisions (whole_world opened m).standing.history.revisions
+pub are_revisions : (opened : Opening) (m : World) → AreRevisions (whole_world opened m).standing.history.revisions
 are_revisions opened m =
-    let adds : AddsTo (opening opened).history (replay m.entries (opening opened)).history = replay_only_adds m.entries (opening opened) in
+    let adds : AddsTo (opened_with opened).history (replay m.entries (opened_with opened)).history = replay_only_adds m.entries (opened_with opened) in
     subst AreRevisions (sym (adds.revisions ∙ append-nil adds.added)) adds.are_revisions
 
-pub kept_of : (opened : ℕ) (m : World) → IsKeptBy m.standing (whole_world opened m) → m ≡ kept_world (whole_world opened m)
+pub kept_of : (opened : Opening) (m : World) → IsKeptBy m.standing (whole_world opened m) → m ≡ kept_world (whole_world opened m)
 kept_of opened m x = λ i. record { standing = x.stands i; runners = m.runners; entries = m.entries }
 
 -- a sound world is the one of which it keeps something
-pub whole_of : (opened : ℕ) (w : World) → IsSound w → w.standing.history.opening.number ≡ opened → whole_world opened (kept_world w) ≡ w
+pub whole_of : (opened : Opening) (w : World) → IsSound w → w.standing.history.opening ≡ opened → whole_world opened (kept_world w) ≡ w
 whole_of opened w sound opens =
-    let replays : replay w.entries (opening opened) ≡ without_moment w.standing =
-    subst (λ n. replay w.entries (opening n) ≡ without_moment w.standing) opens sound.replays in
+    let replays : replay w.entries (opened_with opened) ≡ without_moment w.standing =
+    subst (λ (o : Opening). replay w.entries (opened_with o) ≡ without_moment w.standing) opens sound.replays in
     ap (λ (r : Replayed). (let x : World = record { standing = with_history (kept w.standing) r.history; runners = w.runners; entries = w.entries } in x)) replays
 
 -- ---- the step over what is kept
@@ -524,12 +528,12 @@ reports_opens event (Err d) old new sound reported = refused_opens event d old n
 -- ---- the calls of a world
 
 -- what a call leaves of a world that keeps this
-pub record Leaves (event : WorldEvent) (reply : Result Reply Denied) (opened : ℕ) (old new : World) : Type 0 where
+pub record Leaves (event : WorldEvent) (reply : Result Reply Denied) (opened : Opening) (old new : World) : Type 0 where
   pub reports : Returns event reply (whole_world opened old) (whole_world opened new)
   pub is_kept : IsKeptBy new.standing (whole_world opened new)
 
 -- a world of which this is kept, and whose store opened there
-kept_again : (opened : ℕ) (after new : World) → IsSound after → after.standing.history.opening.number ≡ opened → new ≡ kept_world after →
+kept_again : (opened : Opening) (after new : World) → IsSound after → after.standing.history.opening ≡ opened → new ≡ kept_world after →
     (whole_world opened new ≡ after) × IsKeptBy new.standing (whole_world opened new)
 kept_again opened after new sound opens is =
     let same : whole_world opened new ≡ after = ap (whole_world opened) is ∙ whole_of opened after sound opens in (
@@ -537,15 +541,15 @@ kept_again opened after new sound opens is =
       subst (λ (w : World). IsKeptBy new.standing w) (sym same) (record { sound = sound; stands = ap (λ (w : World). w.standing) is }),
     )
 
-pub step_leaves : (event : WorldEvent) (reply : Result Reply Denied) (opened : ℕ) (old new : World) → IsKeptBy old.standing (whole_world opened old) →
+pub step_leaves : (event : WorldEvent) (reply : Result Reply Denied) (opened : Opening) (old new : World) → IsKeptBy old.standing (whole_world opened old) →
     KeptReturns event reply old new → Leaves event reply opened old new
 step_leaves event reply opened old new x reports =
     let w : World = whole_world opened old in
     let lifted : Lifted event reply w new =
     event_lifts event reply w new x.sound.kept (subst (λ (m : World). KeptReturns event reply m new) (kept_of opened old x) reports) in
     let sound : IsSound lifted.after = reports_sound event reply w lifted.after x.sound lifted.reports in
-    let opens : lifted.after.standing.history.opening.number ≡ opened =
-    ap (λ (o : Opening). o.number) (reports_opens event reply w lifted.after x.sound lifted.reports) ∙ opens_at opened old in
+    let opens : lifted.after.standing.history.opening ≡ opened =
+    reports_opens event reply w lifted.after x.sound lifted.reports ∙ opens_with opened old in
     let again = kept_again opened lifted.after new sound opens lifted.is in
     record {
       reports = subst (λ (v : World). Returns event reply w v) (sym again.0) lifted.reports;
@@ -553,7 +557,7 @@ step_leaves event reply opened old new x reports =
     }
 
 -- the revision that the next fetch of a runner names is reached
-pub bases_are_reached : (opened : ℕ) (m : World) → IsKeptBy m.standing (whole_world opened m) → BasesAreReached m
+pub bases_are_reached : (opened : Opening) (m : World) → IsKeptBy m.standing (whole_world opened m) → BasesAreReached m
 bases_are_reached opened m x id r found =
     let w : World = whole_world opened m in
     let counter : now (kept w.standing).history ≡ now w.standing.history = counted w.standing x.sound.kept.reached in
@@ -567,11 +571,28 @@ opened_is_kept start = record {
   stands = ap (with_history (opened_world start).standing) (sym (cut_at_the_opening (opened_world start).standing.history (0 - 1) (omega arith)));
 }
 
-pub opened_leaves : (start : Setup) (m : World) → m ≡ opened_world start → IsKeptBy m.standing (whole_world start.revision m)
-opened_leaves start m is = subst (λ (w : World). IsKeptBy w.standing (whole_world start.revision w)) (sym is) (opened_is_kept start)
+pub opened_leaves : (start : Setup) (m : World) → m ≡ opened_world start → IsKeptBy m.standing (whole_world (opening_at start.revision) m)
+opened_leaves start m is = subst (λ (w : World). IsKeptBy w.standing (whole_world (opening_at start.revision) w)) (sym is) (opened_is_kept start)
+
+-- a world that opens with keys and leases keeps all, too
+restored_is_kept : (c : Checkpoint) → can_restore c ≡ true → IsKeptBy (restored_world c).standing (restored_world c)
+restored_is_kept c can = record {
+  sound = restored_is_sound c can;
+  stands = ap (with_history (restored_world c).standing) (sym (cut_at_the_opening (restored_world c).standing.history (0 - 1) (omega arith)));
+}
+
+pub restored_whole : (c : Checkpoint) → can_restore c ≡ true → whole_world (restored c).history.opening (restored_world c) ≡ restored_world c
+restored_whole c can =
+    ap (λ (r : Replayed). (let x : World = record { standing = with_history (restored c) r.history; runners = []; entries = (restored_world c).entries } in x))
+    (restored_is_sound c can).replays
+
+pub restored_leaves : (c : Checkpoint) (m : World) → can_restore c ≡ true → m ≡ restored_world c → IsKeptBy m.standing (whole_world (restored c).history.opening m)
+restored_leaves c m can is =
+    subst (λ (w : World). IsKeptBy w.standing (whole_world (restored c).history.opening w)) (sym is)
+    (subst (λ (w : World). IsKeptBy (restored_world c).standing w) (sym (restored_whole c can)) (restored_is_kept c can))
 
 -- a start
-pub started_leaves : (task : Task) (result : Result ℕ AllocError) (opened : ℕ) (old new : World) → IsKeptBy old.standing (whole_world opened old) →
+pub started_leaves : (task : Task) (result : Result ℕ AllocError) (opened : Opening) (old new : World) → IsKeptBy old.standing (whole_world opened old) →
     OnOk result (new ≡ (start_runner task old).next) → OnErr result (new ≡ old) → IsKeptBy new.standing (whole_world opened new)
 started_leaves task (Ok id) opened old new x ok err =
     let w : World = whole_world opened old in
@@ -579,11 +600,11 @@ started_leaves task (Ok id) opened old new x ok err =
     let next : World = (start_runner task w).next in
     let same : new ≡ kept_world next =
     ok ∙ ap (λ (m : World). (start_runner task m).next) (kept_of opened old x) ∙ ap (λ (s : Stepped). s.next) (start_kept task w) in
-    let opens : next.standing.history.opening.number ≡ opened = ap (λ (o : Opening). o.number) (stepped_opens event w x.sound) ∙ opens_at opened old in
+    let opens : next.standing.history.opening ≡ opened = stepped_opens event w x.sound ∙ opens_with opened old in
     (kept_again opened next new (step_is_sound event w x.sound) opens same).1
 started_leaves task (Err e) opened old new x ok err = subst (λ (m : World). IsKeptBy m.standing (whole_world opened m)) (sym err) x
 
-pub started_next : (task : Task) (opened : ℕ) (old new : World) → IsKeptBy old.standing (whole_world opened old) → new ≡ (start_runner task old).next →
+pub started_next : (task : Task) (opened : Opening) (old new : World) → IsKeptBy old.standing (whole_world opened old) → new ≡ (start_runner task old).next →
     whole_world opened new ≡ (start_runner task (whole_world opened old)).next
 started_next task opened old new x is =
     let w : World = whole_world opened old in
@@ -591,16 +612,16 @@ started_next task opened old new x is =
     let next : World = (start_runner task w).next in
     let same : new ≡ kept_world next =
     is ∙ ap (λ (m : World). (start_runner task m).next) (kept_of opened old x) ∙ ap (λ (s : Stepped). s.next) (start_kept task w) in
-    let opens : next.standing.history.opening.number ≡ opened = ap (λ (o : Opening). o.number) (stepped_opens event w x.sound) ∙ opens_at opened old in
+    let opens : next.standing.history.opening ≡ opened = stepped_opens event w x.sound ∙ opens_with opened old in
     (kept_again opened next new (step_is_sound event w x.sound) opens same).0
 
-pub started_number : (task : Task) (opened : ℕ) (old : World) → IsKeptBy old.standing (whole_world opened old) →
+pub started_number : (task : Task) (opened : Opening) (old : World) → IsKeptBy old.standing (whole_world opened old) →
     (start_runner task old).reply ≡ (start_runner task (whole_world opened old)).reply
 started_number task opened old x =
     ap (λ (m : World). (start_runner task m).reply) (kept_of opened old x) ∙ ap (λ (s : Stepped). s.reply) (start_kept task (whole_world opened old))
 
 -- the state now
-pub state_of_whole : (opened : ℕ) (m : World) (state : List StateEntry) → IsKeptBy m.standing (whole_world opened m) → IsStateOf m.standing.history state →
+pub state_of_whole : (opened : Opening) (m : World) (state : List StateEntry) → IsKeptBy m.standing (whole_world opened m) → IsStateOf m.standing.history state →
     IsStateOf (whole_world opened m).standing.history state
 state_of_whole opened m state x is key =
     let w : World = whole_world opened m in
@@ -609,7 +630,7 @@ state_of_whole opened m state x is key =
     is key ∙ ap (λ (s : Standing). entry_now key (key_now s.history key)) x.stands
     ∙ ap (λ (state : List ℕ → Option KeyState). entry_now key (state key)) alike.keys_now
 
-pub state_reported : (opened : ℕ) (m seen : World) {h : History} (result : Result (List StateEntry) AllocError) → IsKeptBy m.standing (whole_world opened m) →
+pub state_reported : (opened : Opening) (m seen : World) {h : History} (result : Result (List StateEntry) AllocError) → IsKeptBy m.standing (whole_world opened m) →
     whole_world opened m ≡ seen → h ≡ m.standing.history → IfOk result (λ state. IsStateOf h state) →
     IfOk result (λ state. IsStateOf seen.standing.history state)
 state_reported opened m seen (Ok state) x is same reported =
@@ -618,8 +639,8 @@ state_reported opened m seen (Ok state) x is same reported =
 state_reported opened m seen (Err e) x is same reported = tt
 
 -- the store stands for the history that the entries replay to
-pub stands_replayed : (opened : ℕ) (m seen : World) → IsKeptBy m.standing (whole_world opened m) → whole_world opened m ≡ seen →
-    m.standing ≡ kept (whole_store seen.standing.history.opening.number seen.entries m.standing)
+pub stands_replayed : (opened : Opening) (m seen : World) → IsKeptBy m.standing (whole_world opened m) → whole_world opened m ≡ seen →
+    m.standing ≡ kept (whole_store seen.standing.history.opening seen.entries m.standing)
 stands_replayed opened m seen x is =
-    x.stands ∙ ap (λ n. kept (whole_store n m.entries m.standing)) (sym (opens_at opened m))
-    ∙ ap (λ (w : World). kept (whole_store w.standing.history.opening.number w.entries m.standing)) is
+    x.stands ∙ ap (λ (o : Opening). kept (whole_store o m.entries m.standing)) (sym (opens_with opened m))
+    ∙ ap (λ (w : World). kept (whole_store w.standing.history.opening w.entries m.standing)) is

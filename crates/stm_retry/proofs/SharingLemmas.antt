@@ -14,6 +14,7 @@ use Rattle.stm_events.specs.declared.event.WorldEvent.{WorldEvent}
 use Rattle.stm_retry.specs.Returns.{IsStep, OutOfMemoryReturns, Returns, is_out_of_memory, ran_out}
 use Rattle.stm_retry.proofs.WorldLemmas.{refusal_cases}
 use Rattle.stm_retry.specs.Quiet.{is_commit}
+use Rattle.stm_history.specs.Opening.{Opening}
 use Rattle.stm_retry.specs.Kept.{whole_world, IsKeptBy, BasesAreReached}
 use Rattle.stm_retry.specs.WorldOf.{world_of, with_places}
 use Rattle.stm_retry.specs.declared.step_outcome.StepOutcome.{StepOutcome}
@@ -23,17 +24,17 @@ use Rattle.stm_retry.proofs.StepLemmas.{outcome_reports}
 use Rattle.stm_retry.proofs.KeptWorlds.{step_leaves, bases_are_reached}
 
 -- the runners are no part of what is kept
-pub kept_with : (opened : ℕ) (m w : World) (places : List Slot) → whole_world opened m ≡ w → IsKeptBy m.standing (whole_world opened m) →
+pub kept_with : (opened : Opening) (m w : World) (places : List Slot) → whole_world opened m ≡ w → IsKeptBy m.standing (whole_world opened m) →
     IsSound (with_places places w) → IsKeptBy m.standing (whole_world opened (with_places places m))
 kept_with opened m w places is x sound =
     record { sound = subst (λ (v : World). IsSound (with_places places v)) (sym is) sound; stands = x.stands }
 
-pub bases_with : (opened : ℕ) (m w : World) (places : List Slot) → whole_world opened m ≡ w → IsKeptBy m.standing (whole_world opened m) →
+pub bases_with : (opened : Opening) (m w : World) (places : List Slot) → whole_world opened m ≡ w → IsKeptBy m.standing (whole_world opened m) →
     IsSound (with_places places w) → BasesAreReached (with_places places m)
 bases_with opened m w places is x sound = bases_are_reached opened (with_places places m) (kept_with opened m w places is x sound)
 
 -- a step of a runner over what is kept is that of the world
-step_with : (id : ℕ) (reply : Reply) (opened : ℕ) (m w : World) (old new : List Slot) → whole_world opened m ≡ w → IsKeptBy m.standing (whole_world opened m) →
+step_with : (id : ℕ) (reply : Reply) (opened : Opening) (m w : World) (old new : List Slot) → whole_world opened m ≡ w → IsKeptBy m.standing (whole_world opened m) →
     IsSound (with_places old w) → IsStep (step (Step id) (with_places old m)) (Ok reply) (with_places new m) →
     IsStep (step (Step id) (with_places old w)) (Ok reply) (with_places new w)
 step_with id reply opened m w old new is x sound made =
@@ -44,7 +45,7 @@ step_with id reply opened m w old new is x sound made =
 abbrev pub IsQuiet : ℕ → World → List Slot → List Slot → Result (Option Reply) AllocError → Type 0
 IsQuiet id w old new result = IfOk result (λ o. IfSome o (λ reply. IsStep (step (Step id) (with_places old w)) (Ok reply) (with_places new w)))
 
-pub quiet_with : (id : ℕ) (result : Result (Option Reply) AllocError) (opened : ℕ) (m w : World) (old new : List Slot) → whole_world opened m ≡ w →
+pub quiet_with : (id : ℕ) (result : Result (Option Reply) AllocError) (opened : Opening) (m w : World) (old new : List Slot) → whole_world opened m ≡ w →
     IsKeptBy m.standing (whole_world opened m) → IsSound (with_places old w) → IsQuiet id m old new result → IsQuiet id w old new result
 quiet_with id (Ok (Some reply)) opened m w old new is x sound made = step_with id reply opened m w old new is x sound made
 quiet_with id (Ok None) opened m w old new is x sound made = tt

@@ -3,11 +3,12 @@
 -- etcd's API reference, "Compaction": the revisions below the compacted one are dropped, and what a store shows from there on stays. That a
 -- world is seen over the whole history, which its entries lead to, is our own.
 use Rattle.std.specs.Prelude.{◌≡◌, ◌≤◌, ℕ, List, Some, Result}
+use Rattle.stm_history.specs.Opening.{Opening}
 use Rattle.stm_history.specs.History.{now}
 use Rattle.stm_txn.specs.Standing.{Standing, with_history, kept, compacted}
 use Rattle.stm_attempt.specs.Fetches.{at_of}
 use Rattle.stm_entries.specs.declared.entry.Entry.{Entry}
-use Rattle.stm_entries.specs.Replayed.{opening}
+use Rattle.stm_entries.specs.Replayed.{opened_with}
 use Rattle.stm_entries.specs.Replay.{replay}
 use Rattle.stm_events.specs.declared.event.WorldEvent.{WorldEvent}
 use Rattle.stm_events.specs.declared.event.WorldEvent.TheVariants.{Compact}
@@ -19,12 +20,12 @@ use Rattle.stm_world.specs.World.{World, Runner, Stepped, runner_at, after_quiet
 use Rattle.stm_world.specs.Sound.{IsSound}
 use Rattle.stm_retry.specs.Returns.{IsStep, Returns}
 
--- the store over the whole history: the one to which the entries lead from the revision at which the store opened
-abbrev pub whole_store : ℕ → List Entry → Standing → Standing
-whole_store opened entries s = with_history s (replay entries (opening opened)).history
+-- the store over the whole history: the one to which the entries lead from what the store opened with
+abbrev pub whole_store : Opening → List Entry → Standing → Standing
+whole_store opened entries s = with_history s (replay entries (opened_with opened)).history
 
 -- the world of which this one is kept
-abbrev pub whole_world : ℕ → World → World
+abbrev pub whole_world : Opening → World → World
 whole_world opened w = record { standing = whole_store opened w.entries w.standing; runners = w.runners; entries = w.entries }
 
 -- the world without the revisions below the floor of its store

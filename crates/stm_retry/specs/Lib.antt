@@ -4,6 +4,7 @@ pub mod WorldOf
 pub mod CallReturns
 pub mod StepReturns
 pub mod Kept
+pub mod Opened
 pub mod RunnerView
 pub mod AtBase
 pub mod Quiet

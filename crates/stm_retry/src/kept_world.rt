@@ -1,7 +1,10 @@
 //! What a world is made of, and its step.
-ghost use Rattle.std.specs.Prelude.{◌≡◌, ◌≤◌, [], IfOk};
+ghost use Rattle.std.specs.Prelude.{◌≡◌, ◌≤◌, [], IfOk, IfSome, is_some};
 ghost use Rattle.stm_history.specs.declared.revisions.TheConstants.{HIGHEST_REVISION};
 ghost use Rattle.stm_outcome.specs.Terms.{most_operations};
+ghost use Rattle.stm_entries.specs.Restored.{grants_of};
+ghost use Rattle.stm_txn.specs.Restored.{can_restore};
+ghost use Rattle.stm_world.specs.Restored.{restored_world};
 ghost use Rattle.stm_world.specs.World.{opened};
 ghost use Rattle.stm_retry.specs.StepReturns.{as_reply};
 ghost use Rattle.stm_retry.specs.Kept.{KeptReturns, BasesAreReached};
@@ -12,10 +15,11 @@ use crate::store_calls::{advance, grant, keep, reply_to_txn, revoke};
 use crate::watch_calls::{cancel, compact, poll, watch_key, watch_range};
 use std::alloc::{AllocError, Global};
 use std::marker::Model;
+use stm_entries::Entry;
 use stm_events::{Denied, EventRefusal, Reply, WorldEvent};
 use stm_history::Sequence;
 use stm_journal::Journal;
-use stm_txn::Store;
+use stm_txn::{Checkpoint, KeptLease, Store};
 
 /// A journal, and the places of the runners on it.
 ///
@@ -63,6 +67,22 @@ fn to_reply(
     }
 }
 
+/// The entries of the grants of these leases.
+fn grants_of(alloc: Global, leases: &[KeptLease]) -> Result<Vec<Entry>, AllocError>
+    ensures { IfOk result (λ entries. entries.items ≡ grants_of leases.now) }
+{
+    let mut entries = Vec::new(alloc);
+    for lease in leases {
+        let entry = Entry::Grant {
+            id: lease.id,
+            ttl: lease.ttl,
+            at: lease.renewed,
+        };
+        entries.push(entry)?;
+    }
+    Ok(entries)
+}
+
 impl KeptWorld {
     /// A world whose store opens at this revision, and takes this many operations.
     pub(crate) fn new(alloc: Global, start: u64, operations: usize) -> Result<KeptWorld, AllocError>
@@ -75,6 +95,24 @@ impl KeptWorld {
             journal: Journal::new(alloc, store),
             runners: Vec::new(alloc),
         })
+    }
+
+    /// A world whose store opens with what a checkpoint has; none where no store can.
+    pub(crate) fn restored(
+        alloc: Global,
+        checkpoint: &Checkpoint,
+    ) -> Result<Option<KeptWorld>, AllocError>
+        ensures world { IfOk result (λ o. IfSome o (λ p. p ≡ restored_world checkpoint.now)) }
+        ensures some { IfOk result (λ o. is_some o ≡ can_restore checkpoint.now) }
+    {
+        let entries = grants_of(alloc, checkpoint.leases.as_slice())?;
+        let Some(store) = Store::restored(alloc, checkpoint)? else {
+            return Ok(None);
+        };
+        Ok(Some(KeptWorld {
+            journal: Journal::with_entries(store, entries),
+            runners: Vec::new(alloc),
+        }))
     }
 
     /// Takes one event.

@@ -10,6 +10,7 @@ mod alike;
 mod copies;
 mod kept_world;
 pub mod laws;
+mod opened;
 mod runner;
 mod runner_steps;
 mod shared_runner;

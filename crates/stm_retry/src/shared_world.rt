@@ -3,7 +3,7 @@ ghost use Rattle.std.specs.Prelude.{true, map, ◌≡◌, ◌≤◌, length, is_
 ghost use Rattle.stm_history.specs.History.{now};
 ghost use Rattle.stm_alike.specs.Seen.{seen_slot};
 ghost use Rattle.stm_txn.specs.Standing.{kept};
-ghost use Rattle.stm_entries.specs.Replayed.{opening, without_moment};
+ghost use Rattle.stm_entries.specs.Replayed.{opened_with, without_moment};
 ghost use Rattle.stm_entries.specs.Replay.{replay};
 ghost use Rattle.stm_journal.specs.StateOf.{IsStateOf};
 ghost use Rattle.stm_events.specs.declared.event.WorldEvent.TheVariants.{Step};
@@ -198,7 +198,7 @@ impl SharedWorld {
     /// What changed the store, in the order of the steps: `World::history`.
     pub fn history(&self) -> &[Entry]
         ensures entries { result.now ≡ self.now.entries }
-        ensures replays { replay self.now.entries (opening self.now.standing.history.opening.number) ≡ without_moment self.now.standing }
+        ensures replays { replay self.now.entries (opened_with self.now.standing.history.opening) ≡ without_moment self.now.standing }
     {
         self.base.history()
     }
@@ -218,11 +218,11 @@ impl SharedWorld {
         self.base.state()
     }
 
-    /// The revision at which the store opened: `World::opened_at`.
-    pub fn opened_at(&self) -> u64
-        ensures { result ≡ self.now.standing.history.opening.number }
+    /// Whether the store of another world opened with the same: `World::opens_alike`.
+    pub fn opens_alike(&self, other: &SharedWorld) -> bool
+        ensures { result ≡ true → self.now.standing.history.opening ≡ other.now.standing.history.opening }
     {
-        self.base.opened_at()
+        self.base.opens_alike(&other.base)
     }
 
     /// Whether the runners of another world are alike: `World::has_alike_runners`.

@@ -5,7 +5,7 @@ ghost use Rattle.stm_history.specs.declared.revisions.TheConstants.{HIGHEST_REVI
 ghost use Rattle.stm_history.specs.History.{now, AreRevisions};
 ghost use Rattle.stm_outcome.specs.Terms.{most_operations};
 ghost use Rattle.stm_txn.specs.Standing.{Setup, at_revision, kept};
-ghost use Rattle.stm_entries.specs.Replayed.{opening, without_moment};
+ghost use Rattle.stm_entries.specs.Replayed.{opened_with, without_moment};
 ghost use Rattle.stm_entries.specs.Replay.{replay};
 ghost use Rattle.stm_entries.specs.Legal.{AreLegal};
 ghost use Rattle.stm_journal.specs.StateOf.{IsStateOf};
@@ -19,6 +19,8 @@ ghost use Rattle.stm_world.specs.Appended.{HasAppended};
 ghost use Rattle.stm_world.specs.Headline.{Holds};
 ghost use Rattle.stm_world.specs.ReadsNow.{ReadsAreNow};
 ghost use Rattle.stm_world.specs.Sound.{IsSound};
+ghost use Rattle.stm_txn.specs.Restored.{can_restore};
+ghost use Rattle.stm_world.specs.Restored.{restored_world};
 ghost use Rattle.stm_world.specs.World.{opened, runner_at, start_runner, step, world_after, replies_to};
 ghost use Rattle.stm_retry.specs.Returns.{IsStep, Returns, ran_out, expired_of, IsRunStop};
 ghost use Rattle.stm_retry.specs.Stops.{GoesOnAlike};
@@ -27,6 +29,7 @@ ghost use Rattle.stm_retry.specs.WorldOf.{with_places};
 
 use crate::alike::{are_slots_alike, hint_of};
 use crate::kept_world::{KeptWorld, copy_runners};
+use crate::opened::Opened;
 use crate::slots::{Slot, is_running};
 use std::alloc::{AllocError, Global};
 use std::marker::Model;
@@ -36,7 +39,7 @@ use stm_history::{HIGHEST_REVISION, Sequence};
 use stm_journal::state_of;
 use stm_meaning::State;
 use stm_program::{Level, Program};
-use stm_txn::{Expired, MOST_OPERATIONS, Store};
+use stm_txn::{Checkpoint, Expired, MOST_OPERATIONS, Store};
 
 /// Runners of programs over one store.
 ///
@@ -46,9 +49,9 @@ use stm_txn::{Expired, MOST_OPERATIONS, Store};
 /// the history, and the store stands for it: it has the revisions from its floor on.
 pub struct World {
     alloc: Global,
-    /// The revision at which the store opened, where the entries begin. The journal has it too, but contracts of `KeptWorld` see the world that they
-    /// are, without it.
-    opened: u64,
+    /// What the store opened with, where the entries begin. The journal has the revision too, but contracts of `KeptWorld` see the world that they are,
+    /// without it.
+    opened: Opened,
     kept: KeptWorld,
 }
 
@@ -136,11 +139,29 @@ impl World {
         ensures { IfOk result (λ w. w ≡ opened (record { revision = start; limit = operations })) }
     {
         let kept = KeptWorld::new(alloc, start, operations)?;
+        let opened = Opened::empty(start);
         Ok(World {
             alloc,
-            opened: start,
+            opened,
             kept,
         })
+    }
+
+    /// A world whose store opens with what a checkpoint has, and without runners; none where no store can (`can_restore`). Out of memory is its only
+    /// refusal.
+    pub fn restored(alloc: Global, checkpoint: Checkpoint) -> Result<Option<World>, AllocError>
+        ensures world { IfOk result (λ o. IfSome o (λ w. w ≡ restored_world checkpoint)) }
+        ensures some { IfOk result (λ o. is_some o ≡ can_restore checkpoint) }
+    {
+        let Some(kept) = KeptWorld::restored(alloc, &checkpoint)? else {
+            return Ok(None);
+        };
+        let opened = Opened::with_states(alloc, checkpoint.revision, checkpoint.states)?;
+        Ok(Some(World {
+            alloc,
+            opened,
+            kept,
+        }))
     }
 
     /// Starts a run of a program, which may send at most `limit` commits, and returns the runner's number.
@@ -273,8 +294,8 @@ impl World {
     /// legal at its point. Each revision of that history changes something, and no key twice.
     pub fn history(&self) -> &[Entry]
         ensures entries { result.now ≡ self.now.entries }
-        ensures replays { replay self.now.entries (opening self.now.standing.history.opening.number) ≡ without_moment self.now.standing }
-        ensures legal { AreLegal self.now.entries (opening self.now.standing.history.opening.number) }
+        ensures replays { replay self.now.entries (opened_with self.now.standing.history.opening) ≡ without_moment self.now.standing }
+        ensures legal { AreLegal self.now.entries (opened_with self.now.standing.history.opening) }
         ensures revisions { AreRevisions self.now.standing.history.revisions }
     {
         self.kept.journal.entries()
@@ -287,7 +308,7 @@ impl World {
     pub fn store(&self) -> &Store
         ensures standing { result.now.standing ≡ kept self.now.standing }
         ensures replays { result.now.standing ≡
-            kept (whole_store self.now.standing.history.opening.number self.now.entries result.now.standing) }
+            kept (whole_store self.now.standing.history.opening self.now.entries result.now.standing) }
         ensures reached { self.now.standing.floor ≤ now self.now.standing.history }
     {
         self.kept.journal.store()
@@ -313,18 +334,19 @@ impl World {
         ensures { IfOk result (λ copy. copy ≡ self.now) }
     {
         let kept = self.kept.copy()?;
+        let opened = self.opened.share()?;
         Ok(World {
             alloc: self.alloc,
-            opened: self.opened,
+            opened,
             kept,
         })
     }
 
-    /// The revision at which the store opened. The entries begin there, also where a compaction has dropped revisions since.
-    pub fn opened_at(&self) -> u64
-        ensures { result ≡ self.now.standing.history.opening.number }
+    /// Whether the store of another world opened with the same. `false` says nothing.
+    pub fn opens_alike(&self, other: &World) -> bool
+        ensures { result ≡ true → self.now.standing.history.opening ≡ other.now.standing.history.opening }
     {
-        self.opened
+        self.opened.is_same(&other.opened)
     }
 
     /// Whether the runners of another world are alike: the steps from both can see the same of them. The revisions that later answers of an
@@ -373,9 +395,10 @@ impl World {
         ensures { IfOk result (λ copy. copy ≡ with_places runners.now.items self.now) }
     {
         let kept = self.kept.copy_with(runners)?;
+        let opened = self.opened.share()?;
         Ok(World {
             alloc: self.alloc,
-            opened: self.opened,
+            opened,
             kept,
         })
     }

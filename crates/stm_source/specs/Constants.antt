@@ -27,6 +27,7 @@ use Rattle.stm_source.specs.Definitions.{free_name_at, no_arguments}
 abbrev pub outside : Constants → ℕ → Scope
 outside constants at = record {
   numbered = false;
+  takes_else = true;
   names = [];
   kinds = [];
   looks_at_kinds = true;

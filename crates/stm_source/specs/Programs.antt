@@ -1,5 +1,5 @@
 -- A program in braces: the list of keys that it may begin with, and its statements.
-use Rattle.std.specs.Prelude.{ℕ, zero, suc, ◌-◌, List, [], ◌∷◌, ◌++◌, length, ◌||◌, bytes_eq, nat_eq, nat_le, nat_lt, if◌then◌else◌, Option, Some, None, Result, Ok, Err}
+use Rattle.std.specs.Prelude.{ℕ, zero, suc, ◌-◌, List, [], ◌∷◌, ◌++◌, length, not, ◌||◌, bytes_eq, nat_eq, nat_le, nat_lt, if◌then◌else◌, Option, Some, None, Result, Ok, Err}
 use Rattle.std.specs.List.{list_any}
 use Rattle.stm_tokens.specs.declared.token.Token.{Token}
 use Rattle.stm_tokens.specs.declared.token.Symbol.TheVariants as symbol
@@ -89,6 +89,7 @@ program_of at keys parts = if is_too_long MAX_NODES parts then bad at cause.TooM
 abbrev pub first_scope : Arguments → Look → List Token → Scope
 first_scope arguments look tokens = record {
   numbered = numbered_from 0 tokens;
+  takes_else = not (numbered_from 0 tokens);
   names = [];
   kinds = [];
   looks_at_kinds = look.at_kinds;

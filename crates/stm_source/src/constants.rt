@@ -27,6 +27,7 @@ fn outside(alloc: Global, constants: &Shared<Constants>, at: usize) -> Result<Sc
     let constants = constants.clone()?;
     Ok(Scope {
         numbered: false,
+        takes_else: true,
         names: Sequence::new(alloc),
         kinds: Sequence::new(alloc),
         looks_at_kinds: true,

@@ -25,7 +25,7 @@ mod txns;
 mod wanted;
 mod words;
 
-pub use places::{MarkedProgram, MarkedStart, read_marked_starts};
+pub use places::{MarkedProgram, MarkedPrograms, MarkedRule, MarkedStart, read_marked_programs};
 pub use sources::{Source, read_source, read_whole_source};
 pub use stm_terms::{BadSource, Kind, MOST_BRACKETS, Names, SourceCause, SourceError};
 pub use stm_texts::Scenario;

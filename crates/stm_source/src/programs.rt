@@ -186,8 +186,10 @@ fn first_scope(alloc: Global, arguments: Shared<Arguments>, look: Look, tokens: 
         constants,
         ..
     } = look;
+    let numbered = are_numbered(tokens);
     Scope {
-        numbered: are_numbered(tokens),
+        numbered,
+        takes_else: !numbered,
         names: Sequence::new(alloc),
         kinds: Sequence::new(alloc),
         looks_at_kinds: at_kinds,

@@ -49,11 +49,11 @@ pub record AreAlikeSince (since : ℕ) (s t : Standing) : Type 0 where
 -- Jobs were run over the store of a world that has taken these calls; these lines show what came of it; and the store that is left is alike, and has the
 -- leases that live after the calls.
 pub record HasRunOver (shown : Bool) (calls : List WorldEvent) (jobs : List Job) (world : World) (ends : List JobEnd) (lines : List ℕ) (left : Standing) : Type 0 where
-  pub attempts : List ℕ
+  pub lost : List (List (List ℕ))
   pub committed : ℕ
   pub after : JournalState
-  pub ran : RanTo (made_over (kept_of (world_after calls world).standing)) jobs ends attempts committed after
-  pub shows : AreLinesOf shown ends attempts (length jobs) committed after.standing.history lines
+  pub ran : RanTo (made_over (kept_of (world_after calls world).standing)) jobs ends lost committed after
+  pub shows : AreLinesOf shown ends lost (length jobs) committed after.standing.history lines
   pub alike : AreAlikeSince (now (kept_of (world_after calls world).standing).history) after.standing left
   pub leases : (world_after calls world).standing.live ≡ left.live
 

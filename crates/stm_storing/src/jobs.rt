@@ -135,7 +135,7 @@ fn gathered_over<R: Threads + Wait + Sync>(
     workers: usize,
 ) -> Result<Gathered, StoreFault>
     requires workers { (1 ≤ workers) × (workers ≤ MOST_WORKERS) }
-    ensures { IfOk result (λ g. RanTo (made_over (kept world.now.standing)) jobs.now g.ends.items g.attempts.items g.committed g.hall) }
+    ensures { IfOk result (λ g. RanTo (made_over (kept world.now.standing)) jobs.now g.ends.items g.lost.items g.committed g.hall) }
 {
     let hall = hall_over(alloc, world)?;
     match run_workers(rt, alloc, jobs, workers, hall, &NoGate) {
@@ -154,7 +154,7 @@ fn run_over<R: Threads + Wait + Sync>(
     workers: usize,
 ) -> Result<Ran, StoreFault>
     requires workers { (1 ≤ workers) × (workers ≤ MOST_WORKERS) }
-    ensures ran { IfOk result (λ r. RanTo (made_over (kept r.begun.standing)) jobs.now r.gathered.ends.items r.gathered.attempts.items r.gathered.committed
+    ensures ran { IfOk result (λ r. RanTo (made_over (kept r.begun.standing)) jobs.now r.gathered.ends.items r.gathered.lost.items r.gathered.committed
         r.gathered.hall) }
     ensures begun { IfOk result (λ r. r.begun ≡ world_after calls.now world.now) }
 {
@@ -172,8 +172,7 @@ fn run_over<R: Threads + Wait + Sync>(
 fn have_same_leases(left: &World, right: &World) -> bool
     ensures { result ≡ true → left.now.standing.live ≡ right.now.standing.live }
 {
-    let opened = left.opened_at();
-    if opened != right.opened_at() {
+    if !left.opens_alike(right) {
         return false;
     }
     leave_same_leases(left.history(), right.history())
@@ -265,14 +264,14 @@ fn written_of(
     ran: &Ran,
     with_ends: bool,
 ) -> Result<Written, StoreFault>
-    requires { length ran.now.gathered.attempts.items ≡ length ran.now.gathered.ends.items }
+    requires { length ran.now.gathered.lost.items ≡ length ran.now.gathered.ends.items }
     ensures spelled { IfOk result (λ w. scenario_in (string_bytes w.text) ≡ OkOf w.scenario) }
     ensures starts { IfOk result (λ w. IsOpening w.scenario.opening) }
     ensures opens { IfOk result (λ w. setup_of w.scenario.opening ≡ setup_of asked.now.opening) }
     ensures alike { IfOk result (λ w. AreAlikeSince (now (kept ran.now.begun.standing).history) ran.now.gathered.hall.standing
         (kept (world_after w.scenario.events world.now).standing)) }
     ensures leases { IfOk result (λ w. ran.now.begun.standing.live ≡ (world_after w.scenario.events world.now).standing.live) }
-    ensures shows { IfOk result (λ w. AreLinesOf with_ends ran.now.gathered.ends.items ran.now.gathered.attempts.items (length asked.now.sorted.jobs)
+    ensures shows { IfOk result (λ w. AreLinesOf with_ends ran.now.gathered.ends.items ran.now.gathered.lost.items (length asked.now.sorted.jobs)
         ran.now.gathered.committed ran.now.gathered.hall.standing.history (string_bytes w.lines)) }
 {
     let lines = lines(alloc, asked.sorted.jobs.len(), &ran.gathered, with_ends)?;
@@ -303,7 +302,7 @@ fn done_of(
     ran: Ran,
     with_ends: bool,
 ) -> Result<Done, StoreFault>
-    requires ran { RanTo (made_over (kept ran.begun.standing)) asked.now.sorted.jobs ran.gathered.ends.items ran.gathered.attempts.items ran.gathered.committed
+    requires ran { RanTo (made_over (kept ran.begun.standing)) asked.now.sorted.jobs ran.gathered.ends.items ran.gathered.lost.items ran.gathered.committed
         ran.gathered.hall }
     requires begun { ran.begun ≡ world_after calls.now world.now }
     ensures spelled { IfOk result (λ done. scenario_in (string_bytes done.written.text) ≡ OkOf done.written.scenario) }

@@ -11,17 +11,17 @@ use Rattle.stm_terms.specs.Outcome.{Read, ReturnsFault}
 use Rattle.stm_terms.specs.Conditions.{tier_symbol, tier_connective, connected_up, connection, connections_above, connections_by, connections_at, negated}
 use Rattle.stm_terms.specs.Conditions.{condition_by, between, found_at, bracket_at, condition_bracket_at}
 
-pub connections_none : (part : List Token → Read ValueOrCondition) (tier : ℕ) (tokens : List Token) → tier ≡ 0 → connections_by part tier tokens ≡ part tokens
+pub connections_none : (first part : List Token → Read ValueOrCondition) (tier : ℕ) (tokens : List Token) → tier ≡ 0 → connections_by first part tier tokens ≡ first tokens
 unfolding connections_by
-connections_none part tier tokens none = rw none refl
+connections_none first part tier tokens none = rw none refl
 
-pub connections_some : (part : List Token → Read ValueOrCondition) (tier : ℕ) (tokens : List Token) → 0 < tier
-    → connections_by part tier tokens
-    ≡ connections_above (connections_by part (tier - 1)) (tier - 1) tokens
+pub connections_some : (first part : List Token → Read ValueOrCondition) (tier : ℕ) (tokens : List Token) → 0 < tier
+    → connections_by first part tier tokens
+    ≡ connections_above (connections_by first part (tier - 1)) (connections_by part part (tier - 1)) (tier - 1) tokens
 unfolding connections_by
-connections_some part tier tokens some =
+connections_some first part tier tokens some =
     let e : tier ≡ suc (tier - 1) = omega arith in
-    ap (λ (t : ℕ). connections_by part t tokens) e
+    ap (λ (t : ℕ). connections_by first part t tokens) e
 
 -- ---- the connectives of a chain, at turn i of n
 

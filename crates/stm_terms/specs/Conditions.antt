@@ -20,6 +20,7 @@ use Rattle.stm_terms.specs.Outcome.{Outcome, Read, bad, ◌>>=◌}
 use Rattle.stm_terms.specs.Comparisons.{compared, next_comparison}
 use Rattle.stm_terms.specs.LookUps.{pair_with_front}
 use Rattle.stm_terms.specs.Cursor.{place, unexpected, after_symbol, expect_symbol}
+use Rattle.stm_terms.specs.Scope.{without_else}
 use Rattle.stm_terms.specs.Values.{operand_at, value_of, value_behind}
 
 -- ---- what begins in a condition is a value or a condition, as it turns out
@@ -34,7 +35,7 @@ condition_by read tokens = read tokens >>= λ x. wanted (place tokens) x.0 >>= �
 
 -- a comparison; what is set in front of it stands in front of the statement that it is a condition of
 abbrev pub test_of : Comparison → FrontedPair → Tested
-test_of c x = record { front = x.front; condition = compared c x.left x.right; else_at = x.else_at }
+test_of c x = record { front = x.front; condition = compared c x.left x.right }
 
 -- behind a value: the left side of a comparison, if one follows
 abbrev pub compared_with : ℕ → Scope → Valued → List Token → Option (Comparison × List Token) → Read ValueOrCondition
@@ -89,13 +90,8 @@ primary_by bracket condition_bracket levels scope n tokens =
 
 -- ---- connectives, `&&` of tier 1 and `||` of tier 2
 
--- behind a connective there is no `else`, since the condition there is not always evaluated
-abbrev pub without_else : Condition → Option ℕ → Outcome Condition
-without_else c None = Ok c
-without_else c (Some at) = bad at cause.Syntax
-
 abbrev pub part_by : (List Token → Read ValueOrCondition) → List Token → Read Condition
-part_by read tokens = condition_by read tokens >>= λ x. without_else x.0.condition x.0.else_at >>= λ c. Ok (c, x.1)
+part_by read tokens = condition_by read tokens >>= λ x. Ok (x.0.condition, x.1)
 
 abbrev pub connected : Connective → Condition → Condition → Condition
 connected connective.And c d = And c d
@@ -133,14 +129,15 @@ joined_from part tier at left rest None = Ok (left, rest)
 joined_from part tier at left rest (Some behind) =
     wanted at left >>= λ t. connections_behind part tier t rest
 
--- parts of the tier below, and the connectives of this one
-abbrev pub connections_above : (List Token → Read ValueOrCondition) → ℕ → List Token → Read ValueOrCondition
-connections_above part tier tokens =
-    part tokens >>= λ x. joined_from part tier (place tokens) x.0 x.1 (after_symbol (tier_symbol (tier + 1)) x.1)
+-- parts of the tier below, the first of which is read otherwise than those behind the connectives of this one
+abbrev pub connections_above : (List Token → Read ValueOrCondition) → (List Token → Read ValueOrCondition) → ℕ → List Token → Read ValueOrCondition
+connections_above first part tier tokens =
+    first tokens >>= λ x. joined_from part tier (place tokens) x.0 x.1 (after_symbol (tier_symbol (tier + 1)) x.1)
 
-unfoldable pub connections_by : (List Token → Read ValueOrCondition) → ℕ → List Token → Read ValueOrCondition
-connections_by primary zero tokens = primary tokens
-connections_by primary (suc tier) tokens = connections_above (connections_by primary tier) tier tokens
+unfoldable pub connections_by : (List Token → Read ValueOrCondition) → (List Token → Read ValueOrCondition) → ℕ → List Token → Read ValueOrCondition
+connections_by first primary zero tokens = first tokens
+connections_by first primary (suc tier) tokens =
+    connections_above (connections_by first primary tier) (connections_by primary primary tier) tier tokens
 
 -- ---- brackets
 
@@ -155,10 +152,14 @@ no_bracket tokens = Err (unexpected tokens)
 
 -- a value or a condition, where so many brackets may still be opened
 unfoldable pub found_at : ℕ → Scope → List Token → Read ValueOrCondition
-found_at zero scope tokens = connections_by (λ ts. primary_by no_bracket no_bracket zero scope (negations ts) ts) 2 tokens
+found_at zero scope tokens =
+    connections_by (λ ts. primary_by no_bracket no_bracket zero scope (negations ts) ts)
+    (λ ts. primary_by no_bracket no_bracket zero (without_else scope) (negations ts) ts) 2 tokens
 found_at (suc levels) scope tokens =
     connections_by
-    (λ ts. primary_by (between (found_at levels scope)) (between (condition_by (found_at levels scope))) (suc levels) scope (negations ts) ts) 2 tokens
+    (λ ts. primary_by (between (found_at levels scope)) (between (condition_by (found_at levels scope))) (suc levels) scope (negations ts) ts)
+    (λ ts. primary_by (between (found_at levels (without_else scope))) (between (condition_by (found_at levels (without_else scope)))) (suc levels)
+    (without_else scope) (negations ts) ts) 2 tokens
 
 -- in brackets, of which so many may still be opened
 abbrev pub bracket_at : ℕ → Scope → List Token → Read ValueOrCondition
@@ -173,7 +174,7 @@ abbrev pub primary_at : ℕ → Scope → List Token → Read ValueOrCondition
 primary_at levels scope tokens = primary_by (bracket_at levels scope) (condition_bracket_at levels scope) levels scope (negations tokens) tokens
 
 abbrev pub connections_at : ℕ → Scope → ℕ → List Token → Read ValueOrCondition
-connections_at levels scope tier = connections_by (primary_at levels scope) tier
+connections_at levels scope tier = connections_by (primary_at levels scope) (primary_at levels (without_else scope)) tier
 
 -- a condition
 abbrev pub condition_at : ℕ → Scope → List Token → Read Tested

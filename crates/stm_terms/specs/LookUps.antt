@@ -136,16 +136,17 @@ planned (suc most) plan v ls = plan_by (planned most) plan v ls
 abbrev pub with_front : Scope → Valued → Outcome Fronted
 with_front scope x = planned_front (planned MOST_PLANS) (length scope.names) x.expression x.look_ups
 
-abbrev pub paired_by : Option ℕ → Expression → Expression × Fronts → FrontedPair
-paired_by at l x = record { front = x.1.statements; else_at = at; left = l; right = x.0 }
+abbrev pub paired_by : Expression → Expression × Fronts → FrontedPair
+paired_by l x = record { front = x.1.statements; left = l; right = x.0 }
 
-abbrev pub paired : Option ℕ → List Lift → Expression → Expression × Fronts → FrontedPair
-paired at plan right x = paired_by at x.0 (lifted plan right x.1)
+abbrev pub paired : List Lift → Expression → Expression × Fronts → FrontedPair
+paired plan right x = paired_by x.0 (lifted plan right x.1)
 
-abbrev pub pair_by : Scope → Expression → Expression → List LookUp → Option ℕ → Outcome FrontedPair
-pair_by scope l r ls None = Ok (record { front = []; else_at = None; left = l; right = r })
-pair_by scope l r ls (Some at) = planned MOST_PLANS [] (length scope.names) ls >>= λ plan. Ok (paired (Some at) plan r (lifted plan l no_fronts))
+abbrev pub pair_by : Scope → Expression → Expression → List LookUp → Outcome FrontedPair
+pair_by scope l r ls =
+    if has_else ls then (planned MOST_PLANS [] (length scope.names) ls >>= λ plan. Ok (paired plan r (lifted plan l no_fronts)))
+    else Ok (record { front = []; left = l; right = r })
 
 -- its two values
 abbrev pub pair_with_front : Scope → Valued → Valued → Outcome FrontedPair
-pair_with_front scope x y = pair_by scope x.expression y.expression (x.look_ups ++ y.look_ups) (first_else (x.look_ups ++ y.look_ups))
+pair_with_front scope x y = pair_by scope x.expression y.expression (x.look_ups ++ y.look_ups)

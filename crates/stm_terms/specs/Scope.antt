@@ -97,6 +97,10 @@ blame scope name at = unwrap_or (blamed scope name) at
 abbrev pub with_item : Scope → List ℕ → Item → Scope
 with_item scope name item = record scope { items = scope.items ++ record { name = name; item = item } ∷ [] }
 
+-- behind `&&` and `||` no look-up has an `else`, since the condition there is not always evaluated
+abbrev pub without_else : Scope → Scope
+without_else scope = record scope { takes_else = false }
+
 abbrev pub knows : Scope → List ℕ → Bool
 knows scope name =
     is_some (index_of name scope.names) || is_some (item_named name scope.items) || list_any (bytes_eq name) scope.arguments.names

@@ -92,9 +92,11 @@ abbrev pub others_hold_else : List Valued → List LookUp → Bool
 others_hold_else arguments [] = false
 others_hold_else arguments (l ∷ ls) = if other_holds_else arguments l.other then true else others_hold_else arguments ls
 
-abbrev pub may_stand : Scope → ℕ → Valued → List Valued → Outcome (Unit {0})
-may_stand scope at d arguments =
-    if scope.numbered && has_else d.look_ups || others_hold_else arguments d.look_ups then bad at cause.Syntax else Ok tt
+abbrev pub may_stand : Scope → ℕ → Valued → Outcome (Unit {0})
+may_stand scope at d = if not scope.takes_else && has_else d.look_ups then bad at cause.Syntax else Ok tt
+
+abbrev pub may_hold : ℕ → Valued → List Valued → Outcome (Unit {0})
+may_hold at d arguments = if others_hold_else arguments d.look_ups then bad at cause.Syntax else Ok tt
 
 -- ---- nor an `else` behind another one
 
@@ -162,4 +164,4 @@ copied_by scope at d arguments (Some k) =
 
 -- by its name, which begins at a byte, with these arguments
 abbrev pub copied_in : Scope → ℕ → Valued → List Valued → Outcome Valued
-copied_in scope at d arguments = may_stand scope at d arguments >>= λ u. copied_by scope at d arguments (kind_of_use scope arguments d)
+copied_in scope at d arguments = may_hold at d arguments >>= λ u. copied_by scope at d arguments (kind_of_use scope arguments d)

@@ -29,9 +29,9 @@ use Rattle.stm_terms.specs.LookUps.{with_look_up, with_else}
 use Rattle.stm_terms.specs.declared.arguments.Argument.{Argument}
 use Rattle.stm_terms.specs.declared.arguments.Argument.TheVariants as argument
 use Rattle.stm_terms.specs.declared.uses.Defined.{Defined}
-use Rattle.stm_terms.specs.Constants.{constant_named, defined_value}
+use Rattle.stm_terms.specs.Constants.{alone, constant_named, defined_value}
 use Rattle.stm_terms.specs.Scope.{argument_named, blame, variable_of}
-use Rattle.stm_terms.specs.Uses.{copied_in}
+use Rattle.stm_terms.specs.Uses.{copied_in, may_stand}
 use Rattle.stm_terms.specs.declared.limits.TheConstants.{MOST_BRACKETS, MOST_JOINS}
 
 -- ---- operands
@@ -109,10 +109,18 @@ counted_in scope at d arguments =
 -- what is defined, behind its name, which begins at a byte
 abbrev pub used_at : Uses → Scope → ℕ → Defined → List Token → Read Valued
 used_at uses scope at d tokens =
+    may_stand scope at d.value >>= λ u.
     arguments_by uses tokens (after_symbol symbol.LeftParenthesis tokens) >>= λ x. counted_in scope at d x.0 >>= λ v. Ok (v, x.1)
 
+-- a text or a number alone has no parameters
+abbrev pub not_defined : Uses → Scope → ℕ → List ℕ → List Token → Option Argument → Read Valued
+not_defined uses scope at n rest None = named_at scope at n rest
+not_defined uses scope at n rest (Some a) =
+    arguments_by uses rest (after_symbol symbol.LeftParenthesis rest) >>= λ x.
+    if nat_lt 0 (length x.0) then bad at cause.Arguments else named_at scope at n x.1
+
 abbrev pub meant_by : Uses → Scope → ℕ → List ℕ → List Token → Option Defined → Read Valued
-meant_by uses scope at n rest None = named_at scope at n rest
+meant_by uses scope at n rest None = not_defined uses scope at n rest (alone (constant_named scope.constants n))
 meant_by uses scope at n rest (Some d) = used_at uses scope at d rest
 
 -- a name is that of a variable, stands for a text or a number, or for a value that is defined
@@ -127,12 +135,13 @@ Bracketed = Kind → List Token → Read Valued
 abbrev pub Others : Type 0
 Others = List Token → Read Valued
 
--- behind an `else`, which begins at a byte. Where variables are called by their numbers, none is free for it
+-- behind an `else`, which begins at a byte
 abbrev pub else_behind : Others → Scope → ℕ → List LookUp → List Token → List Token → Read (List LookUp)
 else_behind others scope at ls tokens behind =
-    if scope.numbered then Err (unexpected tokens)
-    else (others behind >>= λ x.
+    if scope.takes_else
+    then (others behind >>= λ x.
     want scope value_kind.Text x.0.kind (place behind) >>= λ u. Ok (with_else ls at (place tokens) x.0, x.1))
+    else Err (unexpected tokens)
 
 -- the look-ups of a `get`, which begins at a byte, of a key with these
 abbrev pub else_by : Others → Scope → ℕ → List LookUp → List Token → Option (List Token) → Read (List LookUp)

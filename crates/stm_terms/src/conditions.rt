@@ -3,6 +3,7 @@ ghost use Rattle.std.specs.Prelude.{◌≡◌, ◌≤◌, ◌+◌, length, IfOk}
 ghost use Rattle.stm_tokens.specs.declared.token.Symbol.TheVariants.{LeftParenthesis};
 ghost use Rattle.stm_terms.specs.Cursor as cursor;
 ghost use Rattle.stm_terms.specs.Outcome.{Returns};
+ghost use Rattle.stm_terms.specs.Scope.{without_else};
 ghost use Rattle.stm_terms.specs.Comparisons as comparisons;
 ghost use Rattle.stm_terms.specs.Conditions as spec;
 
@@ -27,8 +28,6 @@ pub struct Tested {
     pub front: Sequence<Stmt>,
     /// The condition.
     pub condition: Cond,
-    /// Where the first `else` of a look-up stands in it.
-    pub else_at: Option<usize>,
 }
 
 /// What begins where a condition is wanted, as it turns out.
@@ -63,18 +62,9 @@ fn wanted(at: usize, found: ValueOrCondition) -> Result<Tested, SourceError>
 fn test_of(alloc: Global, comparison: Comparison, pair: FrontedPair) -> Result<Tested, AllocError>
     ensures { IfOk result (λ t. t ≡ spec.test_of comparison pair) }
 {
-    let FrontedPair {
-        front,
-        else_at,
-        left,
-        right,
-    } = pair;
+    let FrontedPair { front, left, right } = pair;
     let condition = compared(alloc, comparison, left, right)?;
-    Ok(Tested {
-        front,
-        condition,
-        else_at,
-    })
+    Ok(Tested { front, condition })
 }
 
 /// What a value and what stands behind it are: a comparison, if one follows, else the value.
@@ -153,21 +143,6 @@ fn negated(alloc: Global, count: usize, condition: Cond) -> Result<Cond, AllocEr
     Ok(condition)
 }
 
-/// A condition behind a connective: an `else` in it is `Syntax`.
-fn without_else(tested: Tested) -> Result<Cond, SourceError>
-    ensures { Returns (λ c. c) result (spec.without_else tested.condition tested.else_at) }
-{
-    let Tested {
-        condition,
-        else_at,
-        ..
-    } = tested;
-    match else_at {
-        Some(at) => Err(fault(at, SourceCause::Syntax)),
-        None => Ok(condition),
-    }
-}
-
 /// Two conditions and what joins them, which is the last one of a chain with so many before it.
 fn connected_up(
     alloc: Global,
@@ -223,17 +198,9 @@ fn kept(count: usize) -> usize
 fn all_negated(alloc: Global, count: usize, tested: Tested) -> Result<Tested, AllocError>
     ensures { IfOk result (λ t. t ≡ spec.with_condition tested (spec.negated count tested.condition)) }
 {
-    let Tested {
-        front,
-        condition,
-        else_at,
-    } = tested;
+    let Tested { front, condition } = tested;
     let condition = negated(alloc, count, condition)?;
-    Ok(Tested {
-        front,
-        condition,
-        else_at,
-    })
+    Ok(Tested { front, condition })
 }
 
 /// The condition behind so many `!`.
@@ -306,8 +273,7 @@ fn part<'a>(
     ensures { Returns (λ x. (x.0, x.1.now)) result (spec.part_by (spec.connections_at levels scope.now tier) tokens.now) }
 {
     let (found, rest) = connections(alloc, scope, levels, tier, tokens)?;
-    let tested = wanted(place(tokens), found)?;
-    let condition = without_else(tested)?;
+    let Tested { condition, .. } = wanted(place(tokens), found)?;
     Ok((condition, rest))
 }
 
@@ -365,13 +331,13 @@ fn next_connections<'a>(
     tokens: &'a [Token],
 ) -> Result<(ValueOrCondition, &'a [Token]), SourceError>
     requires { tier ≤ 2 }
-    ensures { Returns (λ x. (x.0, x.1.now)) result (spec.connections_above (spec.connections_at levels scope.now tier) tier tokens.now) }
+    ensures { Returns (λ x. (x.0, x.1.now)) result (spec.connections_above (spec.connections_at levels scope.now tier) (spec.connections_at levels (without_else scope.now) tier) tier tokens.now) }
 {
     let (left, rest) = connections(alloc, scope, levels, tier, tokens)?;
     joined_from(alloc, scope, levels, tier, place(tokens), left, rest)
 }
 
-/// The connectives of a tier behind a condition.
+/// The connectives of a tier behind a condition. Behind them no look-up has an `else`.
 #[cycle(read_conditions)]
 fn connected<'a>(
     alloc: Global,
@@ -382,20 +348,15 @@ fn connected<'a>(
     tokens: &'a [Token],
 ) -> Result<(ValueOrCondition, &'a [Token]), SourceError>
     requires { tier ≤ 2 }
-    ensures { Returns (λ x. (x.0, x.1.now)) result (spec.connections_behind (spec.connections_at levels scope.now tier) tier left tokens.now) }
+    ensures { Returns (λ x. (x.0, x.1.now)) result (spec.connections_behind (spec.connections_at levels (without_else scope.now) tier) tier left tokens.now) }
 {
-    let Tested {
-        front,
-        condition,
-        else_at,
-    } = left;
-    let (condition, rest) = connection(alloc, scope, levels, tier, condition, tokens)?;
-    let tested = Tested {
-        front,
-        condition,
-        else_at,
-    };
-    Ok((ValueOrCondition::Condition(tested), rest))
+    let Tested { front, condition } = left;
+    let inner = scope.without_else(alloc)?;
+    let (condition, rest) = connection(alloc, &inner, levels, tier, condition, tokens)?;
+    Ok((
+        ValueOrCondition::Condition(Tested { front, condition }),
+        rest,
+    ))
 }
 
 /// What a part of a tier, which begins at a byte, and the connectives behind it are.
@@ -410,7 +371,7 @@ fn joined_from<'a>(
     tokens: &'a [Token],
 ) -> Result<(ValueOrCondition, &'a [Token]), SourceError>
     requires { tier ≤ 2 }
-    ensures { Returns (λ x. (x.0, x.1.now)) result (spec.joined_from (spec.connections_at levels scope.now tier) tier at left tokens.now (cursor.after_symbol (spec.tier_symbol (tier + 1)) tokens.now)) }
+    ensures { Returns (λ x. (x.0, x.1.now)) result (spec.joined_from (spec.connections_at levels (without_else scope.now) tier) tier at left tokens.now (cursor.after_symbol (spec.tier_symbol (tier + 1)) tokens.now)) }
 {
     match after_symbol(tokens, tier_symbol(tier + 1)) {
         None => Ok((left, tokens)),

@@ -66,8 +66,6 @@ pub struct Fronted {
 pub struct FrontedPair {
     /// The statements in front.
     pub front: Sequence<Stmt>,
-    /// Where the first `else` of the two stands.
-    pub else_at: Option<usize>,
     /// The first value.
     pub left: Expr,
     /// The second value.
@@ -323,12 +321,11 @@ fn fronted_by(alloc: Global, plan: &[Lift], expression: &Expr) -> Result<Fronted
 /// Two values of which look-ups are set in front by a plan.
 fn paired(
     alloc: Global,
-    else_at: Option<usize>,
     plan: &[Lift],
     left: &Expr,
     right: &Expr,
 ) -> Result<FrontedPair, AllocError>
-    ensures { IfOk result (λ x. x ≡ spec.paired else_at plan.now right.now (spec.lifted plan.now left.now spec.no_fronts)) }
+    ensures { IfOk result (λ x. x ≡ spec.paired plan.now right.now (spec.lifted plan.now left.now spec.no_fronts)) }
 {
     let mut fronts = no_fronts(alloc);
     let left = lifted(alloc, plan, left, &mut fronts)?;
@@ -336,7 +333,6 @@ fn paired(
     let Fronts { statements, .. } = fronts;
     Ok(FrontedPair {
         front: statements,
-        else_at,
         left,
         right,
     })
@@ -528,11 +524,9 @@ pub fn pair_with_front(
         ..
     } = second;
     let look_ups = both(look_ups, more)?;
-    let else_at = first_else(look_ups.as_slice());
-    if else_at.is_none() {
+    if !has_else(look_ups.as_slice()) {
         return Ok(FrontedPair {
             front: Sequence::new(alloc),
-            else_at,
             left,
             right,
         });
@@ -546,6 +540,6 @@ pub fn pair_with_front(
         look_ups.as_slice(),
         &mut planned,
     )?;
-    let pair = paired(alloc, else_at, planned.as_slice(), &left, &right)?;
+    let pair = paired(alloc, planned.as_slice(), &left, &right)?;
     Ok(pair)
 }

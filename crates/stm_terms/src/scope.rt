@@ -28,6 +28,8 @@ pub struct NamedItem {
 pub struct Scope {
     /// Whether the program calls them `v0` to `v15`. Else it gives them names.
     pub numbered: bool,
+    /// Whether a look-up may have an `else`: not beside `v0` to `v15`, and not behind `&&` or `||`.
+    pub takes_else: bool,
     /// The names in sight. Each is at the place of its variable's number.
     pub names: Sequence<SharedText>,
     /// What the variables of these names are.
@@ -169,6 +171,7 @@ impl Scope {
         }
         Ok(Scope {
             numbered: self.numbered,
+            takes_else: self.takes_else,
             names,
             kinds: copy_of_kinds(alloc, self.kinds.as_slice())?,
             looks_at_kinds: self.looks_at_kinds,
@@ -272,6 +275,15 @@ impl Scope {
         let name = name.clone()?;
         let item = item.share()?;
         inner.items.push(NamedItem { name, item })?;
+        Ok(inner)
+    }
+
+    /// What is in sight behind `&&` or `||`. It fails only when out of memory.
+    pub(crate) fn without_else(&self, alloc: Global) -> Result<Scope, AllocError>
+        ensures { IfOk result (λ scope. scope ≡ spec.without_else self.now) }
+    {
+        let mut inner = self.copy(alloc)?;
+        inner.takes_else = false;
         Ok(inner)
     }
 

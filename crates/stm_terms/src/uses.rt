@@ -356,18 +356,21 @@ fn kind_of_use(scope: &Scope, arguments: &[Valued], defined: &Valued) -> Option<
     kind_in(arguments, &defined.expression)
 }
 
-/// Refuses an `else` of a definition, whose name begins at a byte, where there may be none: where variables are called by their numbers, and within
-/// another one.
-fn may_stand(
-    scope: &Scope,
-    at: usize,
-    defined: &Valued,
-    arguments: &[Valued],
-) -> Result<(), SourceError>
-    ensures { Returns (λ u. u) result (spec.may_stand scope.now at defined.now arguments.now) }
+/// Refuses a definition with an `else`, whose name begins at a byte, where there may be none.
+pub(crate) fn may_stand(scope: &Scope, at: usize, defined: &Valued) -> Result<(), SourceError>
+    ensures { Returns (λ u. u) result (spec.may_stand scope.now at defined.now) }
 {
-    let look_ups = defined.look_ups.as_slice();
-    if scope.numbered && has_else(look_ups) || others_hold_else(arguments, look_ups) {
+    if !scope.takes_else && has_else(defined.look_ups.as_slice()) {
+        return Err(fault(at, SourceCause::Syntax));
+    }
+    Ok(())
+}
+
+/// Refuses arguments with an `else` behind one of the definition, whose name begins at a byte.
+fn may_hold(at: usize, defined: &Valued, arguments: &[Valued]) -> Result<(), SourceError>
+    ensures { Returns (λ u. u) result (spec.may_hold at defined.now arguments.now) }
+{
+    if others_hold_else(arguments, defined.look_ups.as_slice()) {
         return Err(fault(at, SourceCause::Syntax));
     }
     Ok(())
@@ -406,7 +409,7 @@ pub(crate) fn copied_in(
 ) -> Result<Valued, SourceError>
     ensures { Returns (λ x. x) result (spec.copied_in scope.now at defined.now arguments.now) }
 {
-    may_stand(scope, at, defined, arguments)?;
+    may_hold(at, defined, arguments)?;
     let Some(kind) = kind_of_use(scope, arguments, defined) else {
         return Err(fault(scope.kinds_at.unwrap_or(at), SourceCause::Kind));
     };

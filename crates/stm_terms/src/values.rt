@@ -6,6 +6,7 @@ ghost use Rattle.stm_tokens.specs.declared.token.Word.TheVariants.{Else};
 ghost use Rattle.stm_terms.specs.Endings.{asked_of};
 ghost use Rattle.stm_terms.specs.Kinds.{valued};
 ghost use Rattle.stm_terms.specs.declared.kinds.Kind.TheVariants as kinds;
+ghost use Rattle.stm_terms.specs.Constants.{alone, constant_named};
 ghost use Rattle.stm_terms.specs.Cursor as cursor;
 ghost use Rattle.stm_terms.specs.Outcome.{Returns};
 ghost use Rattle.stm_terms.specs.Scope.{argument_named, blame, variable_of};
@@ -19,7 +20,7 @@ use crate::kinds::{Kind, Valued};
 use crate::limits::{MOST_BRACKETS, MOST_JOINS};
 use crate::look_ups::{LookUp, both, with_else, with_look_up};
 use crate::scope::Scope;
-use crate::uses::{Defined, copied_in};
+use crate::uses::{Defined, copied_in, may_stand};
 use std::alloc::{AllocError, Global};
 use std::sync::Arc;
 use stm_history::{Sequence, Text};
@@ -376,8 +377,31 @@ fn meant<'a>(
 {
     match scope.constants.get().value_of(name) {
         Some(defined) => used(alloc, scope, levels, at, defined, rest),
-        None => named(alloc, scope, at, name, rest),
+        None => not_defined(alloc, scope, levels, at, name, rest),
     }
+}
+
+/// What a name stands for that is no value with parameters: a constant has none.
+#[cycle(read_values)]
+fn not_defined<'a>(
+    alloc: Global,
+    scope: &Scope,
+    levels: usize,
+    at: usize,
+    name: &str,
+    rest: &'a [Token],
+) -> Result<(Valued, &'a [Token]), SourceError>
+    ensures { Returns (λ x. (x.0, x.1.now)) result
+        (spec.not_defined (spec.uses_at levels scope.now) scope.now at name.now rest.now (alone (constant_named scope.now.constants name.now))) }
+{
+    if scope.constants.get().alone(name).is_none() {
+        return named(alloc, scope, at, name, rest);
+    }
+    let (arguments, rest) = use_arguments(alloc, scope, levels, rest)?;
+    if arguments.len() > 0 {
+        return Err(fault(at, SourceCause::Arguments));
+    }
+    named(alloc, scope, at, name, rest)
 }
 
 /// A value that is defined, behind its name, which begins at a byte.
@@ -392,6 +416,7 @@ fn used<'a>(
 ) -> Result<(Valued, &'a [Token]), SourceError>
     ensures { Returns (λ x. (x.0, x.1.now)) result (spec.used_at (spec.uses_at levels scope.now) scope.now at defined.now tokens.now) }
 {
+    may_stand(scope, at, &defined.value)?;
     let (arguments, rest) = use_arguments(alloc, scope, levels, tokens)?;
     if arguments.len() != defined.parameters {
         return Err(fault(at, SourceCause::Arguments));
@@ -568,7 +593,7 @@ fn else_behind<'a>(
     ensures { Returns (λ x. (x.0, x.1.now)) result
         (spec.else_behind (spec.operand_within levels (spec.bracketed_at levels scope.now) (spec.uses_at levels scope.now) scope.now more) scope.now at look_ups tokens.now behind.now) }
 {
-    if scope.numbered {
+    if !scope.takes_else {
         return Err(unexpected(tokens));
     }
     let (value, rest) = operand_within(alloc, scope, levels, more, behind)?;

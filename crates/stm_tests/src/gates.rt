@@ -13,6 +13,7 @@ use std::sync::atomic::{AtomicBool, AtomicU64, Ordering};
 use std::test::Fail;
 use std::thread;
 use std::thread::Threads;
+use stm_history::{Sequence, Text};
 use stm_program::Level;
 use stm_txn::Store;
 use stm_workers::{Gate, Gathered, Hall, Job, JobEnd, run_workers};
@@ -148,12 +149,14 @@ fn report_first(reported: &mut String, ends: &[JobEnd]) -> Result<(), AllocError
     }
 }
 
-/// How many attempts of job 0 were made.
-fn attempts_of_first(attempts: &[u32]) -> u32 {
-    match attempts.first() {
-        Some(made) => *made,
-        None => 0,
+/// Adds the keys over which commits of job 0 failed before its last attempt.
+fn report_lost(reported: &mut String, lost: &[Sequence<Text>]) -> Result<(), AllocError> {
+    if let Some(keys) = lost.first() {
+        for key in keys.as_slice() {
+            write!(reported, "lost over {}, ", key.as_str())?;
+        }
     }
+    Ok(())
 }
 
 /// Whether `p` is "1" now.
@@ -175,7 +178,7 @@ fn p_now(hall: &Hall) -> Result<&'static str, AllocError> {
 }
 
 /// What is shown of a run, in a line: whether the jobs were at work at once, how many committed, the store's revision, whether `p` is
-/// "1", and of job 0 how many keys it fetched, how many attempts of it were made, and how it ended.
+/// "1", and of job 0 how many keys it fetched, over which keys its commits failed before its last attempt, and how it ended.
 fn report_run(
     reported: &mut String,
     holding: &Holding,
@@ -184,13 +187,13 @@ fn report_run(
     let put = p_now(&gathered.hall)?;
     write!(
         reported,
-        "{}: {} committed, revision {}, p {put}, {} fetched, {} attempts, ",
+        "{}: {} committed, revision {}, p {put}, {} fetched, ",
         holding.manner(),
         gathered.committed,
         gathered.hall.revision(),
-        holding.fetches.load(Ordering::SeqCst),
-        attempts_of_first(gathered.attempts.as_slice())
+        holding.fetches.load(Ordering::SeqCst)
     )?;
+    report_lost(reported, gathered.lost.as_slice())?;
     report_first(reported, gathered.ends.as_slice())
 }
 
@@ -301,7 +304,7 @@ const ROWS: [Row; 12] = [
         is_alone: false,
         texts: (PUT_P, PUT_Q),
         is_sent_again: false,
-        expected: "at once: 2 committed, revision 3, p is 1, 0 fetched, 1 attempts, commit 1 at 3; ",
+        expected: "at once: 2 committed, revision 3, p is 1, 0 fetched, commit 1 at 3; ",
     },
     // One worker runs one job after another.
     Row {
@@ -309,7 +312,7 @@ const ROWS: [Row; 12] = [
         is_alone: true,
         texts: (PUT_P, PUT_Q),
         is_sent_again: false,
-        expected: "serial: 2 committed, revision 3, p is 1, 0 fetched, 1 attempts, commit 0 at 2; ",
+        expected: "serial: 2 committed, revision 3, p is 1, 0 fetched, commit 0 at 2; ",
     },
     // Each job has a list of one key, which is fetched before its commit.
     Row {
@@ -317,14 +320,14 @@ const ROWS: [Row; 12] = [
         is_alone: false,
         texts: (LISTED_P, LISTED_Q),
         is_sent_again: false,
-        expected: "at once: 2 committed, revision 3, p is 1, 1 fetched, 1 attempts, commit 1 at 3; ",
+        expected: "at once: 2 committed, revision 3, p is 1, 1 fetched, commit 1 at 3; ",
     },
     Row {
         place: Place::Commit,
         is_alone: true,
         texts: (LISTED_P, LISTED_Q),
         is_sent_again: false,
-        expected: "serial: 2 committed, revision 3, p is 1, 1 fetched, 1 attempts, commit 0 at 2; ",
+        expected: "serial: 2 committed, revision 3, p is 1, 1 fetched, commit 0 at 2; ",
     },
     // No lock is held before the fetch of a list, which is one fetch for all its keys. Job 0 reads what job 1 put.
     Row {
@@ -332,7 +335,7 @@ const ROWS: [Row; 12] = [
         is_alone: false,
         texts: (LISTED_READS, PUT_Q),
         is_sent_again: false,
-        expected: "at once: 2 committed, revision 3, p is 1, 1 fetched, 1 attempts, commit 1 at 3; ",
+        expected: "at once: 2 committed, revision 3, p is 1, 1 fetched, commit 1 at 3; ",
     },
     // Job 1 puts a key of the list of job 0 before that sends its commit. The next attempt has the list from the answers that came with the
     // failed commit, so it is fetched once.
@@ -341,7 +344,7 @@ const ROWS: [Row; 12] = [
         is_alone: false,
         texts: (LISTED_READS, PUT_Q),
         is_sent_again: true,
-        expected: "at once: 2 committed, revision 3, p is 1, 1 fetched, 2 attempts, commit 1 at 3; ",
+        expected: "at once: 2 committed, revision 3, p is 1, 1 fetched, lost over q, commit 1 at 3; ",
     },
     // Job 0 is about to fetch while job 1 commits, so no lock is held there. It reads what job 1 put.
     Row {
@@ -349,7 +352,7 @@ const ROWS: [Row; 12] = [
         is_alone: false,
         texts: (READ_Q, PUT_Q),
         is_sent_again: false,
-        expected: "at once: 2 committed, revision 3, p is 1, 1 fetched, 1 attempts, commit 1 at 3; ",
+        expected: "at once: 2 committed, revision 3, p is 1, 1 fetched, commit 1 at 3; ",
     },
     // With one worker nobody commits while job 0 stands before its fetch: so it is held there, in vain, and reads an absent key.
     Row {
@@ -357,7 +360,7 @@ const ROWS: [Row; 12] = [
         is_alone: true,
         texts: (READ_Q, PUT_Q),
         is_sent_again: false,
-        expected: "serial: 2 committed, revision 3, p is not 1, 1 fetched, 1 attempts, commit 0 at 2; ",
+        expected: "serial: 2 committed, revision 3, p is not 1, 1 fetched, commit 0 at 2; ",
     },
     // Job 0 reads a key that job 1 puts before job 0's commit is sent. It may send no more.
     Row {
@@ -365,7 +368,7 @@ const ROWS: [Row; 12] = [
         is_alone: false,
         texts: (READ_Q, PUT_Q),
         is_sent_again: false,
-        expected: "at once: 1 committed, revision 2, p is not 1, 1 fetched, 1 attempts, gave up over q; ",
+        expected: "at once: 1 committed, revision 2, p is not 1, 1 fetched, gave up over q; ",
     },
     // The same, but it may send one more: that one is evaluated on the answer that came with the failed commit, so the key is fetched once.
     Row {
@@ -373,7 +376,7 @@ const ROWS: [Row; 12] = [
         is_alone: false,
         texts: (READ_Q, PUT_Q),
         is_sent_again: true,
-        expected: "at once: 2 committed, revision 3, p is 1, 1 fetched, 2 attempts, commit 1 at 3; ",
+        expected: "at once: 2 committed, revision 3, p is 1, 1 fetched, lost over q, commit 1 at 3; ",
     },
     // Both jobs have one program: job 1 commits first, and job 0 gives up. So their ends could be exchanged, and would still stand.
     Row {
@@ -381,7 +384,7 @@ const ROWS: [Row; 12] = [
         is_alone: false,
         texts: (EXTEND_P, EXTEND_P),
         is_sent_again: false,
-        expected: "at once: 1 committed, revision 2, p is not 1, 1 fetched, 1 attempts, gave up over p; ",
+        expected: "at once: 1 committed, revision 2, p is not 1, 1 fetched, gave up over p; ",
     },
     // Job 1 puts both keys between the two fetches of job 0. That reads them as they were together, and aborts with what it has read: nothing.
     Row {
@@ -389,7 +392,7 @@ const ROWS: [Row; 12] = [
         is_alone: false,
         texts: (READ_BOTH, PUT_BOTH),
         is_sent_again: false,
-        expected: "at once: 1 committed, revision 2, p is not 1, 2 fetched, 1 attempts, abort  on a of 1 on b of 1; ",
+        expected: "at once: 1 committed, revision 2, p is not 1, 2 fetched, abort  on a of 1 on b of 1; ",
     },
 ];
 

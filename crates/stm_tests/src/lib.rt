@@ -54,6 +54,8 @@ mod readers;
 #[cfg(test)]
 mod recipes;
 #[cfg(test)]
+mod restored;
+#[cfg(test)]
 mod revisions;
 #[cfg(test)]
 mod shared;

@@ -5,7 +5,7 @@ use Rattle.std.specs.Map.{values_of}
 use Rattle.std.proofs.lemmas.List.Elements.{All-nil, All-push}
 use Rattle.stm_job_texts.specs.declared.store_call.StoreCall.{StoreCall}
 use Rattle.stm_job.specs.declared.job.Job.{Job}
-use Rattle.stm_job_texts.specs.Outcomes.{Tally, Counts}
+use Rattle.stm_job_texts.specs.Tallies.{Tally, Counts}
 use Rattle.stm_job_texts.proofs.TallyLemmas.{no_text}
 use Rattle.stm_threading.specs.Running.{AreCounted, HasCounted, IsOutcome}
 use Rattle.stm_txn.specs.Standing.{Setup}

@@ -37,14 +37,14 @@ of_both (Err e) P Q R p q follows = tt
 
 -- the text is of the hall that the jobs were run to, from the one over this store
 pub is_of_run : (shown : Shown) (start : Setup) (calls : List StoreCall) (jobs : List Job) (text : List ℕ) (standing : Standing) (ends : List JobEnd)
-    (attempts : List ℕ) (committed : ℕ) (before after : JournalState) → standing ≡ store_after start calls → before ≡ made_over standing
-    → RanTo before jobs ends attempts committed after → IsTextOf shown ends attempts (length jobs) committed after text
+    (lost : List (List (List ℕ))) (committed : ℕ) (before after : JournalState) → standing ≡ store_after start calls → before ≡ made_over standing
+    → RanTo before jobs ends lost committed after → IsTextOf shown ends lost (length jobs) committed after text
     → IsOfRun shown start calls jobs ends text
-is_of_run shown start calls jobs text standing ends attempts committed before after stands made ran shows = record {
-  attempts = attempts;
+is_of_run shown start calls jobs text standing ends lost committed before after stands made ran shows = record {
+  lost = lost;
   committed = committed;
   after = after;
-  ran = subst (λ (hall : JournalState). RanTo hall jobs ends attempts committed after) (made ∙ ap made_over stands) ran;
+  ran = subst (λ (hall : JournalState). RanTo hall jobs ends lost committed after) (made ∙ ap made_over stands) ran;
   shows = shows;
 }
 

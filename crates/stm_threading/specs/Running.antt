@@ -21,7 +21,8 @@ use Rattle.stm_threading.specs.declared.running.JobsFault.TheVariants.{OutOfMemo
 use Rattle.stm_job_texts.specs.Accepting.{Sorted, task_of, accepted, opening_of}
 use Rattle.stm_job_texts.specs.StoreAfter.{store_after}
 use Rattle.stm_job_texts.specs.Lines.{AreLinesOf}
-use Rattle.stm_job_texts.specs.Outcomes.{IsFrontOf, Tally, Counts, tally_text}
+use Rattle.stm_job_texts.specs.Outcomes.{IsFrontOf, tally_text}
+use Rattle.stm_job_texts.specs.Tallies.{Tally, Counts}
 use Rattle.stm_threading.specs.declared.shown.Shown.{Shown}
 use Rattle.stm_threading.specs.declared.shown.Shown.TheVariants.{Values, Ends, Outcome}
 use Rattle.stm_threading.specs.declared.shown.Printing.{Printing}
@@ -31,19 +32,19 @@ use Rattle.stm_txn.specs.Standing.{Setup}
 -- ---- the run
 
 -- what is printed of a run, with the ends of the jobs or without; or the front of the line of its outcome
-abbrev pub IsTextOf : Shown → List JobEnd → List ℕ → ℕ → ℕ → JournalState → List ℕ → Type 0
-IsTextOf Values ends attempts jobs committed after text = AreLinesOf false ends attempts jobs committed after.standing.history text
-IsTextOf Ends ends attempts jobs committed after text = AreLinesOf true ends attempts jobs committed after.standing.history text
-IsTextOf Outcome ends attempts jobs committed after text = IsFrontOf ends after text
+abbrev pub IsTextOf : Shown → List JobEnd → List (List (List ℕ)) → ℕ → ℕ → JournalState → List ℕ → Type 0
+IsTextOf Values ends lost jobs committed after text = AreLinesOf false ends lost jobs committed after.standing.history text
+IsTextOf Ends ends lost jobs committed after text = AreLinesOf true ends lost jobs committed after.standing.history text
+IsTextOf Outcome ends lost jobs committed after text = IsFrontOf ends after text
 
 -- The text is that of a run of these jobs from a hall over the store that opens so and has taken these calls: what stands in it is the hall that
 -- the run came to, and each job has its end there.
 pub record IsOfRun (shown : Shown) (start : Setup) (calls : List StoreCall) (jobs : List Job) (ends : List JobEnd) (text : List ℕ) : Type 0 where
-  pub attempts : List ℕ
+  pub lost : List (List (List ℕ))
   pub committed : ℕ
   pub after : JournalState
-  pub ran : RanTo (made_over (store_after start calls)) jobs ends attempts committed after
-  pub shows : IsTextOf shown ends attempts (length jobs) committed after text
+  pub ran : RanTo (made_over (store_after start calls)) jobs ends lost committed after
+  pub shows : IsTextOf shown ends lost (length jobs) committed after text
 
 -- the text is the front of the line of the outcome of such a run
 abbrev pub IsOutcome : Setup → List StoreCall → List Job → List ℕ → Type 0

@@ -112,8 +112,8 @@ fn shown_of(
     gathered: &Gathered,
     shown: Shown,
 ) -> Result<String, AllocError>
-    requires { length gathered.now.attempts.items ≡ length gathered.now.ends.items }
-    ensures { IfOk result (λ text. IsTextOf shown gathered.now.ends.items gathered.now.attempts.items jobs gathered.now.committed gathered.now.hall
+    requires { length gathered.now.lost.items ≡ length gathered.now.ends.items }
+    ensures { IfOk result (λ text. IsTextOf shown gathered.now.ends.items gathered.now.lost.items jobs gathered.now.committed gathered.now.hall
         (string_bytes text)) }
 {
     match shown {
@@ -140,8 +140,8 @@ fn shown_run(
     gathered: Gathered,
     shown: Shown,
 ) -> Result<Printed, JobsFault>
-    requires { length gathered.attempts.items ≡ length gathered.ends.items }
-    ensures shows { IfOk result (λ p. IsTextOf shown gathered.ends.items gathered.attempts.items jobs gathered.committed gathered.hall (string_bytes p.text)) }
+    requires { length gathered.lost.items ≡ length gathered.ends.items }
+    ensures shows { IfOk result (λ p. IsTextOf shown gathered.ends.items gathered.lost.items jobs gathered.committed gathered.hall (string_bytes p.text)) }
     ensures ends { IfOk result (λ p. p.ends ≡ gathered.ends.items) }
     ensures fault { IfErr result (λ fault. fault ≡ OutOfMemory) }
 {
@@ -209,7 +209,7 @@ fn count_run<R: Threads + Wait + Sync>(
     ensures fault { IfErr result (IsBrokenOff opening calls.now jobs.now) }
 {
     let printed = run_once(rt, alloc, opening, calls, jobs, workers, Shown::Outcome)?;
-    count_one(tally, Text::new(printed.text), made)?;
+    count_one(tally, Text::new(printed.text), u64::from(made))?;
     Ok(())
 }
 

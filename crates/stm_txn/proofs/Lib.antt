@@ -17,3 +17,4 @@ pub mod WorkedExamples
 pub mod Polling
 pub mod Copied
 pub mod Limits
+pub mod RestoredLemmas

@@ -4,6 +4,7 @@ pub mod PresentKeys
 pub mod Moves
 pub mod Grants
 pub mod Standing
+pub mod Restored
 pub mod WatchReported
 pub mod Advances
 pub mod Store

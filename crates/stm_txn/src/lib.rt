@@ -12,10 +12,12 @@ pub mod laws;
 mod lease_calls;
 mod refuse;
 mod refused;
+mod restored;
 mod store;
 mod watch_calls;
 mod writes;
 
+pub use restored::{Checkpoint, KeptLease};
 pub use stm_history::ReadAnswer;
 pub use stm_keys::{Change, Event, HIGHEST_REVISION, KeyState, Keys, Sequence, Text};
 pub use stm_outcome::{

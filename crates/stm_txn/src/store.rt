@@ -107,7 +107,9 @@ fn notify_watchers(watchers: &mut Watchers, keys: &Keys)
 
 impl Store {
     ghost use Rattle.stm_outcome.specs.Checks.{has_clash, fault_of};
-    ghost use Rattle.stm_txn.specs.Leasing.{attached_of, AttachedToLive, lease_now};
+    ghost use Rattle.stm_txn.specs.Leasing.{attached_of, AttachedToLive, AttachedAsStored, lease_now};
+    ghost use Rattle.stm_outcome.specs.Numbers.{LeasesFit};
+    ghost use Rattle.stm_leases.specs.Leases.{lease_of};
     ghost use Rattle.stm_outcome.specs.Outcome.{with_changes, answer_of};
     ghost use Rattle.stm_outcome.specs.Numbers.{AnswerFits, StatesFit};
     ghost use Rattle.stm_txn.specs.Standing.{opening, at_revision, IsRefusalOf, Returns, refusal_of, transacted, made, written, as_defined};
@@ -121,6 +123,32 @@ impl Store {
         ensures log { IfOk result (λ s. StandsFor s.standing.live []) }
     {
         Store::with_revision(alloc, 1)
+    }
+
+    /// A store of these keys and leases, with watchers of which there are none. It takes no memory.
+    pub(crate) fn with_parts(
+        alloc: Global,
+        keys: Keys,
+        leases: Leases,
+        moment: u64,
+        watchers: Watchers,
+        limit: OperationLimit,
+    ) -> Store
+        requires attached { AttachedAsStored (lease_of leases) keys.history }
+        requires fits { LeasesFit keys.history }
+        requires floor { keys.floor ≡ 0 }
+        requires unwatched { watchers ≡ no_watchers }
+        ensures standing { result.standing ≡ record { history = keys.history; floor = 0; limit = limit; live = leases.live; moment = moment; watchers = [] } }
+        ensures opened { result.opened ≡ keys.opened }
+    {
+        Store {
+            keys,
+            leases,
+            moment,
+            watchers,
+            limit,
+            alloc,
+        }
     }
 
     /// An empty store whose counter is `start`, at moment 0, with watchers of which there are none. It takes no memory.

@@ -1,5 +1,6 @@
 //! The calls of a store about its watchers.
-ghost use Rattle.std.specs.Prelude.{◌≡◌, IfOk, OnErr};
+ghost use Rattle.std.specs.Prelude.{◌≡◌, IfOk, OnErr, is_some};
+ghost use Rattle.std.specs.List.{list_any};
 ghost use Rattle.stm_txn.specs.WatchReported.{watch_reported, poll_reported};
 
 use crate::store::Store;
@@ -84,6 +85,13 @@ impl Store {
         ensures { IsNextPending self.now.standing.history self.now.standing.watchers result }
     {
         self.watchers.next_ready()
+    }
+
+    /// Whether there is a watcher, one that was not cancelled. It takes no memory.
+    pub fn has_watchers(&self) -> bool
+        ensures { result ≡ list_any is_some self.now.standing.watchers }
+    {
+        self.watchers.has_any()
     }
 
     /// A poll, without the bounds of its numbers.

@@ -1,5 +1,6 @@
 //! The watchers, and what callers do with them.
-ghost use Rattle.std.specs.Prelude.{◌≡◌, ◌+◌, ◌-◌, ◌≤◌, ◌↔◌, ◌∷◌, ◌++◌, [], length, map, slice_index_or, Some, None, IfOk, IfSome, OnOk, OnErr, IsOk, IsSome};
+ghost use Rattle.std.specs.Prelude.{◌≡◌, ◌+◌, ◌-◌, ◌≤◌, ◌↔◌, ◌∷◌, ◌++◌, [], length, map, slice_index_or, Some, None, IfOk, IfSome, OnOk, OnErr, IsOk, IsSome, is_some};
+ghost use Rattle.std.specs.List.{list_any};
 ghost use Rattle.stm_history.specs.Cut.{cut};
 ghost use Rattle.stm_history.specs.History.{History, now, add_revision};
 ghost use Rattle.stm_keys.specs.Events.{change_of_event};
@@ -211,6 +212,13 @@ impl Watchers {
         ensures pending { (h : History) → StandFor h self.now → IsNextPending h (watchings self.now) result }
     {
         self.table.next_ready()
+    }
+
+    /// Whether there is a watcher, one that was not cancelled. It takes no memory.
+    pub fn has_any(&self) -> bool
+        ensures { result ≡ list_any is_some self.now.places }
+    {
+        self.table.has_any()
     }
 
     /// Whether the watcher at a place is lost.

@@ -1,5 +1,5 @@
 -- What a worker does for a job, step by step.
-use Rattle.std.proofs.Common.{◌≡◌, ◌⊎◌, inl, inr, ℕ, zero, suc, ◌+◌, ◌≤◌, Bool, true, false, List, [], None, Some, Result, Ok, Err, IfOk, IfErr}
+use Rattle.std.proofs.Common.{◌≡◌, ◌⊎◌, inl, inr, ℕ, zero, suc, ◌+◌, ◌≤◌, Bool, true, false, List, [], ◌∷◌, ◌++◌, None, Some, Result, Ok, Err, IfOk, IfErr}
 use Rattle.std.proofs.Common.{refl, sym, ◌∙◌, ap, subst, arith}
 use Rattle.stm_attempt.specs.declared.next.Next.TheVariants.{FetchAll, Fetch}
 use Rattle.stm_attempt.specs.AttemptState.{AttemptState, begun}
@@ -11,6 +11,7 @@ use Rattle.stm_journal.specs.JournalState.{JournalState}
 use Rattle.stm_journal.specs.Verdicts.{verdict_of, CommitReturns}
 use Rattle.stm_workers.specs.declared.attempts.AttemptOutcome.{AttemptOutcome}
 use Rattle.stm_workers.specs.declared.attempts.AttemptOutcome.TheVariants.{Ended, Again}
+use Rattle.stm_job.specs.Ends.{attempts_of}
 use Rattle.stm_job.specs.declared.job.Job.{Job}
 use Rattle.stm_job.specs.declared.job_end.JobEnd.{JobEnd}
 use Rattle.stm_workers.specs.declared.stop.Stop.{Stop}
@@ -95,14 +96,14 @@ pub ends_by : (handed : JournalState) (job : Job) (before : JobState) (is_last :
     IfOk result (IfEnded (λ (end : JobEnd). (end ≡ end_after verdict) × (committed_by verdict ≡ 0 → is_last ≡ true))) →
     IfOk result (IfEnded (λ (end : JobEnd). HasEnded handed job before is_last end seen))
 ends_by handed job before is_last verdict seen (Ok (Ended end)) tried reported = record { verdict = verdict; tried = tried; reported = reported.0; last = reported.1 }
-ends_by handed job before is_last verdict seen (Ok (Again next)) tried reported = tt
+ends_by handed job before is_last verdict seen (Ok (Again next key)) tried reported = tt
 ends_by handed job before is_last verdict seen (Err stop) tried reported = tt
 
 pub fails_by : (handed : JournalState) (job : Job) (before : JobState) (is_last : Bool) (verdict : Verdict) (seen : ℕ) (result : Result AttemptOutcome Stop) →
-    HasTried handed job before verdict seen → IfOk result (IfAgain (λ (next : AttemptState). (is_last ≡ false) × IsNextAttempt job verdict next)) →
-    IfOk result (IfAgain (λ (next : AttemptState). (is_last ≡ false) × HasFailed handed job before (state_of next seen)))
+    HasTried handed job before verdict seen → IfOk result (IfAgain (λ (next : AttemptState) (key : List ℕ). (is_last ≡ false) × IsNextAttempt job verdict next key)) →
+    IfOk result (IfAgain (λ (next : AttemptState) (key : List ℕ). (is_last ≡ false) × HasFailed handed job key before (state_of next seen)))
 fails_by handed job before is_last verdict seen (Ok (Ended end)) tried next = tt
-fails_by handed job before is_last verdict seen (Ok (Again attempt)) tried next = (next.0, record { verdict = verdict; tried = tried; next = next.1 })
+fails_by handed job before is_last verdict seen (Ok (Again attempt key)) tried next = (next.0, record { verdict = verdict; tried = tried; next = next.1 })
 fails_by handed job before is_last verdict seen (Err stop) tried next = tt
 
 pub stops_by : (handed : JournalState) (job : Job) (before : JobState) (seen : ℕ) (result : Result AttemptOutcome Stop) →
@@ -112,48 +113,63 @@ stops_by handed job before seen (Ok tried) want = tt
 stops_by handed job before seen (Err stop) want = inl want
 
 -- a verdict after which the job goes on
-pub at_again : (P : AttemptState → Type 0) (tried : AttemptOutcome) (next : AttemptState) → tried ≡ Again next → IfAgain P tried → P next
-at_again P tried next is holds = subst (λ (t : AttemptOutcome). IfAgain P t) is holds
+pub at_again : (P : AttemptState → List ℕ → Type 0) (tried : AttemptOutcome) (next : AttemptState) (key : List ℕ) → tried ≡ Again next key → IfAgain P tried →
+    P next key
+at_again P tried next key is holds = subst (λ (t : AttemptOutcome). IfAgain P t) is holds
 
 pub at_ended : (P : JobEnd → Type 0) (tried : AttemptOutcome) (end : JobEnd) → tried ≡ Ended end → IfEnded P tried → P end
 at_ended P tried end is holds = subst (λ (t : AttemptOutcome). IfEnded P t) is holds
 
 -- ---- a job
 
+-- one more commit has failed
+one_failed : (handed : JournalState) (job : Job) (keys : List (List ℕ)) (key : List ℕ) (before between after : JobState) → HaveFailed handed job keys before between →
+    HasFailed handed job key between after → HaveFailed handed job (keys ++ key ∷ []) before after
+one_failed handed job [] key before between after none fails = (after, subst (λ (s : JobState). HasFailed handed job key s after) none fails, refl)
+one_failed handed job (first ∷ keys) key before between after (next, failed, more) fails =
+    (next, failed, one_failed handed job keys key next between after more fails)
+
+one_made : (keys : List (List ℕ)) (key : List ℕ) → attempts_of (keys ++ key ∷ []) ≡ attempts_of keys + 1
+one_made [] key = refl
+one_made (first ∷ keys) key = let more = one_made keys key in omega (arith, more)
+
 -- where its attempts stand before the one with this number, from 1
-abbrev pub HasLost : JournalState → Job → ℕ → ℕ → JobState → Type 0
-HasLost handed job seen number last = (failed : ℕ) × (number ≡ failed + 1) × HaveFailed handed job failed (state_of (begun job.level []) seen) last
+abbrev pub HasLost : JournalState → Job → ℕ → ℕ → List (List ℕ) → JobState → Type 0
+HasLost handed job seen number keys last = (number ≡ attempts_of keys) × HaveFailed handed job keys (state_of (begun job.level []) seen) last
 
-pub first_is_next : (handed : JournalState) (job : Job) (seen : ℕ) (attempt : AttemptState) → attempt ≡ begun job.level [] →
-    HasLost handed job seen 1 (state_of attempt seen)
-first_is_next handed job seen attempt is = (zero, refl, ap (λ (a : AttemptState). state_of a seen) is)
+pub first_is_next : (handed : JournalState) (job : Job) (seen : ℕ) (attempt : AttemptState) (keys : List (List ℕ)) → keys ≡ [] → attempt ≡ begun job.level [] →
+    HasLost handed job seen 1 keys (state_of attempt seen)
+first_is_next handed job seen attempt keys none is =
+    subst (λ (ks : List (List ℕ)). HasLost handed job seen 1 ks (state_of attempt seen)) (sym none) (refl, ap (λ (a : AttemptState). state_of a seen) is)
 
-pub one_lost : (handed : JournalState) (job : Job) (seen number : ℕ) (before after : JobState) → HasLost handed job seen number before →
-    HasFailed handed job before after →
-    HasLost handed job seen (number + 1) after
-one_lost handed job seen number before after lost fails = (suc lost.0, let n = lost.1 in omega (arith, n), (before, lost.2, fails))
+pub one_lost : (handed : JournalState) (job : Job) (seen number : ℕ) (keys noted : List (List ℕ)) (key : List ℕ) (before after : JobState) →
+    HasLost handed job seen number keys before → HasFailed handed job key before after → noted ≡ keys ++ key ∷ [] →
+    HasLost handed job seen (number + 1) noted after
+one_lost handed job seen number keys noted key before after lost fails is =
+    subst (λ (ks : List (List ℕ)). HasLost handed job seen (number + 1) ks after) (sym is)
+    (ap (λ (n : ℕ). n + 1) lost.0 ∙ sym (one_made keys key), one_failed handed job keys key (state_of (begun job.level []) seen) before after lost.1 fails)
 
-comes_to : (handed : JournalState) (job : Job) (seen number : ℕ) (last : JobState) (Then : JobState → Type 0) → HasLost handed job seen number last →
-    number ≤ job.limit → Then last →
-    ComesTo handed job seen number Then
-comes_to handed job seen number last Then lost within is =
-    record { failed = lost.0; counted = lost.1; within = within; last = last; failures = lost.2; then_is = is }
+comes_to : (handed : JournalState) (job : Job) (seen number : ℕ) (keys : List (List ℕ)) (last : JobState) (Then : JobState → Type 0) →
+    HasLost handed job seen number keys last → number ≤ job.limit → Then last →
+    ComesTo handed job seen keys Then
+comes_to handed job seen number keys last Then lost within is =
+    record { within = (let n = lost.0 in omega (arith, n, within)); last = last; failures = lost.1; then_is = is }
 
 -- the attempt with this number ends the job by its verdict; the last one has the number of the limit
-pub ends_at : (handed : JournalState) (job : Job) (seen number after : ℕ) (last : JobState) (is_last : Bool) (end : JobEnd) →
-    HasLost handed job seen number last → number ≤ job.limit →
+pub ends_at : (handed : JournalState) (job : Job) (seen number after : ℕ) (keys : List (List ℕ)) (last : JobState) (is_last : Bool) (end : JobEnd) →
+    HasLost handed job seen number keys last → number ≤ job.limit →
     (is_last ≡ true → number ≡ job.limit) → HasEnded handed job last is_last end after →
-    ComesTo handed job seen number (EndsByVerdict handed job end after number)
-ends_at handed job seen number after last is_last end lost within of_last ended =
-    comes_to handed job seen number last (EndsByVerdict handed job end after number) lost within
-    (record { verdict = ended.verdict; tried = ended.tried; reported = ended.reported; last = λ none. of_last (ended.last none) })
+    ComesTo handed job seen keys (EndsByVerdict handed job end after (attempts_of keys))
+ends_at handed job seen number after keys last is_last end lost within of_last ended =
+    comes_to handed job seen number keys last (EndsByVerdict handed job end after (attempts_of keys)) lost within
+    (record { verdict = ended.verdict; tried = ended.tried; reported = ended.reported; last = λ none. sym lost.0 ∙ of_last (ended.last none) })
 
 -- it goes no further
-pub stops_at : (handed : JournalState) (job : Job) (seen number after : ℕ) (last : JobState) (stop : Stop) → HasLost handed job seen number last →
-    number ≤ job.limit →
-    HasStopped handed job last stop after → ComesTo handed job seen number (λ at. HasStopped handed job at stop after)
-stops_at handed job seen number after last stop lost within stopped =
-    comes_to handed job seen number last (λ at. HasStopped handed job at stop after) lost within stopped
+pub stops_at : (handed : JournalState) (job : Job) (seen number after : ℕ) (keys : List (List ℕ)) (last : JobState) (stop : Stop) →
+    HasLost handed job seen number keys last → number ≤ job.limit →
+    HasStopped handed job last stop after → ComesTo handed job seen keys (λ at. HasStopped handed job at stop after)
+stops_at handed job seen number after keys last stop lost within stopped =
+    comes_to handed job seen number keys last (λ at. HasStopped handed job at stop after) lost within stopped
 
 -- which is the job's end, unless memory ran out
 stop_ends : (handed : JournalState) (job : Job) (end : JobEnd) (after : ℕ) (last : JobState) (stop : Stop) → job_end_reported stop ≡ Some end →
@@ -163,11 +179,9 @@ stop_ends handed job end after last stop reported (inl want) =
     let none : None ≡ Some end = sym (ap job_end_reported want) ∙ reported in absurd (cc)
 stop_ends handed job end after last stop reported (inr stopped) = record { stop = stop; stopped = stopped; reported = reported }
 
-pub ends_by_stop : (handed : JournalState) (job : Job) (seen after attempts : ℕ) (stop : Stop) (end : JobEnd) → job_end_reported stop ≡ Some end →
-    ComesTo handed job seen attempts (λ last. HasStopped handed job last stop after) → HasCome handed job seen end after attempts
-ends_by_stop handed job seen after attempts stop end reported came = inr (record {
-  failed = came.failed;
-  counted = came.counted;
+pub ends_by_stop : (handed : JournalState) (job : Job) (seen after : ℕ) (lost : List (List ℕ)) (stop : Stop) (end : JobEnd) → job_end_reported stop ≡ Some end →
+    ComesTo handed job seen lost (λ last. HasStopped handed job last stop after) → HasCome handed job seen end after lost
+ends_by_stop handed job seen after lost stop end reported came = inr (record {
   within = came.within;
   last = came.last;
   failures = came.failures;

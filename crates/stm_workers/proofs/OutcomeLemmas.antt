@@ -1,5 +1,5 @@
 -- What an attempt that was not the last one counts, from its verdict.
-use Rattle.std.proofs.Common.{◌≡◌, ℕ, ◌+◌, Result, Ok, Err, IfOk, OnErr, sym, ◌∙◌, ap, arith}
+use Rattle.std.proofs.Common.{◌≡◌, ℕ, ◌+◌, List, Result, Ok, Err, IfOk, OnErr, sym, ◌∙◌, ap, arith}
 use Rattle.stm_attempt.specs.AttemptState.{AttemptState}
 use Rattle.stm_job.specs.declared.job.Job.{Job}
 use Rattle.stm_job.specs.declared.job_end.JobEnd.{JobEnd}
@@ -13,15 +13,15 @@ use Rattle.stm_workers.specs.AttemptOutcomes.{IfEnded, IfAgain}
 pub ended_counts : (result : Result AttemptOutcome Stop) (before after added : ℕ) → after ≡ before + added →
     IfOk result (IfEnded (λ (end : JobEnd). counted_end end ≡ added)) → IfOk result (IfEnded (λ (end : JobEnd). after ≡ before + counted_end end))
 ended_counts (Ok (Ended end)) before after added sum same = sum ∙ ap (λ (n : ℕ). before + n) (sym same)
-ended_counts (Ok (Again next)) before after added sum same = tt
+ended_counts (Ok (Again next key)) before after added sum same = tt
 ended_counts (Err stop) before after added sum same = tt
 
 -- a verdict after which the job goes on counts nothing
 pub again_counts : (job : Job) (result : Result AttemptOutcome Stop) (before after added : ℕ) → after ≡ before + added →
-    IfOk result (IfAgain (λ (next : AttemptState). IsOfJob job next × (added ≡ 0))) →
-    IfOk result (IfAgain (λ (next : AttemptState). IsOfJob job next × (after ≡ before)))
+    IfOk result (IfAgain (λ (next : AttemptState) (key : List ℕ). IsOfJob job next × (added ≡ 0))) →
+    IfOk result (IfAgain (λ (next : AttemptState) (key : List ℕ). IsOfJob job next × (after ≡ before)))
 again_counts job (Ok (Ended end)) before after added sum goes = tt
-again_counts job (Ok (Again next)) before after added sum goes = (goes.0, let none = goes.1 in omega (arith, sum, none))
+again_counts job (Ok (Again next key)) before after added sum goes = (goes.0, let none = goes.1 in omega (arith, sum, none))
 again_counts job (Err stop) before after added sum goes = tt
 
 pub stopped_counts : (result : Result AttemptOutcome Stop) (before after added : ℕ) → after ≡ before + added → OnErr result (added ≡ 0) →

@@ -21,12 +21,12 @@ use Rattle.stm_workers.specs.Calls.{HasGoneOn, HasKeptStore, takes_commits_of}
 use Rattle.stm_workers.proofs.LockedLemmas.{goes_on, has_not_gone, took_commits, took_nothing}
 
 -- the ends were gathered, and each stands
-pub ran_to : (before after : JournalState) (jobs : List Job) (ends : List JobEnd) (attempts : List ℕ) (begun : StartPoint) (committed : ℕ) →
+pub ran_to : (before after : JournalState) (jobs : List Job) (ends : List JobEnd) (lost : List (List (List ℕ))) (begun : StartPoint) (committed : ℕ) →
     begun ≡ start_point before → HasGoneOn before after → HasKeptStore before after → TookCommitsOf jobs before after →
-    (length ends ≡ length jobs) × (length attempts ≡ length jobs) → commits_in after.entries ≡ commits_in before.entries + count_by is_committed ends →
-    committed ≡ count_by is_committed ends → AllStand begun after jobs ends → HaveTheirRuns before jobs ends attempts →
-    RanTo before jobs ends attempts committed after
-ran_to before after jobs ends attempts begun committed began gone kept takes places commits counted stand ran = record {
+    (length ends ≡ length jobs) × (length lost ≡ length jobs) → commits_in after.entries ≡ commits_in before.entries + count_by is_committed ends →
+    committed ≡ count_by is_committed ends → AllStand begun after jobs ends → HaveTheirRuns before jobs ends lost →
+    RanTo before jobs ends lost committed after
+ran_to before after jobs ends lost begun committed began gone kept takes places commits counted stand ran = record {
   places = places.0;
   attempted = places.1;
   counted = counted;
@@ -138,13 +138,13 @@ at_fault begun hall jobs shown ends given cause reported same are is places faul
 pub at_ok : {A E : Type 0} (P : A → Type 0) (outcome : Result A E) (made : A) → outcome ≡ Ok made → IfOk outcome P → P made
 at_ok {A} {E} P outcome made is holds = subst (λ (r : Result A E). IfOk r P) is holds
 
--- the same run, by the hall, the ends and the attempts that were gathered
-pub ran_on : (before after reported : JournalState) (jobs : List Job) (ends given : List JobEnd) (attempts made : List ℕ) (committed : ℕ) → reported ≡ after →
-    given ≡ ends → made ≡ attempts → RanTo before jobs ends attempts committed after → RanTo before jobs given made committed reported
-ran_on before after reported jobs ends given attempts made committed same are were ran =
-    subst (λ (h : JournalState). RanTo before jobs given made committed h) (sym same)
-    (subst (λ (es : List JobEnd). RanTo before jobs es made committed after) (sym are)
-    (subst (λ (ns : List ℕ). RanTo before jobs ends ns committed after) (sym were) ran))
+-- the same run, by the hall, the ends and the keys that were gathered
+pub ran_on : (before after reported : JournalState) (jobs : List Job) (ends given : List JobEnd) (lost noted : List (List (List ℕ))) (committed : ℕ) → reported ≡ after →
+    given ≡ ends → noted ≡ lost → RanTo before jobs ends lost committed after → RanTo before jobs given noted committed reported
+ran_on before after reported jobs ends given lost noted committed same are were ran =
+    subst (λ (h : JournalState). RanTo before jobs given noted committed h) (sym same)
+    (subst (λ (es : List JobEnd). RanTo before jobs es noted committed after) (sym are)
+    (subst (λ (ks : List (List (List ℕ))). RanTo before jobs ends ks committed after) (sym were) ran))
 
 -- the seat that is handed back is the one that has drawn the jobs
 pub seat_handed : (size : Size) (seat given : JobSeat) → given ≡ seat → HasDrawnAll size seat → HasDrawnAll size given

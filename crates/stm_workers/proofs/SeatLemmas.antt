@@ -20,7 +20,7 @@ use Rattle.stm_workers.specs.Attempts.{HasCome, HasSomeRun}
 use Rattle.stm_workers.specs.Runs.{HasItsRun, HaveTheirRuns}
 use Rattle.stm_workers.specs.declared.worker.EndOf.{EndOf}
 use Rattle.stm_job.specs.Ends.{is_committed}
-use Rattle.stm_workers.specs.Drawn.{jobs_of, attempts_in, committed_in, ends_in, drawing, used_up, EachAtItsPlace, HasDrawnAll}
+use Rattle.stm_workers.specs.Drawn.{jobs_of, committed_in, lost_in, ends_in, drawing, used_up, EachAtItsPlace, HasDrawnAll}
 use Rattle.stm_workers.specs.Calls.{counted_end}
 
 -- ---- seats
@@ -121,9 +121,9 @@ ends_length : (ended : List EndOf) → length (ends_in ended) ≡ length ended
 ends_length [] = refl
 ends_length (e ∷ es) = ap (λ (k : ℕ). suc k) (ends_length es)
 
-attempts_length : (ended : List EndOf) → length (attempts_in ended) ≡ length ended
-attempts_length [] = refl
-attempts_length (e ∷ es) = ap (λ (k : ℕ). suc k) (attempts_length es)
+lost_length : (ended : List EndOf) → length (lost_in ended) ≡ length ended
+lost_length [] = refl
+lost_length (e ∷ es) = ap (λ (k : ℕ). suc k) (lost_length es)
 
 ends_counted : (ended : List EndOf) → count_by is_committed (ends_in ended) ≡ committed_in ended
 ends_counted [] = refl
@@ -136,10 +136,10 @@ pub sorted_length : (ended sorted : List EndOf) (ends : List JobEnd) → IsPermu
 sorted_length ended sorted ends moved are =
     ap (λ (l : List JobEnd). length l) are ∙ ends_length sorted ∙ length_permutation ended sorted moved
 
-pub sorted_attempts_length : (ended sorted : List EndOf) (attempts : List ℕ) → IsPermutation ended sorted → attempts ≡ attempts_in sorted →
-    length attempts ≡ length ended
-sorted_attempts_length ended sorted attempts moved are =
-    ap (λ (l : List ℕ). length l) are ∙ attempts_length sorted ∙ length_permutation ended sorted moved
+pub sorted_lost_length : (ended sorted : List EndOf) (lost : List (List (List ℕ))) → IsPermutation ended sorted → lost ≡ lost_in sorted →
+    length lost ≡ length ended
+sorted_lost_length ended sorted lost moved are =
+    ap (λ (l : List (List (List ℕ))). length l) are ∙ lost_length sorted ∙ length_permutation ended sorted moved
 
 pub sorted_counted : (ended sorted : List EndOf) (ends : List JobEnd) → IsPermutation ended sorted → ends ≡ ends_in sorted →
     count_by is_committed ends ≡ committed_in ended
@@ -305,41 +305,41 @@ ended_at (e ∷ es) zero end is = (omega arith, λ d. same e.end end is)
     same x y both = ap (end_or x) both
 ended_at (e ∷ es) (suc k) end is = let r = ended_at es k end is in (let low = r.0 in omega (arith, low), r.1)
 
-attempts_at : (es : List EndOf) (k made : ℕ) → slice_get (attempts_in es) k ≡ Some made → (d : EndOf) → (slice_index_or es k d).attempts ≡ made
-attempts_at [] k made is d = absurd (cc)
-attempts_at (e ∷ es) zero made is d = same e.attempts made is
+lost_at : (es : List EndOf) (k : ℕ) (keys : List (List ℕ)) → slice_get (lost_in es) k ≡ Some keys → (d : EndOf) → (slice_index_or es k d).lost ≡ keys
+lost_at [] k keys is d = absurd (cc)
+lost_at (e ∷ es) zero keys is d = same e.lost keys is
   where
-    number_or : ℕ → Option ℕ → ℕ
-    number_or other None = other
-    number_or other (Some x) = x
+    keys_or : List (List ℕ) → Option (List (List ℕ)) → List (List ℕ)
+    keys_or other None = other
+    keys_or other (Some x) = x
 
-    same : (x y : ℕ) → Some x ≡ Some y → x ≡ y
-    same x y both = ap (number_or x) both
-attempts_at (e ∷ es) (suc k) made is d = attempts_at es k made is d
+    same : (x y : List (List ℕ)) → Some x ≡ Some y → x ≡ y
+    same x y both = ap (keys_or x) both
+lost_at (e ∷ es) (suc k) keys is d = lost_at es k keys is d
 
 -- so each job has come to the end at its place
-pub sorted_ran : (ended sorted : List EndOf) (ends : List JobEnd) (attempts : List ℕ) → EachOnce (length ended) (jobs_of ended) →
-    IsPermutation ended sorted → IsNonDecreasingBy (λ (e : EndOf). e.job) sorted → ends ≡ ends_in sorted → attempts ≡ attempts_in sorted →
-    (handed : JournalState) (jobs : List Job) → All (HasItsRun handed jobs) ended → HaveTheirRuns handed jobs ends attempts
-sorted_ran ended sorted ends attempts each moved rises are were handed jobs ran place job end made job_is end_is made_is =
+pub sorted_ran : (ended sorted : List EndOf) (ends : List JobEnd) (lost : List (List (List ℕ))) → EachOnce (length ended) (jobs_of ended) →
+    IsPermutation ended sorted → IsNonDecreasingBy (λ (e : EndOf). e.job) sorted → ends ≡ ends_in sorted → lost ≡ lost_in sorted →
+    (handed : JournalState) (jobs : List Job) → All (HasItsRun handed jobs) ended → HaveTheirRuns handed jobs ends lost
+sorted_ran ended sorted ends lost each moved rises are were handed jobs ran place job end keys job_is end_is keys_are =
     let here = ended_at sorted place end (ap (λ (l : List JobEnd). slice_get l place) (sym are) ∙ end_is) in
-    let own : EndOf = record { job = place; end = end; attempts = made } in
-    let counted : (slice_index_or sorted place own).attempts ≡ made =
-    attempts_at sorted place made (ap (λ (l : List ℕ). slice_get l place) (sym were) ∙ made_is) own in
+    let own : EndOf = record { job = place; end = end; lost = keys } in
+    let noted : (slice_index_or sorted place own).lost ≡ keys =
+    lost_at sorted place keys (ap (λ (l : List (List (List ℕ))). slice_get l place) (sym were) ∙ keys_are) own in
     let found : (slice_index_or sorted place own).job ≡ 0 + place =
     in_order sorted 0 (length ended) rises (are_from_zero (length ended) ended sorted each moved) place own here.0 in
     let its : (slice_index_or sorted place own).job ≡ place = omega (arith, found) in
-    subst (λ (e : JobEnd). HasSomeRun handed job e made) (here.1 own)
-    (subst (λ (n : ℕ). HasSomeRun handed job (slice_index_or sorted place own).end n) counted
+    subst (λ (e : JobEnd). HasSomeRun handed job e keys) (here.1 own)
+    (subst (λ (ks : List (List ℕ)). HasSomeRun handed job (slice_index_or sorted place own).end ks) noted
     (All-permutation (HasItsRun handed jobs) ended sorted moved ran place own here.0 job (ap (λ (n : ℕ). slice_get jobs n) its ∙ job_is)))
 
 -- ---- a job that a worker brought to its end
 
 -- the same of the job at its place
-pub come_there : (handed : JournalState) (jobs : List Job) (place : ℕ) (job : Job) (seen : ℕ) (end : JobEnd) (after made : ℕ) → slice_get jobs place ≡ Some job →
-    HasCome handed job seen end after made → (other : Job) → slice_get jobs place ≡ Some other → HasCome handed other seen end after made
-come_there handed jobs place job seen end after made at came other is =
-    subst (λ (j : Job). HasCome handed j seen end after made) (same job other (sym at ∙ is)) came
+pub come_there : (handed : JournalState) (jobs : List Job) (place : ℕ) (job : Job) (seen : ℕ) (end : JobEnd) (after : ℕ) (lost : List (List ℕ)) → slice_get jobs place ≡ Some job →
+    HasCome handed job seen end after lost → (other : Job) → slice_get jobs place ≡ Some other → HasCome handed other seen end after lost
+come_there handed jobs place job seen end after lost at came other is =
+    subst (λ (j : Job). HasCome handed j seen end after lost) (same job other (sym at ∙ is)) came
   where
     job_or : Job → Option Job → Job
     job_or default None = default
@@ -350,10 +350,10 @@ come_there handed jobs place job seen end after made at came other is =
 
 -- and so has the run of which it is one
 pub some_run : (handed : JournalState) (jobs its : List Job) (job : Job) (ended : EndOf) (seen after : ℕ) → jobs ≡ its → slice_get jobs ended.job ≡ Some job →
-    HasCome handed job seen ended.end after ended.attempts → HasItsRun handed its ended
+    HasCome handed job seen ended.end after ended.lost → HasItsRun handed its ended
 some_run handed jobs its job ended seen after are at came other is =
     ∣ (
       seen,
       after,
-      come_there handed jobs ended.job job seen ended.end after ended.attempts at came other (ap (λ (js : List Job). slice_get js ended.job) are ∙ is),
+      come_there handed jobs ended.job job seen ended.end after ended.lost at came other (ap (λ (js : List Job). slice_get js ended.job) are ∙ is),
     ) ∣₁

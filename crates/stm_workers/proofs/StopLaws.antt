@@ -114,12 +114,12 @@ same_reported OutOfMemory job_end reported = absurd (cc)
 same_reported _ job_end reported =
     let same = some_of _ _ reported in (ap reported_end same, ap reported_reads same)
 
-by_come : (handed : JournalState) (job : Job) (seen : ℕ) (job_end : JobEnd) (after attempts : ℕ) (end : End) (reads : List ReadAnswer) →
+by_come : (handed : JournalState) (job : Job) (seen : ℕ) (job_end : JobEnd) (after : ℕ) (lost : List (List ℕ)) (end : End) (reads : List ReadAnswer) →
     reported_end job_end ≡ Some end →
-    reported_reads job_end ≡ Some reads → HasCome handed job seen job_end after attempts → RunsTo (run_on job.program reads) end
-by_come handed job seen job_end after attempts end reads reports on (inl came) =
+    reported_reads job_end ≡ Some reads → HasCome handed job seen job_end after lost → RunsTo (run_on job.program reads) end
+by_come handed job seen job_end after lost end reads reports on (inl came) =
     absurd (not_by_verdict came.then_is.verdict end (sym (ap reported_end came.then_is.reported) ∙ reports))
-by_come handed job seen job_end after attempts end reads reports on (inr came) =
+by_come handed job seen job_end after lost end reads reports on (inr came) =
     let same = same_reported came.then_is.stop job_end came.then_is.reported in
     by_stop handed job came.then_is.stopped.at came.then_is.stop reads end (same.0 ∙ reports) (same.1 ∙ on) came.then_is.stopped.is_stop
 
@@ -141,10 +141,10 @@ the_run {A} (EndedRun own) end some is = (own, refl, ∥∥₁_elim some (Coded-
         run_of : (x y : Run) → EndedRun x ≡ EndedRun y → x ≡ y
         run_of x y reported = ap (run_or x) reported
 
-runs_to : (handed : JournalState) (job : Job) (job_end : JobEnd) (attempts : ℕ) (end : End) (reads : List ReadAnswer) → reported_end job_end ≡ Some end →
-    reported_reads job_end ≡ Some reads → HasSomeRun handed job job_end attempts → RunsTo (run_on job.program reads) end
-runs_to handed job job_end attempts end reads reports on some =
-    the_run (run_on job.program reads) end some (λ came. by_come handed job came.0 job_end came.1 attempts end reads reports on came.2)
+runs_to : (handed : JournalState) (job : Job) (job_end : JobEnd) (lost : List (List ℕ)) (end : End) (reads : List ReadAnswer) → reported_end job_end ≡ Some end →
+    reported_reads job_end ≡ Some reads → HasSomeRun handed job job_end lost → RunsTo (run_on job.program reads) end
+runs_to handed job job_end lost end reads reports on some =
+    the_run (run_on job.program reads) end some (λ came. by_come handed job came.0 job_end came.1 lost end reads reports on came.2)
 
 -- ---- the law
 
@@ -160,16 +160,16 @@ ends_alone begun hall job reads end one ran = record {
   ends = ran.2;
 }
 
-on_stop : (handed : JournalState) (begun : StartPoint) (hall : JournalState) (job : Job) (job_end : JobEnd) (attempts : ℕ) → is_serializable job.level ≡ true →
-    HasSomeRun handed job job_end attempts → IsBorneOut begun hall job job_end → OnStop job_end (IsEndAlone begun hall job)
-on_stop handed begun hall job (AbortedJob text reads) attempts serializable some borne =
-    ends_alone begun hall job reads (AbortedEnd text) (borne serializable) (runs_to handed job (AbortedJob text reads) attempts (AbortedEnd text) reads refl refl some)
-on_stop handed begun hall job (FaultedJob fault reads) attempts serializable some borne =
-    ends_alone begun hall job reads (FaultedEnd fault) (borne serializable) (runs_to handed job (FaultedJob fault reads) attempts (FaultedEnd fault) reads refl refl some)
-on_stop handed begun hall job _ attempts serializable some borne = tt
+on_stop : (handed : JournalState) (begun : StartPoint) (hall : JournalState) (job : Job) (job_end : JobEnd) (lost : List (List ℕ)) → is_serializable job.level ≡ true →
+    HasSomeRun handed job job_end lost → IsBorneOut begun hall job job_end → OnStop job_end (IsEndAlone begun hall job)
+on_stop handed begun hall job (AbortedJob text reads) lost serializable some borne =
+    ends_alone begun hall job reads (AbortedEnd text) (borne serializable) (runs_to handed job (AbortedJob text reads) lost (AbortedEnd text) reads refl refl some)
+on_stop handed begun hall job (FaultedJob fault reads) lost serializable some borne =
+    ends_alone begun hall job reads (FaultedEnd fault) (borne serializable) (runs_to handed job (FaultedJob fault reads) lost (FaultedEnd fault) reads refl refl some)
+on_stop handed begun hall job _ lost serializable some borne = tt
 
 pub stops_are_of_one_state : StopsAreOfOneState
-stops_are_of_one_state before jobs ends attempts committed after ran place job job_end job_is end_is serializable =
-    let made = there attempts place (subst (λ (n : ℕ). place < n) (sym ran.attempted) (within jobs place job job_is)) in
+stops_are_of_one_state before jobs ends lost committed after ran place job job_end job_is end_is serializable =
+    let made = there lost place (subst (λ (n : ℕ). place < n) (sym ran.attempted) (within jobs place job job_is)) in
     on_stop before (start_point before) after job job_end made.item serializable (ran.ran place job job_end made.item job_is end_is made.is)
     (ran.stand place job job_end job_is end_is).borne_out

@@ -1,4 +1,5 @@
 -- What an attempt came to.
+use Rattle.std.specs.Prelude.{ℕ, List}
 use Rattle.stm_attempt.specs.AttemptState.{AttemptState}
 use Rattle.stm_job.specs.declared.job_end.JobEnd.{JobEnd}
 use Rattle.stm_workers.specs.declared.attempts.AttemptOutcome.{AttemptOutcome}
@@ -6,8 +7,9 @@ use Rattle.stm_workers.specs.declared.attempts.AttemptOutcome.TheVariants.{Ended
 
 abbrev pub IfEnded : (JobEnd → Type 0) → AttemptOutcome → Type 0
 IfEnded says (Ended end) = says end
-IfEnded says (Again next) = Unit {0}
+IfEnded says (Again next key) = Unit {0}
 
-abbrev pub IfAgain : (AttemptState → Type 0) → AttemptOutcome → Type 0
+-- the next attempt, and the key over which the commit failed
+abbrev pub IfAgain : (AttemptState → List ℕ → Type 0) → AttemptOutcome → Type 0
 IfAgain says (Ended end) = Unit {0}
-IfAgain says (Again next) = says next
+IfAgain says (Again next key) = says next key

@@ -28,6 +28,7 @@ use Rattle.stm_journal.specs.declared.refusal.CommitRefusal.TheVariants.{Unvouch
 use Rattle.stm_journal.specs.JournalState.{JournalState}
 use Rattle.stm_journal.specs.declared.verdict.Verdict.{Verdict}
 use Rattle.stm_journal.specs.declared.verdict.Verdict.TheVariants.{Committed, Failed}
+use Rattle.stm_job.specs.Ends.{attempts_of}
 use Rattle.stm_job.specs.declared.job.Job.{Job}
 use Rattle.stm_job.specs.declared.job_end.JobEnd.{JobEnd}
 use Rattle.stm_job.specs.declared.job_end.JobEnd.TheVariants.{Committed as CommittedJob, Aborted as AbortedJob, Faulted as FaultedJob, Refused as RefusedJob}
@@ -223,21 +224,22 @@ HasStopped handed job before stop seen = (stop ≡ OutOfMemory) ⊎ StopsAt hand
 
 -- ---- a job
 
--- the attempt after a commit that failed
-abbrev pub IsNextAttempt : Job → Verdict → AttemptState → Type 0
-IsNextAttempt job (Committed index revision) next = ⊥
-IsNextAttempt job (Failed key seen modified answers) next = next ≡ begun_after job.level answers
+-- the attempt after a commit that failed, over this key
+abbrev pub IsNextAttempt : Job → Verdict → AttemptState → List ℕ → Type 0
+IsNextAttempt job (Committed index revision) next key = ⊥
+IsNextAttempt job (Failed failed seen modified answers) next key = (next ≡ begun_after job.level answers) × (key ≡ failed)
 
--- an attempt whose commit failed, and where the next one begins
-pub record HasFailed (handed : JournalState) (job : Job) (before after : JobState) : Type 0 where
+-- an attempt whose commit failed over this key, and where the next one begins
+pub record HasFailed (handed : JournalState) (job : Job) (key : List ℕ) (before after : JobState) : Type 0 where
   pub verdict : Verdict
   pub tried : HasTried handed job before verdict after.seen
-  pub next : IsNextAttempt job verdict after.attempt
+  pub next : IsNextAttempt job verdict after.attempt key
 
--- this many, one after the other
-abbrev pub HaveFailed : JournalState → Job → ℕ → JobState → JobState → Type 0
-HaveFailed handed job zero before after = after ≡ before
-HaveFailed handed job (suc n) before after = (between : JobState) × HaveFailed handed job n before between × HasFailed handed job between after
+-- those over these keys, one after the other
+abbrev pub HaveFailed : JournalState → Job → List (List ℕ) → JobState → JobState → Type 0
+HaveFailed handed job [] before after = after ≡ before
+HaveFailed handed job (key ∷ keys) before after =
+    (between : JobState) × HasFailed handed job key before between × HaveFailed handed job keys between after
 
 -- an attempt, the last one or not, that ends its job by the verdict on its commit: the commit was made, or no attempt comes after it
 pub record HasEnded (handed : JournalState) (job : Job) (before : JobState) (is_last : Bool) (end : JobEnd) (seen : ℕ) : Type 0 where
@@ -246,14 +248,12 @@ pub record HasEnded (handed : JournalState) (job : Job) (before : JobState) (is_
   pub reported : end ≡ end_after verdict
   pub last : committed_by verdict ≡ 0 → is_last ≡ true
 
--- A job has come to an attempt with this number, from 1 on, of which this is so: that is one more than the commits of it that failed before, and at
--- most the commits that it may send. The first attempt begins with nothing prefetched.
-pub record ComesTo (handed : JournalState) (job : Job) (seen attempts : ℕ) (Then : JobState → Type 0) : Type 0 where
-  pub failed : ℕ
-  pub counted : attempts ≡ failed + 1
-  pub within : attempts ≤ job.limit
+-- A job has come to an attempt of which this is so, after its commits have failed over exactly these keys: it has made one attempt more, at most as many as
+-- the commits that it may send. The first attempt begins with nothing prefetched.
+pub record ComesTo (handed : JournalState) (job : Job) (seen : ℕ) (lost : List (List ℕ)) (Then : JobState → Type 0) : Type 0 where
+  pub within : attempts_of lost ≤ job.limit
   pub last : JobState
-  pub failures : HaveFailed handed job failed (state_of (begun job.level []) seen) last
+  pub failures : HaveFailed handed job lost (state_of (begun job.level []) seen) last
   pub then_is : Then last
 
 -- the end by the verdict on a commit: it was made, or it failed and was the last one that the job may send
@@ -269,12 +269,12 @@ pub record EndsByStop (handed : JournalState) (job : Job) (end : JobEnd) (seen :
   pub stopped : StopsAt handed job before stop seen
   pub reported : job_end_reported stop ≡ Some end
 
--- A job that was begun by a worker which had seen the one revision has come to this end after `attempts` attempts, and the other was seen then. It
--- has sent at most as many commits as it may; and it gave up only where it has sent exactly that many, which all failed.
-abbrev pub HasCome : JournalState → Job → ℕ → JobEnd → ℕ → ℕ → Type 0
-HasCome handed job seen end after attempts =
-    ComesTo handed job seen attempts (EndsByVerdict handed job end after attempts) ⊎ ComesTo handed job seen attempts (EndsByStop handed job end after)
+-- A job that was begun by a worker which had seen the one revision has come to this end after commits that failed over these keys, and the other was seen
+-- then. It has sent at most as many commits as it may; and it gave up only where it has sent exactly that many, which all failed.
+abbrev pub HasCome : JournalState → Job → ℕ → JobEnd → ℕ → List (List ℕ) → Type 0
+HasCome handed job seen end after lost =
+    ComesTo handed job seen lost (EndsByVerdict handed job end after (attempts_of lost)) ⊎ ComesTo handed job seen lost (EndsByStop handed job end after)
 
 -- the same, whatever its worker had seen before and after
-abbrev pub HasSomeRun : JournalState → Job → JobEnd → ℕ → Type 0
-HasSomeRun handed job end attempts = ∥ ((seen : ℕ) × (after : ℕ) × HasCome handed job seen end after attempts) ∥₁
+abbrev pub HasSomeRun : JournalState → Job → JobEnd → List (List ℕ) → Type 0
+HasSomeRun handed job end lost = ∥ ((seen : ℕ) × (after : ℕ) × HasCome handed job seen end after lost) ∥₁

@@ -16,12 +16,12 @@ jobs_of ended = map (λ e. e.job) ended
 abbrev pub committed_in : List EndOf → ℕ
 committed_in ended = count_by (λ e. is_committed e.end) ended
 
--- the ends without the places of their jobs, and after how many attempts they came
+-- the ends without the places of their jobs, and over which keys commits failed before
 abbrev pub ends_in : List EndOf → List JobEnd
 ends_in ended = map (λ e. e.end) ended
 
-abbrev pub attempts_in : List EndOf → List ℕ
-attempts_in ended = map (λ e. e.attempts) ended
+abbrev pub lost_in : List EndOf → List (List (List ℕ))
+lost_in ended = map (λ e. e.lost) ended
 
 -- each end stands at the place of its job
 abbrev pub EachAtItsPlace : List EndOf → List JobEnd → Type 0

@@ -15,17 +15,17 @@ use Rattle.stm_job.specs.declared.gathered.FaultCause.TheVariants.{OutOfMemory, 
 use Rattle.stm_workers.specs.Ends.{start_point, AllStand, StandsAt}
 use Rattle.stm_workers.specs.Runs.{HaveTheirRuns}
 
--- The jobs were run on this hall: each has its end at its place, to which it has come after the number of attempts at that place, and each end
+-- The jobs were run on this hall: each has its end at its place, to which it has come after commits that failed over the keys at that place, and each end
 -- stands. The commits among the entries are those that were there and one for each job that committed. The entries that were there and the opening
 -- state stay, and the others are commits of the jobs. Of the store the history alone has changed: the floor, the limit of operations, the leases,
 -- their terms, the moment and the watchers stay.
-pub record RanTo (before : JournalState) (jobs : List Job) (ends : List JobEnd) (attempts : List ℕ) (committed : ℕ) (after : JournalState) : Type 0 where
+pub record RanTo (before : JournalState) (jobs : List Job) (ends : List JobEnd) (lost : List (List (List ℕ))) (committed : ℕ) (after : JournalState) : Type 0 where
   pub places : length ends ≡ length jobs
-  pub attempted : length attempts ≡ length jobs
+  pub attempted : length lost ≡ length jobs
   pub counted : committed ≡ count_by is_committed ends
   pub commits : commits_in after.entries ≡ commits_in before.entries + committed
   pub stand : AllStand (start_point before) after jobs ends
-  pub ran : HaveTheirRuns before jobs ends attempts
+  pub ran : HaveTheirRuns before jobs ends lost
   pub takes : TookCommitsOf jobs before after
   pub goes_on : GoesOn before after
   pub keeps : HasKeptStore before after

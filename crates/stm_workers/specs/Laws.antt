@@ -6,6 +6,7 @@ use Rattle.stm_journal.specs.JournalState.{JournalState}
 use Rattle.stm_job.specs.declared.job.Job.{Job}
 use Rattle.stm_job.specs.declared.job_end.JobEnd.{JobEnd}
 use Rattle.stm_job.specs.declared.job_end.JobEnd.TheVariants.{Committed, Aborted, Faulted, Refused, GaveUp}
+use Rattle.stm_job.specs.Ends.{attempts_of}
 use Rattle.stm_workers.specs.Gathered.{RanTo}
 
 -- a job that gave up has made all the attempts that it may
@@ -25,7 +26,7 @@ pub record AreAttemptsOf (job : Job) (end : JobEnd) (attempts : ℕ) : Type 0 wh
 -- Of each job that was run at least one attempt was made, and at most as many as it may send commits; of one that gave up it was exactly that many.
 abbrev pub AttemptsAreCounted : Type 0
 AttemptsAreCounted =
-    (before : JournalState) (jobs : List Job) (ends : List JobEnd) (attempts : List ℕ) (committed : ℕ) (after : JournalState)
-    → RanTo before jobs ends attempts committed after
-    → (place : ℕ) (job : Job) (end : JobEnd) (made : ℕ) → slice_get jobs place ≡ Some job → slice_get ends place ≡ Some end
-    → slice_get attempts place ≡ Some made → AreAttemptsOf job end made
+    (before : JournalState) (jobs : List Job) (ends : List JobEnd) (lost : List (List (List ℕ))) (committed : ℕ) (after : JournalState)
+    → RanTo before jobs ends lost committed after
+    → (place : ℕ) (job : Job) (end : JobEnd) (keys : List (List ℕ)) → slice_get jobs place ≡ Some job → slice_get ends place ≡ Some end
+    → slice_get lost place ≡ Some keys → AreAttemptsOf job end (attempts_of keys)

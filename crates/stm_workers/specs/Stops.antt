@@ -41,7 +41,7 @@ OnStop (GaveUp key) fact = Unit {0}
 -- program, run alone, ends so: also where its commit would have failed.
 abbrev pub StopsAreOfOneState : Type 0
 StopsAreOfOneState =
-    (before : JournalState) (jobs : List Job) (ends : List JobEnd) (attempts : List ℕ) (committed : ℕ) (after : JournalState)
-    → RanTo before jobs ends attempts committed after
+    (before : JournalState) (jobs : List Job) (ends : List JobEnd) (lost : List (List (List ℕ))) (committed : ℕ) (after : JournalState)
+    → RanTo before jobs ends lost committed after
     → (place : ℕ) (job : Job) (end : JobEnd) → slice_get jobs place ≡ Some job → slice_get ends place ≡ Some end → is_serializable job.level ≡ true
     → OnStop end (IsEndAlone (start_point before) after job)

@@ -1,11 +1,12 @@
 //! One job of a worker, from its first attempt to its end.
-ghost use Rattle.std.specs.Prelude.{◌≡◌, ◌⊎◌, ℕ, ◌+◌, ◌<◌, ◌≤◌, true, false, [], None, IfOk, IfErr, IfSome, OnOk, OnErr};
+ghost use Rattle.std.specs.Prelude.{◌≡◌, ◌⊎◌, ℕ, ◌+◌, ◌<◌, ◌≤◌, true, false, [], ◌∷◌, ◌++◌, None, IfOk, IfErr, IfSome, OnOk, OnErr};
 ghost use Rattle.stm_attempt.specs.AttemptState.{begun, begun_after};
 ghost use Rattle.stm_journal.specs.Prefetch.{MayBePrefetched};
 ghost use Rattle.stm_journal.specs.Verdicts.{CanGoOn};
 ghost use Rattle.stm_workers.specs.declared.stop.Stop.TheVariants.{OutOfMemory};
 ghost use Rattle.stm_workers.specs.Attempts.{state_of, end_after, IsFetch, IsReadyAt, IsEvaluated, IsStop, IsNextAttempt};
 ghost use Rattle.stm_workers.specs.Attempts.{HasTried, HasStopped, HasFailed, HasEnded, HasCome, ComesTo, EndsByVerdict};
+ghost use Rattle.stm_job.specs.Ends.{attempts_of};
 ghost use Rattle.stm_workers.specs.AttemptOutcomes.{IfEnded, IfAgain};
 ghost use Rattle.stm_workers.specs.Calls.{committed_by, counted_end, greatest_carried, seen_after, is_run_of_some, IsOfJob, IsRunOfJob};
 
@@ -18,6 +19,7 @@ use std::sync::Wait;
 use std::sync::ledger::Share;
 use stm_attempt::{Attempt, Next, ReadAnswer, Ready, Sequence};
 use stm_hall::Verdict;
+use stm_history::Text;
 use stm_job::{Job, JobEnd};
 
 /// What an attempt came to.
@@ -25,8 +27,8 @@ use stm_job::{Job, JobEnd};
 pub(crate) enum AttemptOutcome {
     /// The job has its end.
     Ended(JobEnd),
-    /// Its commit failed, and this is the next attempt.
-    Again(Attempt),
+    /// Its commit failed over this key, and this is the next attempt.
+    Again(Attempt, Text),
 }
 
 /// The greatest of a revision and those that answers carry.
@@ -82,9 +84,9 @@ fn after_verdict(
 ) -> Result<AttemptOutcome, Stop>
     requires { CanGoOn verdict }
     ensures counted { IfOk result (IfEnded (λ end. counted_end end ≡ committed_by verdict)) }
-    ensures again { IfOk result (IfAgain (λ next. IsOfJob job.now next × (committed_by verdict ≡ 0))) }
+    ensures again { IfOk result (IfAgain (λ next key. IsOfJob job.now next × (committed_by verdict ≡ 0))) }
     ensures reported { IfOk result (IfEnded (λ end. (end ≡ end_after verdict) × (committed_by verdict ≡ 0 → is_last ≡ true))) }
-    ensures next { IfOk result (IfAgain (λ next. (is_last ≡ false) × IsNextAttempt job.now verdict next)) }
+    ensures next { IfOk result (IfAgain (λ next key. (is_last ≡ false) × IsNextAttempt job.now verdict next key)) }
     ensures stopped { OnErr result (committed_by verdict ≡ 0) }
     ensures want { IfErr result (λ stop. stop ≡ OutOfMemory) }
 {
@@ -97,9 +99,18 @@ fn after_verdict(
                 return Ok(AttemptOutcome::Ended(JobEnd::GaveUp { key }));
             }
             let next = next_attempt(alloc, job, answers)?;
-            Ok(AttemptOutcome::Again(next))
+            Ok(AttemptOutcome::Again(next, key))
         }
     }
+}
+
+/// Notes the key of a commit that failed, and gives the next attempt back. Where an allocation fails, the keys are as they were.
+fn note_lost(lost: &mut Vec<Text>, key: Text, next: Attempt) -> Result<Attempt, AllocError>
+    ensures noted { IfOk result (λ attempt. (attempt ≡ next) × (lost.new.items ≡ lost.old.items ++ key ∷ [])) }
+    ensures unchanged { OnErr result (lost.new.items ≡ lost.old.items) }
+{
+    lost.push(key)?;
+    Ok(next)
 }
 
 impl<'a, R: RunOfJobs, W: Wait, G: Gate> HallAccess<'a, R, W, G> {
@@ -211,11 +222,11 @@ impl<'a, R: RunOfJobs, W: Wait, G: Gate> HallAccess<'a, R, W, G> {
         requires part { 0 < share.old.parts }
         ensures parts { share.new.parts ≡ share.old.parts }
         ensures counted { IfOk result (IfEnded (λ end. share.new.amount ≡ share.old.amount + counted_end end)) }
-        ensures again { IfOk result (IfAgain (λ next. IsOfJob job.now next × (share.new.amount ≡ share.old.amount))) }
+        ensures again { IfOk result (IfAgain (λ next key. IsOfJob job.now next × (share.new.amount ≡ share.old.amount))) }
         ensures stopped { OnErr result (share.new.amount ≡ share.old.amount) }
         ensures never_falls { seen.old ≤ seen.new }
         ensures ends { IfOk result (IfEnded (λ end. HasEnded R.before job.now (state_of attempt.old seen.old) is_last end seen.new)) }
-        ensures fails { IfOk result (IfAgain (λ next. (is_last ≡ false) × HasFailed R.before job.now (state_of attempt.old seen.old) (state_of next seen.new))) }
+        ensures fails { IfOk result (IfAgain (λ next key. (is_last ≡ false) × HasFailed R.before job.now key (state_of attempt.old seen.old) (state_of next seen.new))) }
         ensures stops { IfErr result (λ stop. HasStopped R.before job.now (state_of attempt.old seen.old) stop seen.new) }
     {
         let verdict = self.try_once(place, job, share, attempt, seen)?;
@@ -237,11 +248,11 @@ impl<'a, R: RunOfJobs, W: Wait, G: Gate> HallAccess<'a, R, W, G> {
         requires part { 0 < share.old.parts }
         ensures parts { share.new.parts ≡ share.old.parts }
         ensures counted { IfOk result (IfEnded (λ end. share.new.amount ≡ share.old.amount + counted_end end)) }
-        ensures again { IfOk result (IfAgain (λ next. IsOfJob job.now next × (share.new.amount ≡ share.old.amount))) }
+        ensures again { IfOk result (IfAgain (λ next key. IsOfJob job.now next × (share.new.amount ≡ share.old.amount))) }
         ensures stopped { OnErr result (share.new.amount ≡ share.old.amount) }
         ensures never_falls { seen.old ≤ seen.new }
         ensures ends { IfOk result (IfEnded (λ end. HasEnded R.before job.now (state_of attempt seen.old) is_last end seen.new)) }
-        ensures fails { IfOk result (IfAgain (λ next. (is_last ≡ false) × HasFailed R.before job.now (state_of attempt seen.old) (state_of next seen.new))) }
+        ensures fails { IfOk result (IfAgain (λ next key. (is_last ≡ false) × HasFailed R.before job.now key (state_of attempt seen.old) (state_of next seen.new))) }
         ensures stops { IfErr result (λ stop. HasStopped R.before job.now (state_of attempt seen.old) stop seen.new) }
     {
         let mut attempt = attempt;
@@ -250,40 +261,40 @@ impl<'a, R: RunOfJobs, W: Wait, G: Gate> HallAccess<'a, R, W, G> {
         outcome
     }
 
-    /// Attempts a job until it ends, and counts its attempts. The last one that it may make is the one after the loop.
+    /// Attempts a job until it ends, and notes the key of each commit that fails before its last attempt, which is at most the one after the loop.
     fn attempt(
         &self,
         place: usize,
         job: &Job,
         share: &mut Share<R>,
         seen: &mut u64,
-        attempts: &mut u32,
+        lost: &mut Vec<Text>,
     ) -> Result<JobEnd, Stop>
         requires of_a_job { is_run_of_some R.jobs job.now.program job.now.level ≡ true }
         requires part { 0 < share.old.parts }
+        requires none { lost.old.items ≡ [] }
         ensures parts { share.new.parts ≡ share.old.parts }
         ensures counted { IfOk result (λ end. share.new.amount ≡ share.old.amount + counted_end end) }
         ensures stopped { OnErr result (share.new.amount ≡ share.old.amount) }
         ensures never_falls { seen.old ≤ seen.new }
-        ensures ends { IfOk result (λ end. ComesTo R.before job.now seen.old attempts.new (EndsByVerdict R.before job.now end seen.new attempts.new)) }
-        ensures stops { IfErr result (λ stop. ComesTo R.before job.now seen.old attempts.new (λ last. HasStopped R.before job.now last stop seen.new)) }
+        ensures ends { IfOk result (λ end. ComesTo R.before job.now seen.old lost.new.items
+            (EndsByVerdict R.before job.now end seen.new (attempts_of lost.new.items))) }
+        ensures stops { IfErr result (λ stop. ComesTo R.before job.now seen.old lost.new.items (λ last. HasStopped R.before job.now last stop seen.new)) }
     {
         let mut attempt = first_attempt(self.alloc, job);
-        for number in 1..job.limit {
-            *attempts = number;
+        for _ in 1..job.limit {
             match self.try_attempt(place, job, share, attempt, seen, false)? {
                 AttemptOutcome::Ended(end) => return Ok(end),
-                AttemptOutcome::Again(next) => attempt = next,
+                AttemptOutcome::Again(next, key) => attempt = note_lost(lost, key, next)?,
             }
         }
-        *attempts = job.limit;
         match self.try_attempt(place, job, share, attempt, seen, true)? {
             AttemptOutcome::Ended(end) => Ok(end),
-            AttemptOutcome::Again(_) => unreachable!(),
+            AttemptOutcome::Again(_, _) => unreachable!(),
         }
     }
 
-    /// Brings the job at a place to its end, and counts the attempts that were made: at least one, and one for each commit that failed before.
+    /// Brings the job at a place to its end, and notes the keys over which its commits failed before its last attempt, in their order.
     ///
     /// The place is handed to the gate. `seen` is the greatest revision that an answer to the worker carried, before the call and after it, and what
     /// the job committed counts in the share. `AllocError`: an allocation failed, which is no end.
@@ -293,16 +304,17 @@ impl<'a, R: RunOfJobs, W: Wait, G: Gate> HallAccess<'a, R, W, G> {
         job: &Job,
         share: &mut Share<R>,
         seen: &mut u64,
-        attempts: &mut u32,
+        lost: &mut Vec<Text>,
     ) -> Result<JobEnd, AllocError>
         requires of_a_job { is_run_of_some R.jobs job.now.program job.now.level ≡ true }
         requires part { 0 < share.old.parts }
+        requires none { lost.old.items ≡ [] }
         ensures parts { share.new.parts ≡ share.old.parts }
         ensures counted { IfOk result (λ end. share.new.amount ≡ share.old.amount + counted_end end) }
         ensures never_falls { seen.old ≤ seen.new }
-        ensures came { IfOk result (λ end. HasCome R.before job.now seen.old end seen.new attempts.new) }
+        ensures came { IfOk result (λ end. HasCome R.before job.now seen.old end seen.new lost.new.items) }
     {
-        match self.attempt(place, job, share, seen, attempts) {
+        match self.attempt(place, job, share, seen, lost) {
             Ok(end) => Ok(end),
             Err(stop) => stop.end(),
         }

@@ -52,9 +52,9 @@ fn run_on<R: RunOfJobs + Send + Sync, W: Threads + Wait + Sync, G: Gate + Sync>(
     ensures gone_on { HasGoneOn hall result.1 }
     ensures kept { HasKeptStore hall result.1 }
     ensures takes { TookCommitsOf jobs.now hall result.1 }
-    ensures places { IfOk result.0 (λ placed. (length placed.ends.items ≡ length jobs.now) × (length placed.attempts.items ≡ length jobs.now)) }
+    ensures places { IfOk result.0 (λ placed. (length placed.ends.items ≡ length jobs.now) × (length placed.lost.items ≡ length jobs.now)) }
     ensures commits { IfOk result.0 (λ placed. commits_in result.1.entries ≡ commits_in hall.entries + count_by is_committed placed.ends.items) }
-    ensures ran { IfOk result.0 (λ placed. HaveTheirRuns hall jobs.now placed.ends.items placed.attempts.items) }
+    ensures ran { IfOk result.0 (λ placed. HaveTheirRuns hall jobs.now placed.ends.items placed.lost.items) }
     ensures drawn { IfOk result.0 (λ placed. HasDrawnAll (size_of (length jobs.now) (workers + 1)) placed.seat) }
 {
     let (book, share) = blank.open::<R>();
@@ -82,12 +82,12 @@ fn count_committed(ends: &[JobEnd]) -> usize
 
 /// What was gathered, where each end stands.
 fn gathered_of(placed: Placed, committed: usize, hall: Hall) -> Gathered
-    ensures ends { (result.ends.items ≡ placed.ends.items) × (result.attempts.items ≡ placed.attempts.items) }
+    ensures ends { (result.ends.items ≡ placed.ends.items) × (result.lost.items ≡ placed.lost.items) }
     ensures others { (result.committed ≡ committed) × (result.seat ≡ placed.seat) × (result.hall ≡ hall) }
 {
     Gathered {
         ends: placed.ends,
-        attempts: placed.attempts,
+        lost: placed.lost,
         committed,
         seat: placed.seat,
         hall,
@@ -146,7 +146,7 @@ fn gather(
     requires { length placed.ends.items ≡ length jobs.now }
     ensures hall { IfOk result (λ gathered. gathered.hall ≡ hall) }
     ensures broken { IfErr result (λ fault. fault.hall ≡ hall) }
-    ensures ends { IfOk result (λ gathered. (gathered.ends.items ≡ placed.ends.items) × (gathered.attempts.items ≡ placed.attempts.items)) }
+    ensures ends { IfOk result (λ gathered. (gathered.ends.items ≡ placed.ends.items) × (gathered.lost.items ≡ placed.lost.items)) }
     ensures committed { IfOk result (λ gathered. gathered.committed ≡ count_by is_committed placed.ends.items) }
     ensures seat { IfOk result (λ gathered. gathered.seat ≡ placed.seat) }
     ensures stand { IfOk result (λ gathered. AllStand start hall jobs.now placed.ends.items) }
@@ -192,8 +192,8 @@ fn start_of(hall: &Hall) -> StartPoint
 /// At `Ok` each job was drawn once and none is left out, as the seat that is handed back knows. Each job has its end at its place, to which it has
 /// come as it should: each fetch was asked for with what its worker had seen, a program's list before anything else; it sent at most as many commits
 /// as it may, and it gave up only where that many failed; what refused a call of it was a store with the limit of operations of the one that was
-/// handed in (`HasCome` of the specs). The number of its attempts, at least one and at most that limit, is one more than the commits that failed
-/// before the last of them (`laws::attempts_are_counted`). Each end stands in the hall, and the hall has the entries that it had, with one commit for
+/// handed in (`HasCome` of the specs). With its end stand the keys over which its commits failed before its last attempt, one for each, in their order: its attempts
+/// are one more, at most that limit (`laws::attempts_are_counted`). Each end stands in the hall, and the hall has the entries that it had, with one commit for
 /// each job that committed, and nothing else; of its store the history alone has changed: floor, limit, leases, their terms, the moment and the
 /// watchers are as they were. What a job at a serializable level had read when it aborted or came to a fault is of one state of the hall's history
 /// since it was handed in, and its program, run alone on that state, ends so (`laws::stops_are_of_one_state`).
@@ -211,7 +211,7 @@ pub fn run_workers<W: Threads + Wait + Sync, G: Gate + Sync>(
     gate: &G,
 ) -> Result<Gathered, RunFault>
     requires { (1 ≤ workers) × (workers ≤ MOST_WORKERS) }
-    ensures ok { IfOk result (λ gathered. RanTo hall jobs.now gathered.ends.items gathered.attempts.items gathered.committed gathered.hall) }
+    ensures ok { IfOk result (λ gathered. RanTo hall jobs.now gathered.ends.items gathered.lost.items gathered.committed gathered.hall) }
     ensures drawn { IfOk result (λ gathered. HasDrawnAll (size_of (length jobs.now) (workers + 1)) gathered.seat) }
     ensures fault { IfErr result (λ fault. BrokeOff hall jobs.now fault.cause fault.ends.items fault.hall) }
 {

@@ -14,6 +14,7 @@ use std::alloc::{AllocError, Global};
 use std::sync::atomic::{AtomicBool, Ordering};
 use std::sync::ledger::Share;
 use std::sync::{Mutex, Wait};
+use stm_history::Sequence;
 use stm_job::{Job, JobSeat, JobTable};
 
 /// What all workers of a run share: the lock round the hall, the table that they draw from, the jobs, the gate, and whether the run was given up.
@@ -95,12 +96,13 @@ impl<'a, R: RunOfJobs, W: Wait, G: Gate> Shared<'a, R, W, G> {
     {
         let mut share = share;
         let mut most = seen;
-        let mut attempts = 0;
+        let mut lost = Vec::new(self.alloc);
         let mut ended = ended;
         let it = job_at(self.jobs, job);
         let access = self.access();
-        let end = access.run_job(job, it, &mut share, &mut most, &mut attempts)?;
-        ended.push(EndOf { job, end, attempts })?;
+        let end = access.run_job(job, it, &mut share, &mut most, &mut lost)?;
+        let lost = Sequence::of(lost);
+        ended.push(EndOf { job, end, lost })?;
         Ok(Worker::at_work(seat, share, most, ended))
     }
 

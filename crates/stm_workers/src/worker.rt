@@ -8,6 +8,7 @@ ghost use Rattle.stm_workers.specs.Drawn.{jobs_of, committed_in, drawing, used_u
 use crate::locked::RunOfJobs;
 use std::alloc::{AllocError, Global};
 use std::sync::ledger::Share;
+use stm_history::{Sequence, Text};
 use stm_job::{JobEnd, JobSeat, JobTable};
 
 /// The end of one job.
@@ -16,8 +17,8 @@ pub struct EndOf {
     /// The job's place.
     pub job: usize,
     pub end: JobEnd,
-    /// How many attempts of it were made.
-    pub attempts: u32,
+    /// The keys over which its commits failed before its last attempt.
+    pub lost: Sequence<Text>,
 }
 
 /// A worker at its jobs, between two of them: a seat with one pass left, one part of the ledger, the greatest revision that an answer to

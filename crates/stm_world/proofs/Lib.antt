@@ -30,3 +30,4 @@ pub mod GoingOn
 pub mod Joined
 pub mod Lines
 pub mod Served
+pub mod Restored

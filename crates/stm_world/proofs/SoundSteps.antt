@@ -24,7 +24,7 @@ use Rattle.stm_attempt.specs.Settled.{run_on}
 use Rattle.stm_attempt.specs.Entering.{is_due}
 use Rattle.stm_attempt.specs.Fetches.{at_of}
 use Rattle.stm_entries.specs.declared.entry.Entry.{Entry}
-use Rattle.stm_entries.specs.Replayed.{Replayed, opening, without_moment}
+use Rattle.stm_entries.specs.Replayed.{Replayed, opened_with, without_moment}
 use Rattle.stm_entries.specs.Replay.{replay}
 use Rattle.stm_entries.specs.Legal.{AreLegal}
 use Rattle.stm_entries.proofs.Replaying.{replay_goes_on, all_legal}
@@ -49,28 +49,26 @@ use Rattle.stm_world.proofs.Slots.{equal_numbers, differ, runner_there, runner_o
 abbrev pub world_with : Standing → List Slot → List Entry → World
 world_with s runners entries = record { standing = s; runners = runners; entries = entries }
 
--- what entries lead to opens at the number that they began with
-opening_stays : (start : ℕ) (entries : List Entry) (s : Standing) → replay entries (opening start) ≡ without_moment s →
-    start ≡ s.history.opening.number
+-- what entries lead to opens with what they began with
+opening_stays : (start : Opening) (entries : List Entry) (s : Standing) → replay entries (opened_with start) ≡ without_moment s → start ≡ s.history.opening
 opening_stays start entries s replays =
-    ap (λ (o : Opening). o.number)
-    (sym (replay_only_adds entries (opening start)).opening ∙ ap (λ (r : Replayed). r.history.opening) replays)
+    sym (replay_only_adds entries (opened_with start)).opening ∙ ap (λ (r : Replayed). r.history.opening) replays
 
 -- ---- more entries ----
 
 pub sound_with : (w : World) (runners : List Slot) (after : Standing) (more : List Entry) → IsSound w → EntriesFollow w.standing after more →
     ((id : ℕ) (r : Runner) → runner_at id runners ≡ Some r → KnowsTruth after.history r.known) → IsSound (world_with after runners (w.entries ++ more))
 sound_with w runners after more sound e truth =
-    let start : ℕ = w.standing.history.opening.number in
+    let start : Opening = w.standing.history.opening in
     let entries : List Entry = w.entries ++ more in
-    let replays : replay entries (opening start) ≡ without_moment after =
-    replay_goes_on w.entries more (opening start) ∙ ap (replay more) sound.replays ∙ e.replays in
-    let legal : AreLegal entries (opening start) =
-    all_legal w.entries more (opening start) sound.legal (subst (AreLegal more) (sym sound.replays) e.legal) in
-    let same : start ≡ after.history.opening.number = opening_stays start entries after replays in
+    let replays : replay entries (opened_with start) ≡ without_moment after =
+    replay_goes_on w.entries more (opened_with start) ∙ ap (replay more) sound.replays ∙ e.replays in
+    let legal : AreLegal entries (opened_with start) =
+    all_legal w.entries more (opened_with start) sound.legal (subst (AreLegal more) (sym sound.replays) e.legal) in
+    let same : start ≡ after.history.opening = opening_stays start entries after replays in
     record {
-      replays = subst (λ n. replay entries (opening n) ≡ without_moment after) same replays;
-      legal = subst (λ n. AreLegal entries (opening n)) same legal;
+      replays = subst (λ (o : Opening). replay entries (opened_with o) ≡ without_moment after) same replays;
+      legal = subst (λ (o : Opening). AreLegal entries (opened_with o)) same legal;
       truth = truth;
       kept = e.kept sound.kept;
       limit = subst (λ n. n ≤ most_operations) (sym e.limit) sound.limit;

@@ -12,3 +12,4 @@ pub mod OneReply
 pub mod Doomed
 pub mod NeverOutOfMemory
 pub mod Causes
+pub mod Restored

@@ -11,7 +11,7 @@ use Rattle.stm_txn.specs.Standing.{Standing, HasKept, at_moment, expire_up_to, S
 use Rattle.stm_compile.specs.Answers.{AreTrue}
 use Rattle.stm_attempt.specs.Known.{Known}
 use Rattle.stm_attempt.specs.Fetches.{at_of}
-use Rattle.stm_entries.specs.Replayed.{opening, without_moment}
+use Rattle.stm_entries.specs.Replayed.{opened_with, without_moment}
 use Rattle.stm_entries.specs.Replay.{replay}
 use Rattle.stm_entries.specs.Legal.{AreLegal}
 use Rattle.stm_entries.specs.Entered.{expiries}
@@ -26,8 +26,8 @@ KnowsTruth h known = AreTrue h known.reads × AreTrue h known.prefetched
 -- knows the truth. The floor is a revision that the store has reached, if it was ever compacted, and nothing below it is pending for a
 -- watcher that is not lost. The store's limit of operations is at most the highest one.
 pub record IsSound (w : World) : Type 0 where
-  pub replays : replay w.entries (opening w.standing.history.opening.number) ≡ without_moment w.standing
-  pub legal : AreLegal w.entries (opening w.standing.history.opening.number)
+  pub replays : replay w.entries (opened_with w.standing.history.opening) ≡ without_moment w.standing
+  pub legal : AreLegal w.entries (opened_with w.standing.history.opening)
   pub truth : (id : ℕ) (r : Runner) → runner_at id w.runners ≡ Some r → KnowsTruth w.standing.history r.known
   pub kept : HasKept w.standing
   pub limit : w.standing.limit ≤ most_operations

@@ -7,6 +7,7 @@ ghost use Rattle.stm_world.specs.Joined.{RunsGoOn};
 ghost use Rattle.stm_world.specs.NeverOutOfMemory.{NeverOutOfMemory};
 ghost use Rattle.stm_world.specs.OneReply.{OneRightReply};
 ghost use Rattle.stm_world.specs.ReadsNow.{CommitsReadWhatIsNow};
+ghost use Rattle.stm_world.specs.Restored.{RestoredWorldsAreSound};
 ghost use Rattle.stm_world.specs.Sound.{WorldsAreSound};
 
 /// The headline. Over every list of events, in any interleaving of any number of runners, from every
@@ -71,6 +72,11 @@ pub fn causes_are_of_the_event()
 /// In a sound world the revision that a runner's next fetch names is one that the store has reached.
 pub fn worlds_are_sound()
     ensures { WorldsAreSound }
+{}
+
+/// A world opens sound, too, where its store opens with keys and leases: the entries that it begins with are the grants of its leases.
+pub fn restored_worlds_are_sound()
+    ensures { RestoredWorldsAreSound }
 {}
 
 /// In a sound world, where the program of the runner that is stepped has come to its end at a level that compares, and no compare of its commit

@@ -1,6 +1,6 @@
 use Rattle.std.proofs.Common.{◌≡◌, sym, ap, ◌∙◌}
 use Rattle.stm_entries.specs.Replay.{replay}
-use Rattle.stm_explore.proofs.AlikeStores.{same_terms, same_opening, whole_compared, alike_by_revisions}
+use Rattle.stm_explore.proofs.AlikeStores.{same_terms, whole_compared, alike_by_revisions}
 use Rattle.stm_explore.proofs.alike.have_same_whole_store.Goals as goal
 
 pub returns : goal.returns
@@ -13,8 +13,7 @@ returns c = λ is.
     let none : c.store-store.result.now.standing.floor ≡ 0 = sym c.floor-floor.ensures.floor ∙ c.if-floor-ne0.false in
     let nothing : c.store-another.result.now.standing.floor ≡ 0 = sym (c.have_same_terms.ensures.floor e) ∙ none in
     alike_by_revisions c.args.one.now c.args.other.now (record { replays = c.history.ensures.replays }) (record { replays = c.history-2.ensures.replays })
-    (same_opening s t c.store-store.result.now.standing c.store-another.result.now.standing c.keys-keys.result.now.history c.keys-keys_there.result.now.history kept_one kept_other
-    c.keys-keys.ensures.history c.keys-keys_there.ensures.history none nothing (c.have_same_revisions.ensures.opening c.if-not-have_same_revisions.false))
+    c.requires
     (same_terms s t c.store-store.result.now.standing c.store-another.result.now.standing kept_one kept_other (c.have_same_terms.ensures.floor e)
     (c.have_same_terms.ensures.limit e) (c.have_same_terms.ensures.moment e))
     (whole_compared s t c.store-store.result.now.standing c.store-another.result.now.standing c.keys-keys.result.now.history c.keys-keys_there.result.now.history kept_one kept_other

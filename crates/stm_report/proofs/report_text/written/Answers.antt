@@ -1,4 +1,5 @@
 use Rattle.std.proofs.Common.{◌≡◌, ◌++◌, ◌≤◌, ◌-◌, ℕ, List, length, map, refl, sym, ap, ◌∙◌, string_bytes, arith}
+use Rattle.stm_history.specs.Opening.{Opening}
 use Rattle.stm_history.specs.History.{History, now}
 use Rattle.stm_history.specs.Cut.{cut}
 use Rattle.stm_history.proofs.CutLaws.{cut_keeps_now}
@@ -8,7 +9,7 @@ use Rattle.stm_txn.specs.PresentKeys.{keys_present}
 use Rattle.stm_txn.specs.Standing.{Standing}
 use Rattle.stm_compaction.proofs.Present.{present_in_cut}
 use Rattle.stm_entries.specs.declared.entry.Entry.{Entry}
-use Rattle.stm_entries.specs.Replayed.{Replayed, opening}
+use Rattle.stm_entries.specs.Replayed.{Replayed, opened_with}
 use Rattle.stm_entries.specs.Replay.{replay}
 use Rattle.stm_entries.specs.LiveLeases.{HasLeases}
 use Rattle.stm_events.specs.declared.line.ReportLine.{ReportLine}
@@ -28,7 +29,7 @@ returns c =
     let w = c.args.world.now in
     let form : LineForm = c.args.form in
     let h : History = w.standing.history in
-    let start : ℕ = h.opening.number in
+    let start : Opening = h.opening in
     let number : ℕ = w.standing.floor - 1 in
     let reached : number ≤ now h = omega (arith, c.store.ensures.reached) in
     let kept : History = cut number h in
@@ -39,9 +40,9 @@ returns c =
     let listed : List (List ℕ) = map string_bytes c.in_ok-present.present.items in
     let same : c.keys.result.now.history ≡ kept = c.keys.ensures.history ∙ ap (λ (s : Standing). s.history) c.store.ensures.standing in
     let present : listed ≡ keys_present h = c.in_ok-present.ensures.computed ∙ ap keys_present same ∙ present_in_cut h number reached in
-    let replayed : Live = (replay c.history.result.now (opening start)).live in
+    let replayed : Live = (replay c.history.result.now (opened_with start)).live in
     let is_live : replayed ≡ w.standing.live =
-    ap (λ (entries : List Entry). (replay entries (opening start)).live) c.history.ensures.entries ∙ ap (λ (r : Replayed). r.live) c.history.ensures.replays in
+    ap (λ (entries : List Entry). (replay entries (opened_with start)).live) c.history.ensures.entries ∙ ap (λ (r : Replayed). r.live) c.history.ensures.replays in
     let live : HasLeases c.in_ok-leases.leases w.standing.live =
     same_leases c.in_ok-leases.leases replayed w.standing.live (sym is_live) (c.in_ok-leases.ensures start) in
     let text : string_bytes c.push_end.new.text

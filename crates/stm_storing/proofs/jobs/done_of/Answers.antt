@@ -20,12 +20,12 @@ returns-in-Ok-clause-ran c =
     subst (λ (ends : List JobEnd). HasRunOver c.args.with_ends c.args.calls.now c.args.asked.now.sorted.jobs c.args.world.now ends (string_bytes written.lines) left)
     (sym c.ends_of-ends.ensures)
     (record {
-      attempts = gathered.attempts.items;
+      lost = gathered.lost.items;
       committed = gathered.committed;
       after = gathered.hall;
       ran =
           subst
-          (λ (w : World). RanTo (made_over (kept w.standing)) c.args.asked.now.sorted.jobs gathered.ends.items gathered.attempts.items gathered.committed gathered.hall)
+          (λ (w : World). RanTo (made_over (kept w.standing)) c.args.asked.now.sorted.jobs gathered.ends.items gathered.lost.items gathered.committed gathered.hall)
           c.requires.begun c.requires.ran;
       shows = c.in-Ok.ensures.shows;
       alike =

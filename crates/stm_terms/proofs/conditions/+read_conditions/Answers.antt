@@ -3,17 +3,20 @@ use Rattle.std.proofs.lemmas.Result.{err_from_is_err_and}
 use Rattle.stm_terms.proofs.ConditionLemmas.{connections_none, connections_some, connection_goes, connection_ends, connection_out, connection_fails}
 use Rattle.stm_terms.proofs.ConditionLemmas.{found_is, bracket_some, condition_bracket_some}
 use Rattle.stm_terms.specs.Cursor.{after_symbol}
+use Rattle.stm_terms.specs.Scope.{without_else}
 use Rattle.stm_terms.specs.Conditions.{primary_at, part_by, connection, connections_at, tier_symbol}
 use Rattle.stm_terms.proofs.conditions.+read_conditions.Goals as goal
 
 pub connections-returns-then-tier-eq0 : goal.connections-returns-then-tier-eq0
 connections-returns-then-tier-eq0 t c =
-    rw (connections_none (primary_at c.args.levels c.args.scope.now) c.args.tier c.args.tokens.now c.if-tier-eq0.true) c.primary.ensures
+    rw (connections_none (primary_at c.args.levels c.args.scope.now) (primary_at c.args.levels (without_else c.args.scope.now)) c.args.tier c.args.tokens.now
+    c.if-tier-eq0.true) c.primary.ensures
 
 pub connections-returns : goal.connections-returns
 connections-returns t c =
     let some : 0 < c.args.tier = omega arith in
-    rw (connections_some (primary_at c.args.levels c.args.scope.now) c.args.tier c.args.tokens.now some) c.next_connections.ensures
+    rw (connections_some (primary_at c.args.levels c.args.scope.now) (primary_at c.args.levels (without_else c.args.scope.now)) c.args.tier c.args.tokens.now some)
+    c.next_connections.ensures
 
 pub found-returns : goal.found-returns
 found-returns t c = rw (found_is c.args.levels c.args.scope.now c.args.tokens.now) c.connections.ensures

@@ -14,6 +14,9 @@ decreases-use_arguments l = 1000 * l.levels + 1
 abbrev pub decreases-used : goal.decreases-used
 decreases-used l = 1000 * l.levels + 2
 
+abbrev pub decreases-not_defined : goal.decreases-not_defined
+decreases-not_defined l = 1000 * l.levels + 2
+
 abbrev pub decreases-meant : goal.decreases-meant
 decreases-meant l = 1000 * l.levels + 3
 

@@ -15,7 +15,7 @@ returns-in-Ok-clause-shows g c =
     of_both c.shown_run.result _ _ _ c.shown_run.ensures.shows c.shown_run.ensures.ends
     (λ p shows ended start calls stands.
     subst (λ (ends : List JobEnd). IsOfRun c.args.shown start calls c.args.jobs.now ends (string_bytes p.text)) (sym ended)
-    (is_of_run c.args.shown start calls c.args.jobs.now (string_bytes p.text) c.args.store.standing gathered.ends.items gathered.attempts.items
+    (is_of_run c.args.shown start calls c.args.jobs.now (string_bytes p.text) c.args.store.standing gathered.ends.items gathered.lost.items
     gathered.committed c.new.result gathered.hall stands c.new.ensures c.in-Ok.ensures.ok shows))
 
 pub returns-in-Ok-clause-fault : goal.returns-in-Ok-clause-fault

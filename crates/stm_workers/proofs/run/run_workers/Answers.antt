@@ -18,15 +18,15 @@ returns-in-Ok-gather-clause-ok g c =
     let reported = c.in-Ok-gather.ensures in
     let gathered = c.in-Ok-gather.gathered in
     let placed = c.in-Ok-placed.placed in
-    ran_on c.args.hall run.result.1 gathered.hall c.args.jobs.now placed.ends.items gathered.ends.items placed.attempts.items gathered.attempts.items
+    ran_on c.args.hall run.result.1 gathered.hall c.args.jobs.now placed.ends.items gathered.ends.items placed.lost.items gathered.lost.items
     gathered.committed reported.hall reported.ends.0 reported.ends.1
-    (ran_to c.args.hall run.result.1 c.args.jobs.now placed.ends.items placed.attempts.items c.start_of-start.result gathered.committed
+    (ran_to c.args.hall run.result.1 c.args.jobs.now placed.ends.items placed.lost.items c.start_of-start.result gathered.committed
     c.start_of-start.ensures run.ensures.gone_on run.ensures.kept run.ensures.takes
-    (at_ok (λ p. (length p.ends.items ≡ length c.args.jobs.now) × (length p.attempts.items ≡ length c.args.jobs.now)) run.result.0 placed c.in-Ok-placed.is
+    (at_ok (λ p. (length p.ends.items ≡ length c.args.jobs.now) × (length p.lost.items ≡ length c.args.jobs.now)) run.result.0 placed c.in-Ok-placed.is
     run.ensures.places)
     (at_ok (λ p. commits_in run.result.1.entries ≡ commits_in c.args.hall.entries + count_by is_committed p.ends.items) run.result.0 placed
     c.in-Ok-placed.is run.ensures.commits) reported.committed reported.stand
-    (at_ok (λ p. HaveTheirRuns c.args.hall c.args.jobs.now p.ends.items p.attempts.items) run.result.0 placed c.in-Ok-placed.is run.ensures.ran))
+    (at_ok (λ p. HaveTheirRuns c.args.hall c.args.jobs.now p.ends.items p.lost.items) run.result.0 placed c.in-Ok-placed.is run.ensures.ran))
 
 -- and each job was drawn once
 pub returns-in-Ok-gather-clause-drawn : goal.returns-in-Ok-gather-clause-drawn

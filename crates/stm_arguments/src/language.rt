@@ -65,6 +65,8 @@ Programs
   let NAME = TEXT                     outside of programs: a constant, of   let ttl = 60
                                       a text or a number
   let NAME = ITEM, ITEM ..            a list                                let sites = \"ams\", \"fra\"
+  let NAME(PARAMETER, ..) = VALUE     a value that is copied in where it    let held(k) = num_of(get(k) else \"0\")
+                                      is named: held(\"a\") + held(\"b\")
 
 Events
   begin REVISION limit OPERATIONS     first: the store's opening            begin 5 limit 3
@@ -96,4 +98,9 @@ Rules, of a search
   rule NAME = PROGRAM(ARGUMENT, ..)   a program of the source as a rule     rule one = zero(\"x\", \"y\")
     from LEVEL                        behind NAME: to be kept from that     rule one from Serializable { .. }
                                       level on
-  finally NAME { .. }                 where nothing is left to do           finally done { .. }";
+  finally NAME { .. }                 where nothing is left to do           finally done { .. }
+    end(RUNNER)                       in it: how that one ended, committed, if end(left) == \"gaveup\" { abort(\"left\") }
+                                      aborted, faulted, gaveup or ended, or
+                                      \"\" where it has not
+    why(RUNNER)                       its text or cause                     abort(why(left))
+    out(RUNNER, NUMBER)               its outputs as texts, from 0 on       if out(left, 0) == out(right, 0) { .. }";

@@ -21,7 +21,7 @@ use Rattle.stm_lasting.specs.Kept.{IsKept, OpensTo, OpensAlike}
 use Rattle.stm_storing.specs.Storing.{IsOpened}
 use Rattle.stm_storing.proofs.Around.{then}
 use Rattle.stm_storing.specs.Jobs.{AreAlikeSince}
-use Rattle.stm_storing.specs.Compacting.{ShowsTheSame, ShowTheSame, asked_floor, ShowsTheKept, HasCompacted, OpensCompacted, LeavesFoundOrCompacted}
+use Rattle.stm_storing.specs.Compacting.{ShowsTheSame, ShowTheSame, asked_floor, ShowsTheKept, HasDropped, HasCompacted, OpensCompacted, LeavesFoundOrCompacted}
 
 -- what `==` says of two live leases
 pub lease_decides : (a b : LiveLease) → Decides (eq-value.it a b) (a ≡ b)
@@ -82,13 +82,14 @@ as_compacted asked found before floor c opens is (inr new) =
 
 -- the file that was written, in the same words
 pub has_compacted : (asked : Option ℕ) (found file : List ℕ) (before : World) (floor : ℕ) → OpensTo found before → floor ≡ asked_floor asked (kept before.standing)
-    → ((after : World) × IsKept file after × ShowTheSame floor before after) → HasCompacted asked found file
+    → ((after : World) × IsKept file after × ShowTheSame floor before after × HasDropped floor after) → HasCompacted asked found file
 has_compacted asked found file before floor opens is new = record {
   before = before;
   after = new.0;
   opens = opens;
   kept = new.1;
   shows = subst (λ (n : ℕ). ShowTheSame n before new.0) is new.2;
+  dropped = subst (λ (n : ℕ). HasDropped n new.0) is new.3;
 }
 
 -- the opening of a file, and then its compaction

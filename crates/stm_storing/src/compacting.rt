@@ -1,12 +1,12 @@
 //! Writing the file of a world anew, without what is below a revision.
-ghost use Rattle.std.specs.Prelude.{◌≡◌, ◌≤◌, ◌⊎◌, ◌∷◌, ℕ, [], List, true, false, Some, IfOk, OnOk, IsTrue, string_bytes};
+ghost use Rattle.std.specs.Prelude.{◌≡◌, ◌≤◌, ◌⊎◌, ◌∷◌, ℕ, [], List, true, false, Some, IfOk, OnOk, IsTrue, length, string_bytes};
 ghost use Rattle.stm_history.specs.History.{now, key_at};
 ghost use Rattle.stm_txn.specs.Standing.{kept};
 ghost use Rattle.stm_world.specs.World.{World as WorldOf};
 ghost use Rattle.stm_records.specs.Disk.{Only, LeavesOnly};
 ghost use Rattle.stm_records.specs.RecordFiles.{IsSettled};
 ghost use Rattle.stm_lasting.specs.Kept.{world_in, IsKept, OpensTo};
-ghost use Rattle.stm_storing.specs.Compacting.{asked_floor, ShowsTheSame, ShowTheSame, HasCompacted, LeavesFoundOrCompacted};
+ghost use Rattle.stm_storing.specs.Compacting.{asked_floor, ShowsTheSame, ShowTheSame, HasDropped, HasCompacted, LeavesFoundOrCompacted};
 
 use crate::checkpoint_text::checkpoint_text;
 use crate::fault::StoreFault;
@@ -128,6 +128,44 @@ fn floor_of(store: &Store, asked: Option<u64>) -> Result<u64, StoreFault>
     Ok(floor)
 }
 
+/// The number below the revisions that the store of a world still has.
+fn number_below(world: &World) -> u64
+    ensures { result ≡ (kept world.now.standing).history.opening.number }
+{
+    world.store().keys().below()
+}
+
+/// Whether nothing of a world's store is below a revision.
+fn is_lowest(world: &World, floor: u64) -> bool
+    ensures lowest { result ≡ true → HasDropped floor world.now }
+    ensures positive { result ≡ false → 1 ≤ floor }
+{
+    floor <= number_below(world)
+}
+
+/// Whether a world's store has dropped what is below a revision.
+fn has_dropped(world: &World, floor: u64) -> bool
+    requires { 1 ≤ floor }
+    ensures { result ≡ true → HasDropped floor world.now }
+{
+    floor - 1 <= number_below(world)
+}
+
+/// Compares a world with the one that its checkpoint leads to. `CannotCompact`: that one shows something else, or has not dropped what is below.
+fn compare(alloc: Global, world: &World, after: &World, floor: u64) -> Result<(), StoreFault>
+    requires positive { 1 ≤ floor }
+    requires reached { floor ≤ now (kept world.now.standing).history }
+    ensures same { OnOk result (ShowTheSame floor world.now after.now) }
+    ensures dropped { OnOk result (HasDropped floor after.now) }
+{
+    let same = show_the_same(alloc, world, after, floor)?;
+    if same && has_dropped(after, floor) {
+        Ok(())
+    } else {
+        Err(StoreFault::CannotCompact)
+    }
+}
+
 /// A checkpoint of a world.
 #[derive(Drop)]
 struct Made {
@@ -143,15 +181,13 @@ fn checkpoint_of(alloc: Global, world: &World, floor: u64) -> Result<Made, Store
     requires reached { floor ≤ now (kept world.now.standing).history }
     ensures leads { IfOk result (λ made. world_in (string_bytes made.text ∷ []) ≡ Some made.world) }
     ensures same { IfOk result (λ made. ShowTheSame floor world.now made.world) }
+    ensures dropped { IfOk result (λ made. HasDropped floor made.world) }
 {
     let text = checkpoint_text(alloc, world, floor)?;
     let Some(after) = world_of_checkpoint(alloc, text.as_str().as_bytes())? else {
         return Err(StoreFault::CannotCompact);
     };
-    let same = show_the_same(alloc, world, &after, floor)?;
-    if !same {
-        return Err(StoreFault::CannotCompact);
-    }
+    compare(alloc, world, &after, floor)?;
     Ok(Made { text, world: after })
 }
 
@@ -166,7 +202,8 @@ fn compact_at<D: Disk>(
     requires positive { 1 ≤ floor }
     requires reached { floor ≤ now (kept world.now.standing).history }
     ensures settled { OnOk result (IsSettled D.is_usable D.seen D.may_leave records.new) }
-    ensures same { OnOk result ((after : WorldOf) × IsKept (D.seen records.new.disk) after × ShowTheSame floor world.now after) }
+    ensures same { OnOk result ((after : WorldOf) × IsKept (D.seen records.new.disk) after × ShowTheSame floor world.now after
+        × HasDropped floor after) }
     ensures any_moment { LeavesOnly D.moment D.left_since records.old.disk records.new.disk
         (λ c. OpensTo c world.now ⊎ ((after : WorldOf) × OpensTo c after × ShowTheSame floor world.now after)) }
 {
@@ -177,13 +214,6 @@ fn compact_at<D: Disk>(
     }
 }
 
-/// Whether nothing of a world's store is below a revision.
-fn is_lowest(world: &World, floor: u64) -> bool
-    ensures { result ≡ false → 1 ≤ floor }
-{
-    floor <= world.store().keys().below()
-}
-
 /// Whether a runner of a world runs, or a watcher is open.
 fn is_busy(world: &World) -> bool {
     has_running(world) || world.store().has_watchers()
@@ -192,8 +222,8 @@ fn is_busy(world: &World) -> bool {
 /// Writes the file of a world anew, which was opened with these bytes, as one record without what is below a revision: the named one, or else the store's.
 /// Where nothing is below it, the file stays as it is. Says how many records the file has then.
 ///
-/// `FutureRevision`: the revision is above the store's. `Compacted`: it was compacted. `CannotCompact`: a runner runs, a watcher is open, or no checkpoint was found
-/// that shows the same. After each refusal the file opens to what it would have.
+/// `FutureRevision`: the revision is above the store's. `Compacted`: it was compacted. `CannotCompact`: a runner runs, a watcher is open, or no checkpoint
+/// was found that shows the same. After each refusal the file opens to what it would have.
 pub fn compact_kept<D: Disk>(
     records: &mut RecordFile<D>,
     bytes: Vec<u8>,
@@ -204,6 +234,7 @@ pub fn compact_kept<D: Disk>(
     requires usable { IsTrue (D.is_usable records.old.disk) }
     ensures settled { OnOk result (IsSettled D.is_usable D.seen D.may_leave records.new) }
     ensures compacted { OnOk result (HasCompacted asked (D.seen records.old.disk) (D.seen records.new.disk)) }
+    ensures end { IfOk result (λ checked. checked.bytes ≡ length (D.seen records.new.disk)) }
 
     // A crash at any moment leaves a file that opens to what it was found to open to, or to a world that shows the same.
     ensures any_moment { LeavesOnly D.moment D.left_since records.old.disk records.new.disk (LeavesFoundOrCompacted asked (D.seen records.old.disk)) }

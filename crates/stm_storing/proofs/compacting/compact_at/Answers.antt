@@ -16,7 +16,7 @@ returns-in_err-made-clause-any_moment g c =
     (λ f left. inl (still_opens file f world c.requires.kept (c.requires.settled.durable f (g.met.D.Disk.only_now disk f left))))
 
 pub returns-in-Ok-clause-same : goal.returns-in-Ok-clause-same
-returns-in-Ok-clause-same g c = (c.in_ok-made.made.world, c.in-Ok.ensures.kept, c.in_ok-made.ensures.same)
+returns-in-Ok-clause-same g c = (c.in_ok-made.made.world, c.in-Ok.ensures.kept, c.in_ok-made.ensures.same, c.in_ok-made.ensures.dropped)
 
 pub returns-in-Ok-clause-any_moment : goal.returns-in-Ok-clause-any_moment
 returns-in-Ok-clause-any_moment g c =

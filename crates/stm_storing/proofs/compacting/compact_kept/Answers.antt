@@ -17,7 +17,7 @@ returns-then-is_lowest-clause-compacted g c =
     let before = c.in_ok-kept.kept.world in
     has_compacted c.args.asked (g.D.Disk.seen c.args.records.now.disk) (g.D.Disk.seen c.opened.new.records.disk) before c.in_ok-floor.floor
     c.in_ok-kept.ensures.opens.opens (c.in_ok-floor.ensures.asked ∙ ap (asked_floor c.args.asked) c.store.ensures.standing)
-    (before, c.in_ok-kept.ensures.opens.kept, shows_itself c.in_ok-floor.floor before)
+    (before, c.in_ok-kept.ensures.opens.kept, shows_itself c.in_ok-floor.floor before, c.is_lowest.ensures.lowest c.if-is_lowest.true)
 
 pub returns-then-is_lowest-clause-any_moment : goal.returns-then-is_lowest-clause-any_moment
 returns-then-is_lowest-clause-any_moment g c = weaker c.opened.ensures.any_moment (λ f alike. inl alike)

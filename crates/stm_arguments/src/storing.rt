@@ -120,7 +120,7 @@ pub(crate) fn store_command<'a>(alloc: Global) -> Result<Command<'a>, AllocError
     let compact = flag(
         alloc,
         "compact",
-        "Drop what is below the store's revision, or that of --since",
+        "Drop what is below the present revision, or that of --since",
     )
     .conflicts_with("at")?
     .conflicts_with("check")?;

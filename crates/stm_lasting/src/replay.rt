@@ -11,6 +11,7 @@ use crate::checkpoint_text::read_checkpoint;
 use std::alloc::{AllocError, Global};
 use stm_retry::World;
 use stm_texts::{ReadError, Scenario, opens_with, read_scenario};
+use stm_txn::Checkpoint;
 
 /// Why records could not be run again.
 #[derive(Clone, Copy, Debug, PartialEq, Eq)]
@@ -117,18 +118,31 @@ fn begun_world(alloc: Global, scenario: &Scenario) -> Result<World, ReplayFault>
     Ok(world)
 }
 
-/// The world that a checkpoint leads to.
+/// The world that a checkpoint leads to, and then its scenario.
 #[tactic(auto, using(crate::proofs::Resuming::resumes))]
+fn restored_world(
+    alloc: Global,
+    checkpoint: Checkpoint,
+    scenario: &Scenario,
+    at: usize,
+) -> Result<World, ReplayFault>
+    ensures { IfOk result (λ w. resumed (Some (checkpoint, scenario.now)) ≡ Some w) }
+{
+    let Some(mut world) = World::restored(alloc, checkpoint)? else {
+        return Err(ReplayFault::NoScenario(at));
+    };
+    run_again(&mut world, scenario)?;
+    Ok(world)
+}
+
+/// The world that the text of a checkpoint leads to.
 fn resumed_world(alloc: Global, text: &[u8], at: usize) -> Result<World, ReplayFault>
     ensures { IfOk result (λ w. resumed (checkpoint_in text.now) ≡ Some w) }
 {
     let Some((checkpoint, scenario)) = read_checkpoint(alloc, text)? else {
         return Err(ReplayFault::NoScenario(at));
     };
-    let Some(mut world) = World::restored(alloc, checkpoint)? else {
-        return Err(ReplayFault::NoScenario(at));
-    };
-    run_again(&mut world, &scenario)?;
+    let world = restored_world(alloc, checkpoint, &scenario, at)?;
     Ok(world)
 }
 
@@ -137,9 +151,15 @@ pub(crate) fn world_begun(alloc: Global, text: &[u8], at: usize) -> Result<World
     ensures { IfOk result (λ w. begun_with (scenario_in text.now) text.now ≡ Some w) }
 {
     match read_scenario(alloc, text) {
-        Ok(scenario) => begun_world(alloc, &scenario),
+        Ok(scenario) => {
+            let world = begun_world(alloc, &scenario)?;
+            Ok(world)
+        }
         Err(ReadError::OutOfMemory) => Err(ReplayFault::OutOfMemory),
-        Err(ReadError::Bad(_)) => resumed_world(alloc, text, at),
+        Err(ReadError::Bad(_)) => {
+            let world = resumed_world(alloc, text, at)?;
+            Ok(world)
+        }
     }
 }
 
@@ -148,7 +168,8 @@ fn first_world(alloc: Global, bytes: &[u8], place: &(usize, usize)) -> Result<Wo
     ensures { IfOk result (λ w. begun_with (scenario_in (take place.now.1 (drop place.now.0 bytes.now))) (take place.now.1 (drop place.now.0 bytes.now))
         ≡ Some w) }
 {
-    world_begun(alloc, record_at(bytes, place), place.0)
+    let world = world_begun(alloc, record_at(bytes, place), place.0)?;
+    Ok(world)
 }
 
 /// Takes the records of these places, one after another.

@@ -34,6 +34,10 @@ asked_floor (Some revision) s = revision
 abbrev pub ShowsTheKept : Option ℕ → World → World → Type 0
 ShowsTheKept asked before after = ShowTheSame (asked_floor asked (kept before.standing)) before after
 
+-- and that it has nothing below it
+abbrev pub HasDroppedTheRest : Option ℕ → World → World → Type 0
+HasDroppedTheRest asked before after = HasDropped (asked_floor asked (kept before.standing)) after
+
 -- the file of a world leads to one that shows the same from a revision on, and has nothing below it
 pub record HasCompacted (asked : Option ℕ) (found file : List ℕ) : Type 0 where
   pub before : World
@@ -41,7 +45,7 @@ pub record HasCompacted (asked : Option ℕ) (found file : List ℕ) : Type 0 wh
   pub opens : OpensTo found before
   pub kept : IsKept file after
   pub shows : ShowsTheKept asked before after
-  pub dropped : HasDropped (asked_floor asked (kept before.standing)) after
+  pub dropped : HasDroppedTheRest asked before after
 
 -- a file opens to a world that shows the same
 abbrev pub OpensCompacted : Option ℕ → World → List ℕ → Type 0

@@ -22,6 +22,6 @@ pub returns-in-Ok-clause-any_moment : goal.returns-in-Ok-clause-any_moment
 returns-in-Ok-clause-any_moment g c =
     weaker c.compact.ensures.any_moment (λ f left. ⊎_elim (λ old. inl old) (λ new. inr (c.in_ok-made.made.world, new, c.in_ok-made.ensures.same)) left)
 
-pub returns-in-Err-clause-any_moment : goal.returns-in-Err-clause-any_moment
-returns-in-Err-clause-any_moment g c =
+pub returns-clause-any_moment : goal.returns-clause-any_moment
+returns-clause-any_moment g c =
     weaker c.compact.ensures.any_moment (λ f left. ⊎_elim (λ old. inl old) (λ new. inr (c.in_ok-made.made.world, new, c.in_ok-made.ensures.same)) left)

@@ -25,6 +25,12 @@ returns-then-is_lowest-clause-any_moment g c = weaker c.opened.ensures.any_momen
 pub returns-then-is_busy-clause-any_moment : goal.returns-then-is_busy-clause-any_moment
 returns-then-is_busy-clause-any_moment g c = weaker c.opened.ensures.any_moment (λ f alike. inl alike)
 
+pub compact_at-requires-clause-kept : goal.compact_at-requires-clause-kept
+compact_at-requires-clause-kept g c = c.in_ok-kept.ensures.opens.kept
+
+pub compact_at-requires-clause-positive : goal.compact_at-requires-clause-positive
+compact_at-requires-clause-positive g c = c.is_lowest.ensures.positive c.if-is_lowest.false
+
 pub compact_at-requires-clause-reached : goal.compact_at-requires-clause-reached
 compact_at-requires-clause-reached g c =
     subst (λ (s : Standing). c.in_ok-floor.floor ≤ now s.history) c.store.ensures.standing c.in_ok-floor.ensures.within

@@ -1,5 +1,6 @@
 """A plain interpreter of a source's statements. It knows nothing of the programs that they stand for."""
 import re
+import sys
 from dataclasses import dataclass, field
 
 from kinds import given_by, items_of
@@ -12,6 +13,8 @@ LEAST, MOST = -(2**63), 2**63 - 1
 MOST_TEXT = 65536
 MOST_TURNS = 10000
 NUMBER = re.compile(r"-?[0-9]+")
+# A text of 65536 digits is read, too.
+sys.set_int_max_str_digits(0)
 
 
 class Left(Exception):

@@ -6,14 +6,18 @@ ghost use Rattle.stm_compiling.specs.Faults.{IsExplanation, place_of};
 use crate::calls::{listed_behind, parameters_of, takes_list};
 use crate::elses::said_of_else;
 use crate::fault::position_in;
+use crate::habits::{
+    said_of_ending, said_of_event, said_of_lease, said_of_no_event, said_of_operation, said_of_word,
+};
 use crate::misfits::said_of_start;
 use crate::more_faults::{MOST_MORE, Rest};
 use crate::naming::{is_called, said_of_function, said_of_place};
 use crate::other_kinds::said_of_value;
-use crate::spots::{Event, Place, Spot, spot_at};
-use crate::titles::said_of_names;
+use crate::spots::{Event, Place, Spot, name_in, spot_at};
+use crate::titles::{near_name, said_of_names};
 use crate::wanted::{
-    EVENTS, STATEMENT, Wanted, allowed, is_behind_condition_word, nearest, numbers_at, wanted_at,
+    EVENT_NOUN, EVENTS, STATEMENT, Wanted, allowed, is_behind_condition_word, nearest, numbers_at,
+    wanted_at,
 };
 use serde_json::Value as Json;
 use std::alloc::{AllocError, Global};
@@ -80,31 +84,6 @@ fn found_at(alloc: Global, source: &[u8], spot: Spot<'_>, at: usize) -> Result<S
     }
 }
 
-/// What is said of words that have no place in a source, which people know from elsewhere; nothing of others.
-fn said_of_word(word: &str) -> &'static str {
-    match word {
-        "var" | "const" => "a new variable is let NAME = VALUE",
-        "func" | "fn" | "def" => "a program is program NAME(PARAMETER, ..) { .. }",
-        "switch" | "case" | "match" => "choices are if, else if and else",
-        "while" | "loop" | "range" =>
-            "a loop is for NAME in 0..COUNT { .. }, or for NAME in ITEM, ITEM { .. }",
-        "nil" | "null" | "none" | "None" => "an absent key has the value \"\"",
-        "true" | "false" => "no value is true or false: a condition compares two values",
-        "delete" => "a key is deleted by del(KEY)",
-        "print" | "println" => "a value is put out by emit(VALUE)",
-        "panic" | "error" | "throw" => "a run is broken off by abort(TEXT)",
-        _ => "",
-    }
-}
-
-/// The name in a place; an empty one where none stands there.
-fn name_in(spot: Spot<'_>) -> &str {
-    match spot.kind() {
-        Some(TokenKind::Name(name)) => name.as_str(),
-        _ => "",
-    }
-}
-
 /// Whether a character cannot stand in a name.
 fn is_sign(character: char) -> bool {
     !character.is_alphanumeric() && character != '_'
@@ -134,9 +113,21 @@ fn said_of_sign(source: &[u8], spot: Spot<'_>) -> &'static str {
     }
     match spot.next() {
         Some(TokenKind::Symbol(Symbol::Concatenate)) => "one is added by NAME += 1",
+        Some(TokenKind::Symbol(Symbol::Comma)) if spot.place() == Place::Statements => {
+            "each variable is set by itself: NAME = VALUE, or let NAME = VALUE"
+        }
         Some(TokenKind::Wrong) => "a new variable is let NAME = VALUE",
         _ => "",
     }
+}
+
+/// Whether a name is to be given in the condition of an `if`: it stands behind the word, and a comma or `:=` behind it.
+fn is_given_in_condition(source: &[u8], spot: Spot<'_>) -> bool {
+    let Some(next) = spot.from.get(1) else {
+        return false;
+    };
+    let is_set = between(source, next.at, next.at.saturating_add(2)) == ":=";
+    spot.is_behind_word(0, Word::If) && (is_set || next.kind.is_symbol(Symbol::Comma))
 }
 
 /// Whether a symbol compares two values.
@@ -197,17 +188,14 @@ fn said_of_symbol(spot: Spot<'_>) -> &'static str {
     if spot.is_before_a_block() {
         return "";
     }
-    let said = said_behind_a_way_out(spot);
-    if !said.is_empty() {
-        return said;
-    }
     match (spot.kind(), spot.place()) {
-        (Some(TokenKind::Symbol(Symbol::Semicolon)), Place::Events) => {
-            "events stand one behind another, without it"
-        }
+        (_, Place::Events) => said_of_event(spot),
+        (_, Place::Operations) => said_of_operation(spot),
         (Some(TokenKind::Symbol(symbol)), Place::Statements) if is_comparison(*symbol) => {
             "no value is true or false, and a comparison stands in an if"
         }
+        (Some(TokenKind::Symbol(Symbol::Comma)), Place::Statements)
+            if spot.is_behind_word(1, Word::Let) => "each variable has a let of its own",
         (Some(TokenKind::Word(Word::Get | Word::Rev)), Place::Statements) => {
             "what is looked up is given a name: let NAME = get(KEY)"
         }
@@ -220,6 +208,7 @@ fn said_of_symbol(spot: Spot<'_>) -> &'static str {
         (Some(TokenKind::Word(Word::Break | Word::Continue)), Place::Statements) => {
             "it stands in the block of a for"
         }
+        (_, Place::Statements) => said_of_lease(spot),
         _ => "",
     }
 }
@@ -261,8 +250,38 @@ fn no_such_word(
             "{found} is no statement, and stands outside of blocks alone: a }} is missing before it"
         );
     }
+    let said = said_of_no_event(spot);
+    if noun == EVENT_NOUN && !said.is_empty() {
+        return format!(in alloc; "{found} is no event: {said}");
+    }
     let list = allowed(alloc, words, beside, name)?;
     format!(in alloc; "{found} is no {noun}: {list}")
+}
+
+/// Which line ends before a token that begins the next one, in parentheses that are still open; nothing elsewhere.
+fn line_without(alloc: Global, source: &[u8], spot: Spot<'_>) -> Result<String, AllocError> {
+    if let (Place::Parentheses, Some(before), Some(token)) = (
+        spot.place(),
+        spot.before.last(),
+        spot.from.first(),
+    ) {
+        let line = position_in(source, before.at).line;
+        if line < position_in(source, token.at).line {
+            return format!(in alloc; "; line {line} ends without it");
+        }
+    }
+    Ok(String::new(alloc))
+}
+
+/// Whether a token stands directly behind the digits of a number.
+fn is_glued(source: &[u8], spot: Spot<'_>) -> bool {
+    let (Some(TokenKind::Number(_)), Some(token)) = (spot.back(0), spot.from.first()) else {
+        return false;
+    };
+    match source.get(token.at.saturating_sub(1)) {
+        Some(byte) => byte.is_ascii_digit(),
+        None => false,
+    }
 }
 
 /// What is said of a token in whose place another one is wanted.
@@ -272,6 +291,15 @@ fn syntax_words(
     found: &str,
     spot: Spot<'_>,
 ) -> Result<String, AllocError> {
+    if is_glued(source, spot) && !name_in(spot).is_empty() {
+        return format!(in alloc;
+            "{found} has no meaning here: a number has the digits 0 to 9 alone"
+        );
+    }
+    let said = said_behind_a_way_out(spot);
+    if !said.is_empty() {
+        return format!(in alloc; "{found} has no meaning here: {said}");
+    }
     let said = said_of_sign(source, spot);
     if !said.is_empty() && said_of_else(spot).is_empty() {
         return format!(in alloc; "{found} is no statement: {said}");
@@ -286,13 +314,24 @@ fn syntax_words(
         }
         Wanted::Said(wanted) => format!(in alloc; "found {found}, where {wanted} is wanted"),
         Wanted::OperatorOr(wanted) => {
-            format!(in alloc; "found {found}, where an operator, or {wanted} is wanted")
+            let line = line_without(alloc, source, spot)?;
+            format!(in alloc; "found {found}, where an operator, or {wanted} is wanted{line}")
         }
     }
 }
 
 /// What is said of a value in the place of a condition, or the reverse.
-fn sort_words(alloc: Global, found: &str, spot: Spot<'_>) -> Result<String, AllocError> {
+fn sort_words(
+    alloc: Global,
+    source: &[u8],
+    found: &str,
+    spot: Spot<'_>,
+) -> Result<String, AllocError> {
+    if is_given_in_condition(source, spot) {
+        return format!(in alloc;
+            "{found} cannot be set here: a variable is set in front of the if"
+        );
+    }
     if is_behind_condition_word(spot) {
         return format!(in alloc;
             "{found} begins a value, where a condition is wanted: two values with ==, !=, <, <=, > or >= between them"
@@ -311,11 +350,23 @@ fn said_of_name(source: &[u8], spot: Spot<'_>) -> &'static str {
     if let Some(function) = behind_dot(source, spot) {
         return said_of_function(function);
     }
+    if is_given_in_condition(source, spot) {
+        return "a new variable stands in front of the if: let NAME = VALUE";
+    }
     if is_called(spot) {
         said_of_function(name)
     } else {
-        ""
+        said_of_ending(name)
     }
+}
+
+/// Which name given above is nearest to one that is none, in words; nothing where none is near.
+fn near_words(alloc: Global, spot: Spot<'_>) -> Result<String, AllocError> {
+    let near = near_name(alloc, name_in(spot), spot)?;
+    if near.is_empty() {
+        return Ok(String::new(alloc));
+    }
+    format!(in alloc; "; the nearest above is {near}")
 }
 
 /// What is said of a name that cannot stand in its place.
@@ -325,15 +376,16 @@ fn name_words(
     found: &str,
     spot: Spot<'_>,
 ) -> Result<String, AllocError> {
-    let said = said_of_name(source, spot);
-    if !said.is_empty() {
-        return format!(in alloc; "{found} is no name of anything here: {said}");
-    }
     if let Some(said) = said_of_names(alloc, found, name_in(spot), spot)? {
         return Ok(said);
     }
+    let near = near_words(alloc, spot)?;
+    let said = said_of_name(source, spot);
+    if !said.is_empty() {
+        return format!(in alloc; "{found} is no name of anything here: {said}{near}");
+    }
     let said = said_of_place(spot);
-    format!(in alloc; "{found} {said}")
+    format!(in alloc; "{found} {said}{near}")
 }
 
 /// What is said of a number that is out of range.
@@ -356,7 +408,12 @@ fn argument_words(alloc: Global, found: &str, spot: Spot<'_>) -> Result<String, 
 }
 
 /// What is said where no token begins, but this character stands.
-fn token_words(alloc: Global, spot: Spot<'_>, character: &str) -> Result<String, AllocError> {
+fn token_words(
+    alloc: Global,
+    source: &[u8],
+    spot: Spot<'_>,
+    character: &str,
+) -> Result<String, AllocError> {
     let found = quoted(alloc, character)?;
     match character {
         "\"" => String::from_str(
@@ -368,12 +425,21 @@ fn token_words(alloc: Global, spot: Spot<'_>, character: &str) -> Result<String,
                 "{found} begins nothing: a loop is for NAME in 0..COUNT {{ .. }}, or for NAME in ITEM, ITEM {{ .. }}"
             )
         }
+        ":" if spot.is_before_a_block() => {
+            format!(in alloc; "{found} begins nothing: a block stands in braces, {{ .. }}")
+        }
         ":" => format!(in alloc; "{found} begins nothing: a new variable is let NAME = VALUE"),
         "'" | "`" => format!(in alloc; "{found} begins nothing: texts stand in double quotes"),
         "[" => format!(in alloc;
             "{found} begins nothing: there are no arrays, and a scenario that is JSON needs no compile"
         ),
         "#" => format!(in alloc; "{found} begins nothing: a comment begins with //"),
+        "." if is_glued(source, spot) => {
+            format!(in alloc; "{found} begins nothing: numbers are whole")
+        }
+        "." => format!(in alloc;
+            "{found} begins nothing: values have no parts, and the functions are get(KEY), rev(KEY), num_of(TEXT) and text_of(NUMBER)"
+        ),
         _ => format!(in alloc; "{found} begins nothing that a source has"),
     }
 }
@@ -403,7 +469,7 @@ fn first_character(text: &str) -> &str {
 }
 
 /// What is said of a token that is wrong.
-fn words_at(
+pub(crate) fn words_at(
     alloc: Global,
     source: &[u8],
     spot: Spot<'_>,
@@ -419,14 +485,14 @@ fn words_at(
         ),
         SourceCause::Token => {
             let character = first_character(word_from(source, spot, bad.at));
-            token_words(alloc, spot, character)
+            token_words(alloc, source, spot, character)
         }
         SourceCause::Syntax => syntax_words(alloc, source, found, spot),
         SourceCause::Return => String::from_str(
             alloc,
-            "a counted loop, for .. in 0.., has no return and no break: let found = 0 before it, and if found == 0 && .. in it",
+            "a counted loop, for .. in 0.., has no return and no break: for .. in 0, 1, 2 has both; or let found = 0 before it, and if found == 0 && .. in it",
         ),
-        SourceCause::Sort => sort_words(alloc, found, spot),
+        SourceCause::Sort => sort_words(alloc, source, found, spot),
         SourceCause::Name => name_words(alloc, source, found, spot),
         SourceCause::Range => range_words(alloc, found, spot),
         SourceCause::Key => format!(in alloc;

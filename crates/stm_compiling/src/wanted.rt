@@ -1,8 +1,9 @@
 //! What is wanted in a place of a source.
 
-use crate::calls::{behind_value, is_parameter, value_in};
+use crate::calls::{behind_asked, behind_value, is_asked, is_parameter, value_in};
 use crate::spots::{Event, Place, Spot};
 use std::alloc::{AllocError, Global};
+use stm_program::Operator;
 use stm_tokens::{Symbol, TokenKind, Word};
 use strsim::levenshtein;
 
@@ -24,6 +25,9 @@ const OPTIONS: [&str; 16] = [
 const ORDERS: [&str; 4] = ["==", "!=", "<", ">"];
 
 /// What is wanted where one of these words may begin it.
+pub(crate) const EVENT_NOUN: &str = "event";
+
+/// The same in a program.
 pub(crate) const STATEMENT: &str = "statement";
 
 const STATEMENTS: [&str; 8] = ["put", "del", "emit", "abort", "let", "if", "for", "return"];
@@ -38,6 +42,11 @@ const LEVELS: [&str; 4] = [
     "Serializable",
     "SerializableSnapshot",
 ];
+
+/// Whether a word is a level.
+pub(crate) fn is_level(word: &str) -> bool {
+    LEVELS.iter().any(|level| *level == word)
+}
 
 /// What is wanted in a place.
 #[derive(Clone, Copy)]
@@ -70,11 +79,14 @@ fn behind_name(spot: Spot<'_>) -> Option<Wanted> {
     if spot.is_behind(0, "watch") {
         return Some(Wanted::Said("a key, which is a text"));
     }
+    if spot.is_behind(1, "start") {
+        return Some(Wanted::Said("the ( of its arguments, () if it has none,"));
+    }
     None
 }
 
 /// Whether what stands before a place is a name behind which a number stands.
-fn is_behind_number_name(spot: Spot<'_>) -> bool {
+pub(crate) fn is_behind_number_name(spot: Spot<'_>) -> bool {
     for name in [
         "begin", "limit", "grant", "ttl", "keep", "revoke", "to", "poll", "max", "cancel",
         "compact", "from",
@@ -112,6 +124,9 @@ fn in_event(spot: Spot<'_>) -> Wanted {
     if is_behind_number_name(spot) {
         return Wanted::Said("a whole number");
     }
+    if spot.is_behind_symbol(0, Symbol::Arithmetic(Operator::Mul)) {
+        return Wanted::Said("a number of steps, as in step ana*2,");
+    }
     if spot.is_behind(1, "grant") {
         return Wanted::Said("ttl NUMBER");
     }
@@ -129,7 +144,7 @@ fn in_event(spot: Spot<'_>) -> Wanted {
             Wanted::Words("order", &ORDERS, "")
         }
         Some(Event::Start) => Wanted::Words("event, and nothing of a start", &OPTIONS, ""),
-        _ => Wanted::Words("event", &EVENTS, ""),
+        _ => Wanted::Words(EVENT_NOUN, &EVENTS, ""),
     }
 }
 
@@ -151,11 +166,7 @@ pub(crate) fn is_behind_operator(spot: Spot<'_>) -> bool {
                 | Symbol::LessOrEqual
                 | Symbol::Greater
                 | Symbol::GreaterOrEqual
-                | Symbol::Add
-                | Symbol::Subtract
-                | Symbol::Multiply
-                | Symbol::Divide
-                | Symbol::Remainder
+                | Symbol::Arithmetic(_)
                 | Symbol::Concatenate
         ),
         _ => false,
@@ -225,8 +236,11 @@ fn statement_or_more(spot: Spot<'_>) -> Wanted {
 
 /// What is wanted in a program, outside of parentheses.
 fn in_program(spot: Spot<'_>) -> Wanted {
-    if spot.is_behind_word(0, Word::Let) || spot.is_behind_word(0, Word::For) {
+    if spot.is_behind_word(0, Word::Let) {
         return Wanted::Said("a name");
+    }
+    if spot.is_behind_word(0, Word::For) {
+        return Wanted::Said("a name, as in for NAME in 0..COUNT max 100 { .. },");
     }
     if spot.is_behind_word(1, Word::Let) {
         return Wanted::Said("=");
@@ -271,6 +285,9 @@ fn in_parentheses(spot: Spot<'_>) -> Wanted {
     if is_behind_operator(spot) {
         return Wanted::Said("a value");
     }
+    if is_asked(spot) {
+        return Wanted::Said(behind_asked(spot));
+    }
     if is_parameter(spot) {
         return Wanted::Said(
             "a comma, or the ) behind the parameters, which have names and no types,",
@@ -291,7 +308,8 @@ fn is_behind_else_of_look_up(spot: Spot<'_>) -> bool {
 fn is_behind_sign(spot: Spot<'_>) -> bool {
     match spot.back(1) {
         Some(TokenKind::Symbol(symbol)) => {
-            *symbol != Symbol::RightParenthesis && spot.is_behind_symbol(0, Symbol::Subtract)
+            *symbol != Symbol::RightParenthesis
+                && spot.is_behind_symbol(0, Symbol::Arithmetic(Operator::Sub))
         }
         _ => false,
     }

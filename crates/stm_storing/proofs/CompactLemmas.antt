@@ -1,11 +1,12 @@
 -- What worlds show that are compared, and what a crash leaves of a compaction.
-use Rattle.std.proofs.Common.{◌≡◌, ◌⊎◌, inl, inr, ⊎_elim, ℕ, ◌-◌, ◌≤◌, Bool, rules, List, Option, None, Some, option_map, Decides, refl, sym, ap, ◌∙◌, subst, arith}
+use Rattle.std.proofs.Common.{◌≡◌, ◌⊎◌, inl, inr, ⊎_elim, ℕ, ◌+◌, ◌-◌, ◌<◌, ◌≤◌, Bool, false, is_some, rules, List, length, Option, None, Some, option_map, Decides, refl, sym, ap, ◌∙◌, subst, arith}
 use Rattle.std.specs.Prelude.{unwrap_or}
 use Rattle.std.specs.BTreeMap.{BTreeMap}
 use Rattle.std.specs.Cmp.{nat_cmp_total}
 use Rattle.std.specs.FinMap.{same_map, nat_cmp-IsAntisymmetric}
 use Rattle.std.specs.Map.{lookup}
 use Rattle.std.specs.Ordering.{nat_cmp, is_eq}
+use Rattle.std.proofs.lemmas.Bool.{cases_lt, false≢true}
 use Rattle.std.proofs.lemmas.Bool.Decides.{Decides-eqb}
 use Rattle.stm_history.specs.History.{now, key_at}
 use Rattle.stm_leases.specs.Live.{Live}
@@ -13,7 +14,8 @@ use Rattle.stm_entries.specs.declared.live_leases.LiveLease.{LiveLease}
 use Rattle.stm_entries.specs.contracts.live_leases.LiveLeasePartialEq.TheImpl.{eq-value}
 use Rattle.stm_entries.specs.LiveLeases.{term_of, HasLeases}
 use Rattle.stm_txn.specs.Standing.{Standing, kept}
-use Rattle.stm_world.specs.World.{World}
+use Rattle.stm_world.specs.World.{World, Runner, Slot, runner_at}
+use Rattle.stm_world.proofs.Slots.{runner_there}
 use Rattle.stm_frames.proofs.Unique.{opens_log}
 use Rattle.stm_records.specs.Disk.{LeavesOnly}
 use Rattle.stm_lasting.proofs.Moments.{weaker}
@@ -21,7 +23,7 @@ use Rattle.stm_lasting.specs.Kept.{IsKept, OpensTo, OpensAlike}
 use Rattle.stm_storing.specs.Storing.{IsOpened}
 use Rattle.stm_storing.proofs.Around.{then}
 use Rattle.stm_storing.specs.Jobs.{AreAlikeSince}
-use Rattle.stm_storing.specs.Compacting.{ShowsTheSame, ShowTheSame, asked_floor, ShowsTheKept, HasDropped, HasCompacted, OpensCompacted, LeavesFoundOrCompacted}
+use Rattle.stm_storing.specs.Compacting.{ShowsTheSame, ShowTheSame, asked_floor, ShowsTheKept, HasDropped, CanBeAsked, IsRewritten, HasCompacted, OpensCompacted, LeavesFoundOrCompacted}
 
 -- what `==` says of two live leases
 pub lease_decides : (a b : LiveLease) → Decides (eq-value.it a b) (a ≡ b)
@@ -51,6 +53,25 @@ pub worlds_show : (floor : ℕ) (s t : Standing) (u v : Standing) → u ≡ kept
 worlds_show floor s t u v is are live then =
     let same : u.live ≡ v.live = ap (λ (w : Standing). w.live) is ∙ live ∙ sym (ap (λ (w : Standing). w.live) are) in
     subst (λ (w : Standing). ShowsTheSame floor w (kept t)) is (subst (λ (w : Standing). ShowsTheSame floor u w) are (then same))
+
+-- one runner more that doesn't run
+pub one_more_idle : (slots : List Slot) (runner : ℕ) → ((k : ℕ) → k < runner → is_some (runner_at (k + 1) slots) ≡ false)
+    → is_some (runner_at (runner + 1) slots) ≡ false → (k : ℕ) → k < runner + 1 → is_some (runner_at (k + 1) slots) ≡ false
+one_more_idle slots runner before this k within =
+    ⊎_elim (λ less. before k less) (λ past. subst (λ (n : ℕ). is_some (runner_at (n + 1) slots) ≡ false) (omega (arith, within, past)) this) (cases_lt k runner)
+
+-- no runner runs, where none of those that were started does
+pub none_runs : (slots : List Slot) → ((k : ℕ) → k < length slots → is_some (runner_at (k + 1) slots) ≡ false) → (id : ℕ) → is_some (runner_at id slots) ≡ false
+none_runs slots none id = idle (runner_at id slots) refl
+  where
+    idle : (o : Option Runner) → runner_at id slots ≡ o → is_some o ≡ false
+    idle None is = refl
+    idle (Some r) is =
+        let there = runner_there id slots r is in
+        let same : id - 1 + 1 ≡ id = omega (arith, there.0) in
+        let this : is_some (runner_at id slots) ≡ false =
+        subst (λ (n : ℕ). is_some (runner_at n slots) ≡ false) same (none (id - 1) (omega (arith, there.0, there.1))) in
+        absurd (false≢true (sym this ∙ ap (λ (o : Option Runner). is_some o) is))
 
 -- the revision that is asked for
 pub floor_asked : (asked : Option ℕ) (s : Standing) (revision : ℕ) → revision ≡ now s.history → unwrap_or asked revision ≡ asked_floor asked s
@@ -82,12 +103,15 @@ as_compacted asked found before floor c opens is (inr new) =
 
 -- the file that was written, in the same words
 pub has_compacted : (asked : Option ℕ) (found file : List ℕ) (before : World) (floor : ℕ) → OpensTo found before → floor ≡ asked_floor asked (kept before.standing)
+    → CanBeAsked asked (kept before.standing) → IsRewritten before file ⊎ HasDropped floor before
     → ((after : World) × IsKept file after × ShowTheSame floor before after × HasDropped floor after) → HasCompacted asked found file
-has_compacted asked found file before floor opens is new = record {
+has_compacted asked found file before floor opens is readable written new = record {
   before = before;
   after = new.0;
   opens = opens;
+  readable = readable;
   kept = new.1;
+  written = ⊎_elim (λ anew. inl anew) (λ lowest. inr (subst (λ (n : ℕ). HasDropped n before) is lowest)) written;
   shows = subst (λ (n : ℕ). ShowTheSame n before new.0) is new.2;
   dropped = subst (λ (n : ℕ). HasDropped n new.0) is new.3;
 }

@@ -106,6 +106,8 @@ pub(crate) fn values_room(
     }
 }
 
+/// How many of the `room` nodes are left behind a condition, which may have so many levels, or what is wrong with its first node that does not fit:
+/// `TooDeep` or `TooManyNodes`, and `TooLong` where a text is longer than a program may have one.
 #[tactic(auto, using(crate::proofs::RoomLemmas::condition_deep, crate::proofs::RoomLemmas::condition_full))]
 pub fn condition_room(condition: &Cond, levels: usize, room: usize) -> Result<usize, SourceCause>
     ensures is { result ≡ spec.condition_room levels room condition.now }

@@ -61,7 +61,7 @@ statements-loop-turn-preserved t c =
     let some : n - c.loop-turn._turn ≡ suc (n - (c.loop-turn._turn + 1)) = omega arith in
     let unclosed : after_symbol RightBrace c.loop-turn.rest.now ≡ None = search rules in
     let comes : is_left c.loop-turn.ending ≡ false = search rules in
-    rw (c.in_ok-push_up.ensures, c.skip_semicolon-rest.ensures) (goes_on c.args.around (statement_by (block_at c.args.levels) c.args.levels c.args.around) c.loop-turn.parts.items
+    rw (c.in_ok-push_up.ensures, c.in_ok-more.ensures.same, c.in_ok-more.ensures.left, c.skip_semicolon-rest.ensures) (goes_on c.args.around (statement_by (block_at c.args.levels) c.args.levels c.args.around) c.loop-turn.parts.items
     c.loop-turn.ending c.in_ok-statement.next (n - c.loop-turn._turn) (n - (c.loop-turn._turn + 1)) c.loop-turn.scope c.statement.new.scope c.loop-turn.rest.now
     c.in_ok-statement.behind.now c.in_ok-statement.statement (statements_at c.args.levels c.args.around c.args.outer.now c.args.tokens.now) some unclosed comes
     c.in_ok-statement.ensures c.loop-turn.invariant)

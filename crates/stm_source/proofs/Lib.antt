@@ -1,3 +1,4 @@
+pub mod Allowed
 pub mod BlockLemmas
 pub mod SourceLemmas
 mod PlaceLemmas

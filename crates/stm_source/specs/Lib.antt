@@ -1,3 +1,4 @@
+pub mod Allowed
 pub mod Bulk
 pub mod Constants
 pub mod Definitions

@@ -9,6 +9,7 @@ mod bulk;
 mod constants;
 mod definitions;
 mod events;
+pub mod laws;
 mod leaving;
 mod loops;
 mod openings;

@@ -1,20 +1,23 @@
 //! Reading statements and blocks.
 ghost use Rattle.std.specs.Prelude.{◌≡◌, ◌≤◌, [], ◌∷◌, map, option_map, Some, IfOk, OnOk};
 ghost use Rattle.stm_program.specs.declared.limits.TheConstants.{MAX_VARIABLE};
-ghost use Rattle.stm_tokens.specs.declared.token.Word.TheVariants.{Else};
+ghost use Rattle.stm_tokens.specs.declared.token.Word.TheVariants.{Else, If};
 ghost use Rattle.stm_terms.specs.Cursor as cursor;
 ghost use Rattle.stm_terms.specs.Outcome.{Returns};
+ghost use Rattle.stm_terms.specs.Scope.{with_item};
 ghost use Rattle.stm_source.specs.Statements as spec;
 ghost use Rattle.stm_source.specs.Kept.{pushed_up};
 ghost use Rattle.stm_source.specs.Leaving as leaving;
-ghost use Rattle.stm_source.specs.declared.statements.TheConstants.{MOST_STATEMENTS};
 ghost use Rattle.stm_leaving.specs.Source as tree;
 ghost use Rattle.stm_leaving.specs.Source.{Nil};
 ghost use Rattle.stm_leaving.specs.PartsView.{sources_of};
 ghost use Rattle.stm_leaving.specs.CopiesView.{copies_of};
 
 use crate::leaving::{Around, Ending, choice_ending, in_items, in_turns, leave_word, leaving_part};
-use crate::loops::{after_zero, counted, items, limit, room_behind, shared_name, unknown_item};
+use crate::loops::{
+    after_zero, condition_left, counted, items, limit, room_behind, room_left, shared_name,
+    unknown_item,
+};
 use std::alloc::{AllocError, Global};
 use std::sync::Arc;
 use stm_history::Sequence;
@@ -28,9 +31,6 @@ use stm_terms::{
     skip_semicolon, unexpected, value, value_of, with_front,
 };
 use stm_tokens::{Symbol, Token, TokenKind, Word};
-
-/// How many statements of a block are kept: with one more than a program may have nodes, it has too many.
-pub(crate) const MOST_STATEMENTS: usize = MAX_NODES + 1;
 
 /// A statement of one value.
 #[derive(Clone, Copy, PartialEq, Eq)]
@@ -401,6 +401,65 @@ fn with_mark(
     Ok(Sequence::of(all))
 }
 
+/// How many of so many nodes are kept behind statements: a program that has them has at least so many more. Marks are not counted: all that were read before
+/// without them are read.
+fn left_behind(
+    alloc: Global,
+    around: Around,
+    parts: &Parts,
+    room: usize,
+) -> Result<usize, AllocError>
+    ensures { IfOk result (λ left. left ≡ spec.left_behind around room parts.now) }
+{
+    if around.marks {
+        return Ok(room);
+    }
+    if is_too_long(parts, MAX_NODES) {
+        return Ok(0);
+    }
+    let statements = closed_parts(alloc, parts)?;
+    Ok(room_left(statements.as_slice(), room))
+}
+
+/// The same behind a condition and what is set in front of it.
+fn left_in_choice(around: Around, tested: &Tested, room: usize) -> usize
+    ensures { result ≡ spec.left_in_choice around room tested.now }
+{
+    if around.marks {
+        return room;
+    }
+    let room = room_left(tested.front.as_slice(), room);
+    condition_left(&tested.condition, room)
+}
+
+/// What is in sight in the blocks of a choice.
+fn in_choice(
+    alloc: Global,
+    scope: &Scope,
+    around: Around,
+    tested: &Tested,
+) -> Result<Scope, AllocError>
+    ensures { IfOk result (λ inner. inner ≡ spec.in_choice around scope.now tested.now) }
+{
+    let mut inner = scope.copy(alloc)?;
+    inner.room = left_in_choice(around, tested, scope.room);
+    Ok(inner)
+}
+
+/// What is in sight in the `else` of a choice, behind its block.
+fn behind_block(
+    alloc: Global,
+    scope: &Scope,
+    around: Around,
+    yes: &Parts,
+) -> Result<Scope, AllocError>
+    ensures { IfOk result (λ inner. inner ≡ spec.behind_block around scope.now yes.now) }
+{
+    let mut inner = scope.copy(alloc)?;
+    inner.room = left_behind(alloc, around, yes, scope.room)?;
+    Ok(inner)
+}
+
 /// How many nodes may follow a copy of a loop's block, of which there may be so many with its own. Marks are not counted: all that were read before
 /// without them are read.
 fn copy_room(alloc: Global, around: Around, copy: &Parts, room: usize) -> Result<usize, AllocError>
@@ -428,7 +487,7 @@ fn items_part(alloc: Global, copies: Vec<Parts>) -> Result<Sequence<Part>, Alloc
     Ok(all)
 }
 
-/// What runs where the condition of a choice does not hold.
+/// What runs where the condition of a choice does not hold, behind its `else`.
 #[cycle(read_statements)]
 fn otherwise<'a>(
     alloc: Global,
@@ -439,22 +498,40 @@ fn otherwise<'a>(
     tokens: &'a [Token],
 ) -> Result<(Parts, Ending, &'a [Token]), SourceError>
     requires { more ≤ 127 }
-    ensures { Returns (λ x. (x.0, x.1, x.2.now)) result (spec.else_by around (spec.choice_at around (spec.block_at levels around) levels scope.now more) (spec.block_at levels around) scope.now tokens.now (cursor.after_word Else tokens.now)) }
+    ensures { Returns (λ x. (x.0, x.1, x.2.now)) result (spec.otherwise_by around (spec.choice_at around (spec.block_at levels around) levels more) (spec.block_at levels around) scope.now tokens.now (cursor.after_word If tokens.now)) }
 {
-    let Some(rest) = after_word(tokens, Word::Else) else {
-        let block = empty_block(alloc)?;
-        return Ok((block, Ending::GoesOn, tokens));
-    };
-    let at = place(rest);
-    match after_word(rest, Word::If) {
+    let at = place(tokens);
+    match after_word(tokens, Word::If) {
         Some(rest) => {
             let (parts, ending, rest) = choice(alloc, scope, levels, around, more, rest)?;
             let parts = with_mark(alloc, around, at, parts)?;
             let block = block_of_all(alloc, parts)?;
             Ok((block, ending, rest))
         }
-        None => block(alloc, scope, levels, around, rest),
+        None => block(alloc, scope, levels, around, tokens),
     }
+}
+
+/// What runs where the condition of a choice does not hold, whose block is this.
+#[cycle(read_statements)]
+fn else_behind<'a>(
+    alloc: Global,
+    scope: &Scope,
+    levels: usize,
+    around: Around,
+    more: usize,
+    yes: &Parts,
+    tokens: &'a [Token],
+) -> Result<(Parts, Ending, &'a [Token]), SourceError>
+    requires { more ≤ 127 }
+    ensures { Returns (λ x. (x.0, x.1, x.2.now)) result (spec.else_by around (spec.choice_at around (spec.block_at levels around) levels more) (spec.block_at levels around) scope.now yes.now tokens.now (cursor.after_word Else tokens.now)) }
+{
+    let Some(rest) = after_word(tokens, Word::Else) else {
+        let block = empty_block(alloc)?;
+        return Ok((block, Ending::GoesOn, tokens));
+    };
+    let inner = behind_block(alloc, scope, around, yes)?;
+    otherwise(alloc, &inner, levels, around, more, rest)
 }
 
 /// A choice, behind its `if`, in whose else so many may follow.
@@ -468,7 +545,7 @@ fn choice<'a>(
     tokens: &'a [Token],
 ) -> Result<(Sequence<Part>, Ending, &'a [Token]), SourceError>
     requires { more ≤ 127 }
-    ensures { Returns (λ x. (x.0, x.1, x.2.now)) result (spec.choice_at around (spec.block_at levels around) levels scope.now more tokens.now) }
+    ensures { Returns (λ x. (x.0, x.1, x.2.now)) result (spec.choice_at around (spec.block_at levels around) levels more scope.now tokens.now) }
 {
     if more == 0 {
         return Err(fault(scope.program, SourceCause::TooDeep));
@@ -487,11 +564,29 @@ fn choice_between<'a>(
     tokens: &'a [Token],
 ) -> Result<(Sequence<Part>, Ending, &'a [Token]), SourceError>
     requires { more ≤ 127 }
-    ensures { Returns (λ x. (x.0, x.1, x.2.now)) result (spec.choice_by around (spec.choice_at around (spec.block_at levels around) levels scope.now more) (spec.block_at levels around) levels scope.now tokens.now) }
+    ensures { Returns (λ x. (x.0, x.1, x.2.now)) result (spec.choice_by around (spec.choice_at around (spec.block_at levels around) levels more) (spec.block_at levels around) levels scope.now tokens.now) }
 {
     let (tested, rest) = condition(alloc, scope, levels, tokens)?;
-    let (yes, yes_ending, rest) = block(alloc, scope, levels, around, rest)?;
-    let (no, no_ending, rest) = otherwise(alloc, scope, levels, around, more, rest)?;
+    let inner = in_choice(alloc, scope, around, &tested)?;
+    choice_of(alloc, &inner, levels, around, more, tested, rest)
+}
+
+/// The blocks of a choice, behind its condition.
+#[cycle(read_statements)]
+fn choice_of<'a>(
+    alloc: Global,
+    scope: &Scope,
+    levels: usize,
+    around: Around,
+    more: usize,
+    tested: Tested,
+    tokens: &'a [Token],
+) -> Result<(Sequence<Part>, Ending, &'a [Token]), SourceError>
+    requires { more ≤ 127 }
+    ensures { Returns (λ x. (x.0, x.1, x.2.now)) result (spec.choice_of around (spec.choice_at around (spec.block_at levels around) levels more) (spec.block_at levels around) scope.now tested tokens.now) }
+{
+    let (yes, yes_ending, rest) = block(alloc, scope, levels, around, tokens)?;
+    let (no, no_ending, rest) = else_behind(alloc, scope, levels, around, more, &yes, rest)?;
     let all = chosen(alloc, tested, yes, no)?;
     Ok((all, choice_ending(yes_ending, no_ending), rest))
 }
@@ -519,20 +614,36 @@ fn counted_loop<'a>(
     Ok((all, rest))
 }
 
-/// The statements of a loop's block for one item.
+/// What is in sight in a loop's block for one item, of which so many nodes are kept.
+fn in_copy(
+    alloc: Global,
+    scope: &Scope,
+    room: usize,
+    name: &SharedText,
+    item: &Item,
+) -> Result<Scope, AllocError>
+    ensures { IfOk result (λ inner. inner ≡ spec.with_room (with_item scope.now name.now item.now) room) }
+{
+    let mut inner = scope.with_item(alloc, name, item)?;
+    inner.room = room;
+    Ok(inner)
+}
+
+/// The statements of a loop's block for one item, of which so many nodes are kept.
 #[cycle(read_statements)]
 fn copy<'a>(
     alloc: Global,
     scope: &Scope,
     levels: usize,
     around: Around,
+    room: usize,
     name: &SharedText,
     item: &Item,
     tokens: &'a [Token],
 ) -> Result<(Parts, &'a [Token]), SourceError>
-    ensures { Returns (λ x. (x.0, x.1.now)) result (spec.copy_at (spec.block_at levels (leaving.in_items around)) scope.now name.now item.now tokens.now) }
+    ensures { Returns (λ x. (x.0, x.1.now)) result (spec.copy_at (spec.block_at levels (leaving.in_items around)) scope.now name.now room item.now tokens.now) }
 {
-    let inner = scope.with_item(alloc, name, item)?;
+    let inner = in_copy(alloc, scope, room, name, item)?;
     let (parts, _, rest) = block(alloc, &inner, levels, in_items(around), tokens)?;
     Ok((parts, rest))
 }
@@ -549,16 +660,16 @@ fn copies<'a>(
     tokens: &'a [Token],
 ) -> Result<(Vec<Parts>, &'a [Token]), SourceError>
     ensures { Returns (λ x. (x.0.items, x.1.now)) result
-        (spec.copies_from (spec.copy_at (spec.block_at levels (leaving.in_items around)) scope.now name.now) around tokens.now MOST_STATEMENTS [] items.now tokens.now) }
+        (spec.copies_from (spec.copy_at (spec.block_at levels (leaving.in_items around)) scope.now name.now) around tokens.now scope.now.room [] items.now tokens.now) }
 {
     let mut all = Vec::new(alloc);
-    let mut room = MOST_STATEMENTS;
+    let mut room = scope.room;
     let mut rest = tokens;
     for item in items {
-        if room == 0 {
+        if room == 0 && all.len() > 0 {
             return Ok((all, rest));
         }
-        let (parts, behind) = copy(alloc, scope, levels, around, name, item, tokens)?;
+        let (parts, behind) = copy(alloc, scope, levels, around, room, name, item, tokens)?;
         room = copy_room(alloc, around, &parts, room)?;
         all.push(parts)?;
         rest = behind;
@@ -581,7 +692,9 @@ fn all_copies<'a>(
 {
     if items.is_empty() {
         let item = unknown_item(alloc)?;
-        let (parts, rest) = copy(alloc, scope, levels, around, name, &item, tokens)?;
+        let (parts, rest) = copy(
+            alloc, scope, levels, around, scope.room, name, &item, tokens,
+        )?;
         drop(parts);
         return Ok((Sequence::new(alloc), rest));
     }
@@ -791,12 +904,39 @@ fn statement<'a>(
     Ok((parts, ending, rest))
 }
 
-/// Adds a statement, and what is set in front of it, behind so many, where that many are kept.
-fn push_up(done: usize, parts: &mut Vec<Part>, more: Sequence<Part>) -> Result<(), AllocError>
-    ensures { OnOk result (parts.new.items ≡ pushed_up done parts.old.items more) }
+/// The statements of a block that nothing else owns.
+fn into_parts(block: Parts) -> Result<Vec<Part>, AllocError>
+    ensures { IfOk result (λ parts. sources_of parts.items ≡ block) }
 {
-    if done < MOST_STATEMENTS {
-        let mut more = more.into_vec();
+    let Parts { parts } = block;
+    match Arc::into_inner(parts) {
+        Some(parts) => Ok(parts),
+        None => Err(AllocError),
+    }
+}
+
+/// A statement, and how many of so many nodes are kept behind it.
+fn measured(
+    alloc: Global,
+    around: Around,
+    room: usize,
+    statement: Sequence<Part>,
+) -> Result<(Vec<Part>, usize), AllocError>
+    ensures same { IfOk result (λ x. x.0.items ≡ statement) }
+    ensures left { IfOk result (λ x. x.1 ≡ spec.left_behind around room (sources_of statement)) }
+{
+    let block = block_of_all(alloc, statement)?;
+    let left = left_behind(alloc, around, &block, room)?;
+    let parts = into_parts(block)?;
+    Ok((parts, left))
+}
+
+/// Adds a statement, and what is set in front of it, where more nodes are kept.
+fn push_up(room: usize, parts: &mut Vec<Part>, more: Vec<Part>) -> Result<(), AllocError>
+    ensures { OnOk result (parts.new.items ≡ pushed_up room parts.old.items more.items) }
+{
+    let mut more = more;
+    if room > 0 {
         parts.append(&mut more)?;
     }
     Ok(())
@@ -817,15 +957,18 @@ pub(crate) fn statements<'a>(
     let mut parts = Vec::new(alloc);
     let mut ending = Ending::GoesOn;
     let mut rest = tokens;
-    for done in 0..tokens.len() {
+    for _turn in 0..tokens.len() {
         if let Some(behind) = after_symbol(rest, Symbol::RightBrace) {
             return Ok((parts, ending, behind));
         }
         if ending.is_left() {
             return Err(unexpected(rest));
         }
+        let room = scope.room;
         let (statement, next, behind) = statement(alloc, &mut scope, levels, around, rest)?;
-        push_up(done, &mut parts, statement)?;
+        let (more, left) = measured(alloc, around, room, statement)?;
+        push_up(room, &mut parts, more)?;
+        scope.room = left;
         ending = next;
         rest = skip_semicolon(behind);
     }
@@ -858,7 +1001,7 @@ fn block_between<'a>(
     around: Around,
     tokens: &'a [Token],
 ) -> Result<(Parts, Ending, &'a [Token]), SourceError>
-    ensures { Returns (λ x. (x.0, x.1, x.2.now)) result (spec.block_by (spec.statement_by (spec.block_at levels) levels around) scope.now tokens.now) }
+    ensures { Returns (λ x. (x.0, x.1, x.2.now)) result (spec.block_by around (spec.statement_by (spec.block_at levels) levels around) scope.now tokens.now) }
 {
     let inner = expect_symbol(tokens, Symbol::LeftBrace)?;
     let (parts, ending, rest) = statements(alloc, scope, levels, around, inner)?;

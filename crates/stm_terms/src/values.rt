@@ -20,7 +20,7 @@ use crate::kinds::{Kind, Valued};
 use crate::limits::{MOST_BRACKETS, MOST_JOINS};
 use crate::look_ups::{LookUp, both, with_else, with_look_up};
 use crate::scope::Scope;
-use crate::uses::{Defined, copied_in, may_stand};
+use crate::uses::{Defined, add_argument, copied_in, is_copied, may_join, may_stand};
 use std::alloc::{AllocError, Global};
 use std::sync::Arc;
 use stm_history::{Sequence, Text};
@@ -466,7 +466,7 @@ fn uses_between<'a>(
     levels: usize,
     tokens: &'a [Token],
 ) -> Result<(Sequence<Valued>, &'a [Token]), SourceError>
-    ensures { Returns (λ x. (x.0, x.1.now)) result (spec.uses_by (spec.tier_at levels scope.now 3) tokens.now) }
+    ensures { Returns (λ x. (x.0, x.1.now)) result (spec.uses_by scope.now (spec.tier_at levels scope.now 3) tokens.now) }
 {
     let inner = expect_symbol(tokens, Symbol::LeftParenthesis)?;
     some_uses(alloc, scope, levels, inner)
@@ -480,13 +480,13 @@ fn some_uses<'a>(
     levels: usize,
     tokens: &'a [Token],
 ) -> Result<(Sequence<Valued>, &'a [Token]), SourceError>
-    ensures { Returns (λ x. (x.0, x.1.now)) result (spec.uses_from (spec.tier_at levels scope.now 3) (length tokens.now) [] tokens.now) }
+    ensures { Returns (λ x. (x.0, x.1.now)) result (spec.uses_from scope.now (spec.tier_at levels scope.now 3) (length tokens.now) [] tokens.now) }
 {
     let mut values = Sequence::new(alloc);
     let mut rest = tokens;
     for _turn in 0..tokens.len() {
         let (value, behind) = operands(alloc, scope, levels, 3, rest)?;
-        values.push(value)?;
+        add_argument(scope, &mut values, value, rest, behind)?;
         let Some(next) = after_symbol(behind, Symbol::Comma) else {
             let rest = expect_symbol(behind, Symbol::RightParenthesis)?;
             return Ok((values, rest));
@@ -694,7 +694,9 @@ fn joined_right<'a>(
     scope.want(join_kind(join), left.kind, at)?;
     let (right, rest) = operands(alloc, scope, levels, tier, tokens)?;
     scope.want(join_kind(join), right.kind, place(tokens))?;
+    let copied = is_copied(tokens, rest, &right);
     let joined = joined_up(alloc, scope, done, join, left, right)?;
+    may_join(scope, done < MOST_JOINS, copied, &joined)?;
     Ok((joined, rest))
 }
 

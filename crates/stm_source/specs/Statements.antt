@@ -16,8 +16,8 @@ use Rattle.stm_terms.specs.declared.faults.SourceCause.TheVariants as cause
 use Rattle.stm_terms.specs.declared.scope.Scope.{Scope}
 use Rattle.stm_terms.specs.declared.look_ups.Fronted.{Fronted}
 use Rattle.stm_terms.specs.LookUps.{with_front, pair_with_front}
-use Rattle.stm_terms.specs.declared.values.Join.{Join}
-use Rattle.stm_terms.specs.declared.values.Join.TheVariants as join
+use Rattle.stm_terms.specs.declared.operators.Join.{Join}
+use Rattle.stm_terms.specs.declared.operators.Join.TheVariants as join
 use Rattle.stm_source.specs.Loops.{counted_in, limit_at, after_zero, items_of, unknown_item, left_by, room_behind}
 use Rattle.stm_leaving.specs.Source.{Source, Sources, Plain, Choice, Items, Count, Nil, Next}
 use Rattle.stm_leaving.specs.PartsView.{sources_of}
@@ -30,8 +30,8 @@ use Rattle.stm_source.specs.declared.leaving.Leave.{Leave}
 use Rattle.stm_source.specs.declared.leaving.Ending.{Ending}
 use Rattle.stm_source.specs.declared.leaving.Ending.TheVariants.{GoesOn, Leaves, Aborts}
 use Rattle.stm_source.specs.Leaving.{is_left, choice_ending, in_turns, in_items, leave_word, leaving_part}
-use Rattle.stm_source.specs.declared.statements.Simple.{Simple}
-use Rattle.stm_source.specs.declared.statements.Simple.TheVariants as simple
+use Rattle.stm_source.specs.declared.simple.Simple.{Simple}
+use Rattle.stm_source.specs.declared.simple.Simple.TheVariants as simple
 use Rattle.stm_terms.specs.declared.limits.TheConstants.{MOST_BRACKETS}
 use Rattle.stm_terms.specs.Outcome.{Outcome, Read, bad, ◌>>=◌}
 use Rattle.stm_terms.specs.Cursor.{place, unexpected, after_symbol, after_word, expect_symbol, expect_word, skip_semicolon, next_name, open_bracket}

@@ -4,7 +4,7 @@ use Rattle.stm_tokens.specs.declared.token.Token.{Token}
 use Rattle.stm_terms.specs.declared.scope.Scope.{Scope}
 use Rattle.stm_terms.specs.declared.kinds.Kind.{Kind}
 use Rattle.stm_terms.specs.declared.kinds.Valued.{Valued}
-use Rattle.stm_terms.specs.declared.values.Join.{Join}
+use Rattle.stm_terms.specs.declared.operators.Join.{Join}
 use Rattle.stm_terms.specs.declared.faults.SourceCause.TheVariants.{TooDeep}
 use Rattle.stm_terms.specs.declared.limits.TheConstants.{MOST_BRACKETS}
 use Rattle.stm_tokens.specs.declared.token.Symbol.TheVariants.{Comma, RightParenthesis}

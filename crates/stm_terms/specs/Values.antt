@@ -18,10 +18,10 @@ use Rattle.stm_terms.specs.declared.kinds.Kind.TheVariants as value_kind
 use Rattle.stm_terms.specs.declared.kinds.Valued.{Valued}
 use Rattle.stm_terms.specs.Kinds.{valued, kind_of, want}
 use Rattle.stm_terms.specs.Endings.{asked_of}
-use Rattle.stm_terms.specs.declared.values.Call.{Call}
-use Rattle.stm_terms.specs.declared.values.Call.TheVariants as call
-use Rattle.stm_terms.specs.declared.values.Join.{Join}
-use Rattle.stm_terms.specs.declared.values.Join.TheVariants as join
+use Rattle.stm_terms.specs.declared.operators.Call.{Call}
+use Rattle.stm_terms.specs.declared.operators.Call.TheVariants as call
+use Rattle.stm_terms.specs.declared.operators.Join.{Join}
+use Rattle.stm_terms.specs.declared.operators.Join.TheVariants as join
 use Rattle.stm_terms.specs.Outcome.{Outcome, Read, bad, ◌>>=◌}
 use Rattle.stm_terms.specs.Cursor.{place, unexpected, after_symbol, after_word, expect_symbol, next_number}
 use Rattle.stm_terms.specs.declared.look_ups.LookUp.{LookUp}

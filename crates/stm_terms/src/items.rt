@@ -29,6 +29,7 @@ pub(crate) struct Items {
 }
 
 /// The items of a list that a loop goes over: a program has fewer nodes than so many copies of a block.
+#[tactic(auto, using(std::proofs::lemmas::List::take_all))]
 fn first_items(items: &[Item]) -> &[Item]
     ensures { result.now ≡ take MOST_KEPT items.now }
 {

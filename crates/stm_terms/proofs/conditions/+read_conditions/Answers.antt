@@ -59,7 +59,7 @@ connection-returns-in_err-left t c =
     let next : after_symbol (tier_symbol (c.args.tier + 1)) c.loop-done.rest.now ≡ Some c.in-Some.behind.now = search rules in
     rw (p.1, p.2) (connection_refused c.in_err-left.field-0.0 scope part (c.args.tier + 1) n c.loop-done.done c.loop-done.left c.in_ok-right.right
     c.loop-done.rest.now c.in-Some.behind.now c.in_ok-right.next.now (connection scope part (c.args.tier + 1) n 0 c.args.left c.args.tokens.now) less next
-    c.in_ok-right.ensures (rw (sym c.tier_connective.ensures) c.in_err-left.ensures) c.loop-done.invariant)
+    c.in_ok-right.ensures (rw (sym c.tier_connective-connective.ensures) c.in_err-left.ensures) c.loop-done.invariant)
 
 pub connection-loop-done-preserved : goal.connection-loop-done-preserved
 connection-loop-done-preserved t c =
@@ -70,7 +70,7 @@ connection-loop-done-preserved t c =
     let next : after_symbol (tier_symbol (c.args.tier + 1)) c.loop-done.rest.now ≡ Some c.in-Some.behind.now = search rules in
     connection_goes scope part (c.args.tier + 1) n c.loop-done.done c.loop-done.left c.in_ok-right.right c.in_ok-left.left c.loop-done.rest.now
     c.in-Some.behind.now c.in_ok-right.next.now (connection scope part (c.args.tier + 1) n 0 c.args.left c.args.tokens.now) less next
-    c.in_ok-right.ensures (rw (sym c.tier_connective.ensures) c.in_ok-left.ensures) c.loop-done.invariant
+    c.in_ok-right.ensures (rw (sym c.tier_connective-connective.ensures) c.in_ok-left.ensures) c.loop-done.invariant
 
 pub connection-returns : goal.connection-returns
 connection-returns t c =

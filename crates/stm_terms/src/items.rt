@@ -29,7 +29,6 @@ pub(crate) struct Items {
 }
 
 /// The items of a list that a loop goes over: a program has fewer nodes than so many copies of a block.
-#[tactic(auto, using(std::proofs::lemmas::List::take_all))]
 fn first_items(items: &[Item]) -> &[Item]
     ensures { result.now ≡ take MOST_KEPT items.now }
 {
@@ -37,8 +36,7 @@ fn first_items(items: &[Item]) -> &[Item]
         let (first, _) = items.split_at(MOST_KEPT);
         first
     } else {
-        let (all, _) = items.split_at(items.len());
-        all
+        items
     }
 }
 

@@ -118,14 +118,16 @@ choice_some around block levels more scope tokens some =
     ap (λ (n : ℕ). choice_at around block levels n scope tokens) e
 
 -- a list of statements is told by its block
+abbrev items_in : Sources → List Source
+items_in Nil = []
+items_in (Next s b) = s ∷ items_in b
+
+items_in-of : (ss : List Source) → items_in (sources_of ss) ≡ ss
+items_in-of [] = refl
+items_in-of (s ∷ ss) = ap (λ (l : List Source). s ∷ l) (items_in-of ss)
+
 pub sources_same : (ss more : List Source) → sources_of ss ≡ sources_of more → ss ≡ more
-sources_same [] [] e = refl
-sources_same [] (m ∷ ms) e = cc
-sources_same (s ∷ ss) [] e = cc
-sources_same (s ∷ ss) (m ∷ ms) e =
-    let heads : s ≡ m = cc in
-    let rests : sources_of ss ≡ sources_of ms = cc in
-    rw (heads, sources_same ss ms rests) refl
+sources_same ss more e = sym (items_in-of ss) ∙ (ap items_in e ∙ items_in-of more)
 
 -- what a statement's error is of the statements
 pub faults : (e : SourceError) (around : Around) (statement : Scope → List Token → ReadStatement) (front : List Source) (ending : Ending) (fuel more : ℕ) (scope : Scope)

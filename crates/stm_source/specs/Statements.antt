@@ -224,8 +224,8 @@ otherwise_by around choice block scope tokens None = block scope tokens
 
 -- behind these
 abbrev pub else_by : Around → Choices → Blocks → Scope → Sources → List Token → Option (List Token) → ReadBlock
-else_by around choice block scope yes tokens None = Ok (Nil, GoesOn, tokens)
-else_by around choice block scope yes tokens (Some rest) = otherwise_by around choice block (behind_block around scope yes) rest (after_word word.If rest)
+else_by around choice block scope first tokens None = Ok (Nil, GoesOn, tokens)
+else_by around choice block scope first tokens (Some rest) = otherwise_by around choice block (behind_block around scope first) rest (after_word word.If rest)
 
 -- the blocks of a choice, behind its condition
 abbrev pub choice_of : Around → Choices → Blocks → Scope → Tested → List Token → ReadParts

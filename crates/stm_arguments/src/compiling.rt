@@ -34,7 +34,7 @@ then stmrun compile s.stm claim job/1 ada 7 prints
 
   [[\"if\",[\"eq\",[\"get\",\"job/1\"],\"\"],[[\"put\",\"job/1\",\"ada\",7]],[]]]
 
-It is what start claim(\"job/1\", \"ada\", 7) starts, as one more line of s.stm: there a fault of an argument stands.
+It is what start claim(\"job/1\", \"ada\", 7) starts, as one more line of s.stm.
 
 Of a bad source it says where its first fault stands, by line and column, and why:
 

@@ -403,7 +403,7 @@ fn first_character(text: &str) -> &str {
 }
 
 /// What is said of a token that is wrong.
-fn words_at(
+pub(crate) fn words_at(
     alloc: Global,
     source: &[u8],
     spot: Spot<'_>,

@@ -82,6 +82,19 @@ fn others_of(alloc: Global, names: &[&str], name: &str) -> Result<Option<String>
     Ok(Some(words))
 }
 
+/// Which names the programs, rules and finals among tokens have, of which this is none.
+pub(crate) fn titles_but(
+    alloc: Global,
+    tokens: &[Token],
+    name: &str,
+) -> Result<String, AllocError> {
+    let titles = titles_of(alloc, tokens)?;
+    match others_of(alloc, titles.as_slice(), name)? {
+        Some(words) => Ok(words),
+        None => String::from_str(alloc, "there are none"),
+    }
+}
+
 /// What is said of a name that is none of a source's programs, rules and finals: which those are; nothing, where it is one of them. It fails only when out
 /// of memory.
 pub fn unknown_in(alloc: Global, source: &[u8], name: &str) -> Result<Option<String>, AllocError> {

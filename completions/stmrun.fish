@@ -36,6 +36,7 @@ complete -c stmrun -n '__fish_seen_subcommand_from explore' -l witness -d 'Print
 complete -c stmrun -n '__fish_seen_subcommand_from explore' -l serial -d 'Looks for an outcome of a whole schedule that no serial order of the runners comes to'
 complete -c stmrun -n '__fish_seen_subcommand_from explore' -l strict -d 'Status 1 also where a rule is kept, and a runner never committed or a key is asked for that nothing puts'
 complete -c stmrun -n '__fish_seen_subcommand_from explore' -l format -d 'The form of what is printed' -x -a 'lines text'
+complete -c stmrun -n '__fish_seen_subcommand_from explore' -l width -d 'How many characters wide a table is, from 20 to 1000' -x -a ''
 complete -c stmrun -n '__fish_seen_subcommand_from explore' -l explain -d 'Explains faults, of an input or of a run'
 complete -c stmrun -n '__fish_seen_subcommand_from explore' -a '--explain=never'
 complete -c stmrun -n '__fish_seen_subcommand_from explore' -l help -d 'Print help'

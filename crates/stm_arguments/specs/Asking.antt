@@ -67,7 +67,8 @@ IsExplore rows words =
     HasWord rows (codes "SCENARIO") (Some words.scenario) × (map (λ w. w.now) words.keeps.items ≡ words_at (codes "keeps") rows)
     × LevelsAt (first_of (codes "level") rows) words.levels × BudgetAt (first_of (codes "budget") rows) words.budget
     × HasWord rows (codes "after") words.after × HasFlag rows (codes "witness") words.witness × HasFlag rows (codes "serial") words.serial
-    × HasFlag rows (codes "strict") words.strict × HasWord rows (codes "format") words.format × HasFlag rows (codes "explain") words.explain
+    × HasFlag rows (codes "strict") words.strict × HasWord rows (codes "format") words.format × WidthAt (first_of (codes "width") rows) words.width
+    × HasFlag rows (codes "explain") words.explain
 
 abbrev pub IsAudit : List Row → AuditWords → Type 0
 IsAudit rows words = HasWord rows (codes "FILE") words.trace

@@ -4,7 +4,7 @@ ghost use Rattle.clap.specs.Words.{found_of, rows_of};
 ghost use Rattle.stm_arguments.specs.Asking.{IsExplore};
 
 use crate::levels::{Levels, SEARCH_LEVELS, levels_at};
-use crate::numbers::budget_at;
+use crate::numbers::{LEAST_WIDTH, MOST_WIDTH, budget_at, width_at};
 use crate::words::{
     Unasked, explain, flag, flag_of, option, required, required_word, word_of, words_of,
 };
@@ -74,8 +74,8 @@ With --level all there is a line for each level, the weakest first, without the 
 --witness and --serial a source's rules are not asked.
 
 Where SCENARIO is a source, a source stands in the place of each scenario that is printed. With --format text a table does, as
-script --format text prints it, and the lines are words; with --level all and a rule, a last one is the table of the weakest level
-at which a rule is broken.
+script --format text prints it, by --width N for a terminal of N characters, and the lines are words; with --level all and a rule, a
+last one is the table of the weakest level at which a rule is broken.
 
 Statuses: 0 always, serial, or all outcomes were found, 1 broken or an anomaly, 2 bad input or usage, 3 out of memory or a
 failed device, 4 open.";
@@ -104,6 +104,8 @@ pub struct ExploreWords<'a> {
     pub strict: bool,
     /// The name of the form of what is printed: lines, where there is none.
     pub format: Option<&'a str>,
+    /// How many characters wide a table is, from `LEAST_WIDTH` to `MOST_WIDTH`, where that is said.
+    pub width: Option<u32>,
     /// Whether a fault is explained.
     pub explain: bool,
 }
@@ -167,6 +169,13 @@ pub(crate) fn explore_command<'a>(alloc: Global) -> Result<Command<'a>, AllocErr
             ValueParser::Names(FORMATS),
             "The form of what is printed: lines (the default), for programs, or text, for people: words, and schedules as tables",
         ))?
+        .arg(option(
+            alloc,
+            "width",
+            "N",
+            ValueParser::Unsigned(LEAST_WIDTH, MOST_WIDTH),
+            "How many characters wide a table is, from 20 to 1000",
+        ))?
         .arg(explain(alloc))
 }
 
@@ -185,6 +194,7 @@ pub(crate) fn explore_of<'a>(
     let serial = flag_of(found, "serial");
     let strict = flag_of(found, "strict");
     let format = word_of(found, "format");
+    let width = width_at(word_of(found, "width"))?;
     let explain = flag_of(found, "explain");
     let keeps = words_of(alloc, found, "keeps")?;
     Ok(ExploreWords {
@@ -197,6 +207,7 @@ pub(crate) fn explore_of<'a>(
         serial,
         strict,
         format,
+        width,
         explain,
     })
 }

@@ -17,6 +17,9 @@ With --at its keys as they were at a revision are printed, and with --since what
 before END, by bytes, with --range. A revision that was compacted, or is yet to come, is refused with status 2.
 With --check the file is read whole: yes RECORDS BYTES says that it is as it was written, and no OFFSET Damaged or
 no OFFSET NoScenario that the record at that byte is not. Nothing behind such a record is served, and nothing is changed.
+With --compact the file is written anew, as one record without what is below the store's revision, or that of --since, and
+yes RECORDS BYTES says how long it is then: revisions, versions and leases stay as they were. Where a runner runs,
+or a watcher is open, it is refused with status 2.
 
 A store is kept in a file by stmrun script --store FILE, which makes it where it is missing:
 
@@ -57,6 +60,8 @@ pub enum Shown<'a> {
     Since(&'a str, Which<'a>),
     /// Whether its file is whole.
     Whole,
+    /// How many records its file has once what is below the revision of this word, or else the store's, is dropped.
+    Compacted(Option<&'a str>),
 }
 
 /// Of which keys the events are printed.
@@ -84,6 +89,11 @@ const STORE: Table = Table {
         ),
         ("check", Form::Flag, "Whether the file is whole"),
         (
+            "compact",
+            Form::Flag,
+            "Drop what is below the store's revision, or that of --since",
+        ),
+        (
             "at",
             Form::Value("REVISION", ValueParser::String),
             "The keys at this revision",
@@ -105,8 +115,13 @@ const STORE: Table = Table {
         ),
     ],
     rules: &[
-        ("format", Beside::Without, &["at", "since", "check"]),
+        (
+            "format",
+            Beside::Without,
+            &["at", "since", "check", "compact"],
+        ),
         ("check", Beside::Without, &["at", "since"]),
+        ("compact", Beside::Without, &["at", "check"]),
         ("at", Beside::Without, &["since"]),
         ("key", Beside::With, &["since"]),
         ("range", Beside::With, &["since"]),
@@ -163,6 +178,9 @@ fn shown_of<'a>(found: &ArgMatches<'a>) -> Shown<'a>
 {
     if flag_of(found, "check") {
         return Shown::Whole;
+    }
+    if flag_of(found, "compact") {
+        return Shown::Compacted(word_of(found, "since"));
     }
     if let Some(revision) = word_of(found, "at") {
         return Shown::At(revision);

@@ -63,7 +63,7 @@ complete -c stmrun -n __fish_use_subcommand -a store -d 'Prints what a store tha
 complete -c stmrun -n '__fish_seen_subcommand_from store' -F
 complete -c stmrun -n '__fish_seen_subcommand_from store' -l format -d 'lines (the default), json or text' -x -a 'lines json text'
 complete -c stmrun -n '__fish_seen_subcommand_from store' -l check -d 'Whether the file is whole'
-complete -c stmrun -n '__fish_seen_subcommand_from store' -l compact -d 'Drop what is below the stores revision, or that of --since'
+complete -c stmrun -n '__fish_seen_subcommand_from store' -l compact -d 'Drop what is below the present revision, or that of --since'
 complete -c stmrun -n '__fish_seen_subcommand_from store' -l at -d 'The keys at this revision' -x -a ''
 complete -c stmrun -n '__fish_seen_subcommand_from store' -l since -d 'The events from this revision on' -x -a ''
 complete -c stmrun -n '__fish_seen_subcommand_from store' -l key -d 'Only the events of this key' -x -a ''

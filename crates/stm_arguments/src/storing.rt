@@ -91,7 +91,7 @@ const STORE: Table = Table {
         (
             "compact",
             Form::Flag,
-            "Drop what is below the store's revision, or that of --since",
+            "Drop what is below the present revision, or that of --since",
         ),
         (
             "at",

@@ -95,28 +95,19 @@ fn bare_command<'a>(alloc: Global) -> Command<'a> {
         .subcommand_required(true)
 }
 
-/// A command with the first five, in the order of the help.
-fn first_commands<'a>(alloc: Global, command: Command<'a>) -> Result<Command<'a>, AllocError> {
-    let command = with_script(alloc, command)?;
-    let command = with_check(alloc, command)?;
-    let command = with_threads(alloc, command)?;
-    let command = with_recipe(alloc, command)?;
-    with_explore(alloc, command)
-}
-
-/// A command with the others, in the order of the help.
-fn other_commands<'a>(alloc: Global, command: Command<'a>) -> Result<Command<'a>, AllocError> {
-    let command = with_audit(alloc, command)?;
-    let command = with_show(alloc, command)?;
-    let command = with_compile(alloc, command)?;
-    let command = with_run(alloc, command)?;
-    with_store(alloc, command)
-}
-
-/// The command, with its subcommands.
+/// The command, with its subcommands in the order of the help.
 fn command<'a>(alloc: Global) -> Result<Command<'a>, AllocError> {
-    let command = first_commands(alloc, bare_command(alloc))?;
-    other_commands(alloc, command)
+    let mut command = bare_command(alloc);
+    command = with_script(alloc, command)?;
+    command = with_check(alloc, command)?;
+    command = with_threads(alloc, command)?;
+    command = with_recipe(alloc, command)?;
+    command = with_explore(alloc, command)?;
+    command = with_audit(alloc, command)?;
+    command = with_show(alloc, command)?;
+    command = with_compile(alloc, command)?;
+    command = with_run(alloc, command)?;
+    with_store(alloc, command)
 }
 
 /// The status of a command line that is refused, or that asks for help or the version, once its text is printed: 0 for help and

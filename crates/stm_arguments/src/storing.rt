@@ -3,7 +3,8 @@ ghost use Rattle.std.specs.Prelude.{◌≡◌, codes, IfOk, map, option_map};
 ghost use Rattle.clap.specs.Words.{found_of, rows_of};
 ghost use Rattle.stm_arguments.specs.Asking.{IsStore, IsShown, IsWhich, range_in, words_at};
 
-use crate::words::{Unasked, flag, flag_of, option, required, required_word, word_of};
+use crate::tables::{Beside, Form, Table, with_command};
+use crate::words::{Unasked, flag_of, required_word, word_of};
 use clap::builder::ValueParser;
 use clap::{ArgMatches, Command};
 use std::alloc::{AllocError, Global};
@@ -74,76 +75,66 @@ pub enum Which<'a> {
     Range(&'a str, &'a str),
 }
 
-/// The options about what is past.
-fn with_past<'a>(alloc: Global, command: Command<'a>) -> Result<Command<'a>, AllocError> {
-    let at = option(
-        alloc,
-        "at",
-        "REVISION",
-        ValueParser::String,
-        "The keys at this revision",
-    );
-    let since = option(
-        alloc,
-        "since",
-        "REVISION",
-        ValueParser::String,
-        "The events from this revision on",
-    );
-    let key = option(
-        alloc,
-        "key",
-        "KEY",
-        ValueParser::String,
-        "Only the events of this key",
-    );
-    let range = option(
-        alloc,
-        "range",
-        "FIRST",
-        ValueParser::String,
-        "Only the events of the keys from FIRST to before END",
-    );
-    let range = range.value_names(RANGE);
-    command
-        .arg(at.conflicts_with("since")?)?
-        .arg(since)?
-        .arg(key.requires_arg("since")?)?
-        .arg(range.requires_arg("since")?.conflicts_with("key")?)
-}
-
 /// The command `store`.
-pub(crate) fn store_command<'a>(alloc: Global) -> Result<Command<'a>, AllocError> {
-    let check = flag(alloc, "check", "Whether the file is whole")
-        .conflicts_with("at")?
-        .conflicts_with("since")?;
-    let compact = flag(
-        alloc,
-        "compact",
-        "Drop what is below the present revision, or that of --since",
-    )
-    .conflicts_with("at")?
-    .conflicts_with("check")?;
-    let format = option(
-        alloc,
-        "format",
-        "FORMAT",
-        ValueParser::String,
-        "lines (the default), json or text",
-    );
-    let format = format
-        .conflicts_with("at")?
-        .conflicts_with("since")?
-        .conflicts_with("check")?
-        .conflicts_with("compact")?;
-    let command = Command::new(alloc, "store")
-        .about("Prints what a store that is kept in a file has")
-        .after_long_help(EXAMPLE)
-        .arg(required(alloc, "FILE", "The file of the store"))?
-        .arg(format)?
-        .arg(check)?
-        .arg(compact)?;
-    with_past(alloc, command)
+const STORE: Table = Table {
+    name: "store",
+    about: "Prints what a store that is kept in a file has",
+    example: EXAMPLE,
+    arguments: &[
+        ("FILE", Form::Required, "The file of the store"),
+        (
+            "format",
+            Form::Value("FORMAT", ValueParser::String),
+            "lines (the default), json or text",
+        ),
+        ("check", Form::Flag, "Whether the file is whole"),
+        (
+            "compact",
+            Form::Flag,
+            "Drop what is below the present revision, or that of --since",
+        ),
+        (
+            "at",
+            Form::Value("REVISION", ValueParser::String),
+            "The keys at this revision",
+        ),
+        (
+            "since",
+            Form::Value("REVISION", ValueParser::String),
+            "The events from this revision on",
+        ),
+        (
+            "key",
+            Form::Value("KEY", ValueParser::String),
+            "Only the events of this key",
+        ),
+        (
+            "range",
+            Form::Texts(RANGE),
+            "Only the events of the keys from FIRST to before END",
+        ),
+    ],
+    rules: &[
+        (
+            "format",
+            Beside::Without,
+            &["at", "since", "check", "compact"],
+        ),
+        ("check", Beside::Without, &["at", "since"]),
+        ("compact", Beside::Without, &["at", "check"]),
+        ("at", Beside::Without, &["since"]),
+        ("key", Beside::With, &["since"]),
+        ("range", Beside::With, &["since"]),
+        ("range", Beside::Without, &["key"]),
+    ],
+};
+
+/// A command with `store`.
+pub(crate) fn with_store<'a>(
+    alloc: Global,
+    command: Command<'a>,
+) -> Result<Command<'a>, AllocError> {
+    with_command(alloc, command, &STORE)
 }
 
 /// The two keys of a range, where there are two words.

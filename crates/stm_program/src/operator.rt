@@ -1,6 +1,6 @@
 //! The operators on whole numbers, and how they are written.
 ghost use Rattle.std.specs.Prelude.{◌≡◌};
-ghost use Rattle.stm_program.specs.Operators.{operator_named, operator_rank, operator_sign, operator_word};
+ghost use Rattle.stm_program.specs.Operators.{named_in, operator_named, operator_rank, operator_sign, operator_word};
 
 /// What `add`, `sub`, `mul`, `div` and `rem` compute.
 #[derive(Clone, Copy, Debug, PartialEq, Eq)]
@@ -67,11 +67,18 @@ impl Operator {
     pub fn named(word: &str) -> Option<Operator>
         ensures { result ≡ operator_named word.now }
     {
-        for operator in OPERATORS.iter() {
-            if word == operator.word() {
-                return Some(*operator);
-            }
-        }
-        None
+        named_in(&OPERATORS, word)
     }
+}
+
+/// The first of these that is this word in JSON.
+fn named_in(operators: &[Operator], word: &str) -> Option<Operator>
+    ensures { result ≡ named_in operators.now word.now }
+{
+    for operator in operators {
+        if word == operator.word() {
+            return Some(*operator);
+        }
+    }
+    None
 }

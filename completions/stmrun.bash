@@ -37,7 +37,7 @@ _stmrun() {
             show) case "$word" in -*) ;; *) compopt -o default; return ;; esac; words="--program --help" ;;
             compile) case "$word" in -*) ;; *) compopt -o default; return ;; esac; words="--explain --explain=never --help" ;;
             run) case "$word" in -*) ;; *) compopt -o default; return ;; esac; words="--store --level --attempts --explain --explain=never --help" ;;
-            store) case "$word" in -*) ;; *) compopt -o default; return ;; esac; words="--check --format --at --since --key --range --help" ;;
+            store) case "$word" in -*) ;; *) compopt -o default; return ;; esac; words="--check --compact --format --at --since --key --range --help" ;;
             help) words="script check threads recipe explore audit show compile run store language stm source formats causes" ;;
             esac ;;
         esac

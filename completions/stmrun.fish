@@ -62,6 +62,7 @@ complete -c stmrun -n '__fish_seen_subcommand_from run' -l help -d 'Print help'
 complete -c stmrun -n __fish_use_subcommand -a store -d 'Prints what a store that is kept in a file has'
 complete -c stmrun -n '__fish_seen_subcommand_from store' -F
 complete -c stmrun -n '__fish_seen_subcommand_from store' -l check -d 'Whether the file is whole'
+complete -c stmrun -n '__fish_seen_subcommand_from store' -l compact -d 'Drop what is below the stores revision, or that of --since'
 complete -c stmrun -n '__fish_seen_subcommand_from store' -l format -d 'lines (the default), json or text' -x -a 'lines json text'
 complete -c stmrun -n '__fish_seen_subcommand_from store' -l at -d 'The keys at this revision' -x -a ''
 complete -c stmrun -n '__fish_seen_subcommand_from store' -l since -d 'The events from this revision on' -x -a ''

@@ -1,5 +1,6 @@
 //! What is wanted in the parentheses of a call.
 
+use crate::kept::open_behind;
 use crate::spots::{Call, Event, Spot};
 use stm_tokens::{Symbol, Token, TokenKind, Word};
 
@@ -46,37 +47,67 @@ pub(crate) fn is_argument(spot: Spot<'_>) -> bool {
     }
 }
 
-/// How many names or values stand in the parentheses behind the first of these tokens, with commas between them.
+/// Whether parentheses are opened behind the first of these tokens.
+fn is_opened_behind(tokens: &[Token]) -> bool {
+    match tokens.get(1) {
+        Some(token) => token.kind.is_symbol(Symbol::LeftParenthesis),
+        None => false,
+    }
+}
+
+/// How many names or values stand in the parentheses behind the first of these tokens, with commas between them; none where there are no parentheses.
 pub(crate) fn listed_behind(tokens: &[Token]) -> usize {
+    if !is_opened_behind(tokens) {
+        return 0;
+    }
     let mut count = 0usize;
+    let mut open = 1usize;
     for token in tokens.iter().skip(2) {
-        if token.kind.is_symbol(Symbol::RightParenthesis)
-            || token.kind.is_symbol(Symbol::LeftBrace)
-        {
+        if token.kind.is_symbol(Symbol::LeftBrace) {
+            break;
+        }
+        open = open_behind(open, &token.kind);
+        if open == 0 {
             break;
         }
         if count == 0 {
             count = 1;
         }
-        if token.kind.is_symbol(Symbol::Comma) {
+        if open == 1 && token.kind.is_symbol(Symbol::Comma) {
             count = count.saturating_add(1);
         }
     }
     count
 }
 
-/// How many parameters the program of a name has that is defined among these tokens.
-pub(crate) fn parameters_of(tokens: &[Token], name: &str) -> usize {
+/// The index of the word behind which a name is given to a program, or to a value with parameters, among these tokens.
+pub(crate) fn given_at(tokens: &[Token], name: &str) -> Option<usize> {
     for (index, token) in tokens.iter().enumerate() {
         let (_, from) = tokens.split_at(index);
-        match from {
-            [_, second, ..] if token.kind.is_word(Word::Program) && second.kind.is_named(name) => {
-                return listed_behind(&from[1..]);
-            }
-            _ => {}
+        let [_, second, ..] = from else {
+            return None;
+        };
+        let gives = match token.kind {
+            TokenKind::Word(Word::Program) => true,
+            TokenKind::Word(Word::Let) => is_opened_behind(&from[1..]),
+            _ => false,
+        };
+        if gives && second.kind.is_named(name) {
+            return Some(index);
         }
     }
-    0
+    None
+}
+
+/// How many parameters the program or the value of a name has that is defined among these tokens.
+pub(crate) fn parameters_of(tokens: &[Token], name: &str) -> usize {
+    match given_at(tokens, name) {
+        Some(index) => match tokens.get(index..) {
+            Some([_, from @ ..]) => listed_behind(from),
+            _ => 0,
+        },
+        None => 0,
+    }
 }
 
 /// Whether the last parameter of the program of a name, which is defined among these tokens, stands for all arguments that are left.

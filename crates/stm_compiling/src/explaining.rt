@@ -4,13 +4,17 @@ ghost use Rattle.stm_explain.specs.Explaining.{explanation};
 ghost use Rattle.stm_compiling.specs.Faults.{IsExplanation, place_of};
 
 use crate::calls::{listed_behind, parameters_of, takes_list};
+use crate::elses::said_of_else;
 use crate::fault::position_in;
 use crate::misfits::said_of_start;
+use crate::more_faults::{MOST_MORE, Rest};
 use crate::naming::{is_called, said_of_function, said_of_place};
 use crate::other_kinds::said_of_value;
 use crate::spots::{Event, Place, Spot, spot_at};
 use crate::titles::said_of_names;
-use crate::wanted::{Wanted, allowed, is_behind_condition_word, nearest, numbers_at, wanted_at};
+use crate::wanted::{
+    EVENTS, STATEMENT, Wanted, allowed, is_behind_condition_word, nearest, numbers_at, wanted_at,
+};
 use serde_json::Value as Json;
 use std::alloc::{AllocError, Global};
 use stm_explain::shown;
@@ -82,7 +86,7 @@ fn said_of_word(word: &str) -> &'static str {
         "var" | "const" => "a new variable is let NAME = VALUE",
         "func" | "fn" | "def" => "a program is program NAME(PARAMETER, ..) { .. }",
         "switch" | "case" | "match" => "choices are if, else if and else",
-        "while" | "loop" =>
+        "while" | "loop" | "range" =>
             "a loop is for NAME in 0..COUNT { .. }, or for NAME in ITEM, ITEM { .. }",
         "nil" | "null" | "none" | "None" => "an absent key has the value \"\"",
         "true" | "false" => "no value is true or false: a condition compares two values",
@@ -111,6 +115,9 @@ fn behind_dot<'a>(source: &'a [u8], spot: Spot<'_>) -> Option<&'a str> {
     let next = spot.from.get(1)?;
     let to = next.at.saturating_add(MOST_SHOWN).min(source.len());
     let text = between(source, next.at, to).strip_prefix('.')?;
+    if text.starts_with('.') {
+        return None;
+    }
     match text.split_once(is_sign) {
         Some((name, _)) => Some(name),
         None => Some(text),
@@ -133,7 +140,7 @@ fn said_of_sign(source: &[u8], spot: Spot<'_>) -> &'static str {
 }
 
 /// Whether a symbol compares two values.
-fn is_comparison(symbol: Symbol) -> bool {
+pub(crate) fn is_comparison(symbol: Symbol) -> bool {
     matches!(
         symbol,
         Symbol::Equal
@@ -143,16 +150,6 @@ fn is_comparison(symbol: Symbol) -> bool {
             | Symbol::Greater
             | Symbol::GreaterOrEqual
     )
-}
-
-/// Whether an `else` stands where it would be that of a look-up.
-fn is_else_of_look_up(spot: Spot<'_>) -> bool {
-    match spot.kind() {
-        Some(kind) => {
-            kind.is_word(Word::Else) && spot.is_behind_symbol(0, Symbol::RightParenthesis)
-        }
-        None => false,
-    }
 }
 
 /// What is said of a token behind a statement that leaves its block, where only a `}` may stand; nothing of others.
@@ -180,10 +177,22 @@ fn said_behind_a_way_out(spot: Spot<'_>) -> &'static str {
     }
 }
 
+/// Whether the `..` of a loop stands behind a number.
+fn is_count_from_a_number(spot: Spot<'_>) -> bool {
+    match spot.kind() {
+        Some(kind) => kind.is_symbol(Symbol::Dots) && spot.is_behind_word(1, Word::In),
+        None => false,
+    }
+}
+
 /// What is said of a symbol or a word that has its place elsewhere; nothing of others.
 fn said_of_symbol(spot: Spot<'_>) -> &'static str {
-    if is_else_of_look_up(spot) {
-        return "an else of a look-up stands behind the ) of its get; not behind && or ||, and not beside v0 to v15";
+    let said = said_of_else(spot);
+    if !said.is_empty() {
+        return said;
+    }
+    if is_count_from_a_number(spot) {
+        return "a loop that counts begins at 0: for NAME in 0..COUNT";
     }
     if spot.is_before_a_block() {
         return "";
@@ -225,6 +234,15 @@ fn said_of(spot: Spot<'_>) -> &'static str {
     }
 }
 
+/// Whether a token is a word with which a program, a rule or an event begins.
+fn begins_at_the_top(spot: Spot<'_>) -> bool {
+    match spot.kind() {
+        Some(TokenKind::Word(word)) => matches!(word, Word::Program | Word::Rule | Word::Finally),
+        Some(TokenKind::Name(name)) => EVENTS.iter().any(|word| *word == name.as_str()),
+        _ => false,
+    }
+}
+
 /// What is said of a token in whose place another one is wanted.
 fn syntax_words(
     alloc: Global,
@@ -233,7 +251,7 @@ fn syntax_words(
     spot: Spot<'_>,
 ) -> Result<String, AllocError> {
     let said = said_of_sign(source, spot);
-    if !said.is_empty() {
+    if !said.is_empty() && said_of_else(spot).is_empty() {
         return format!(in alloc; "{found} is no statement: {said}");
     }
     let said = said_of(spot);
@@ -246,6 +264,11 @@ fn syntax_words(
             if is_called(spot) && nearest(alloc, words, name)?.is_empty() {
                 return format!(in alloc;
                     "{found} is no {noun}: a program is called by start alone"
+                );
+            }
+            if noun == STATEMENT && begins_at_the_top(spot) {
+                return format!(in alloc;
+                    "{found} is no statement, and stands outside of blocks alone: a }} is missing before it"
                 );
             }
             let list = allowed(alloc, words, beside, name)?;
@@ -354,7 +377,7 @@ fn kind_words(
 ) -> Result<String, AllocError> {
     match said_of_start(alloc, source, spot)? {
         Some(said) => Ok(said),
-        None => said_of_value(alloc, found, spot),
+        None => said_of_value(alloc, source, found, spot),
     }
 }
 
@@ -411,12 +434,40 @@ fn words_at(
     }
 }
 
-/// The explanation of the first fault of a source, as a line.
+/// Adds a line for each of up to so many faults behind this one, in what is left of a source without the parts that have one.
+fn push_more(
+    alloc: Global,
+    name: &str,
+    source: &str,
+    bad: BadSource,
+    words: &mut String,
+) -> Result<(), AllocError> {
+    let mut rest = Rest::new(alloc, source)?;
+    let mut last = bad;
+    for _turn in 0..MOST_MORE {
+        let Some(next) = rest.next_behind(alloc, last)? else {
+            return Ok(());
+        };
+        let left = rest.text.as_bytes();
+        let tokens = tokens_of(alloc, left)?;
+        let said = words_at(alloc, left, spot_at(tokens.as_slice(), next.at), next)?;
+        let Position { line, column } = position_in(source.as_bytes(), next.at);
+        let more = format!(in alloc; "\n{name}:{line}:{column}: {said}")?;
+        words.push_str(more.as_str())?;
+        last = next;
+    }
+    Ok(())
+}
+
+/// The explanation of the first fault of a source, as a line, and behind it lines for others.
 fn explained(alloc: Global, name: &str, source: &[u8], bad: BadSource) -> Result<String, AllocError>
     ensures { IfOk result (λ line. (words : List ℕ) × (string_bytes line ≡ explanation name.now (place_of source.now bad.at).0 (place_of source.now bad.at).1 words)) }
 {
     let tokens = tokens_of(alloc, source)?;
-    let words = words_at(alloc, source, spot_at(tokens.as_slice(), bad.at), bad)?;
+    let mut words = words_at(alloc, source, spot_at(tokens.as_slice(), bad.at), bad)?;
+    if let Ok(text) = str::from_utf8(source) {
+        push_more(alloc, name, text, bad, &mut words)?;
+    }
     line_at(alloc, name, position_in(source, bad.at), words.as_str())
 }
 

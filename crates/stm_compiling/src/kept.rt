@@ -25,7 +25,7 @@ pub(crate) struct Begun {
     /// The place of its first token.
     pub(crate) place: usize,
     /// The byte at which that begins.
-    at: usize,
+    pub(crate) at: usize,
 }
 
 /// What a token opens and closes: how many brackets are open behind it.

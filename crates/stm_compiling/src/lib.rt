@@ -7,12 +7,15 @@
 
 mod calls;
 mod command;
+mod elses;
+mod event_lines;
 mod explaining;
 mod fault;
 mod kept;
 mod labels;
 mod line;
 mod misfits;
+mod more_faults;
 mod naming;
 mod notes;
 mod other_kinds;
@@ -26,12 +29,13 @@ mod wanted;
 mod whole;
 
 pub use command::{compile_to, compiled, compiled_part};
+pub use event_lines::event_lines;
 pub use kept::{kept_text, spells};
 pub use labels::{CalledRunner, called_runners};
 pub use notes::notes_of;
 pub use part::{Part, Printed};
-pub use placing::{PlacedLine, SourcePlaces};
-pub use runners::{NamedRunner, name_of_runner, named_runners};
+pub use placing::{PlacedLine, SourcePlaces, placed_rule, placed_runner};
+pub use runners::{NamedRunner, name_of_runner, named_runners, runners_named};
 pub use stm_devices::{Sink, Source};
 pub use stm_source::{Names, Rule, Wait};
 pub use titles::unknown_in;

@@ -2,7 +2,7 @@
 
 use crate::calls::{is_argument, is_lease, is_listed, is_parameter};
 use crate::spots::{Event, Place, Spot};
-use stm_tokens::{Symbol, TokenKind, Word};
+use stm_tokens::{Symbol, Token, TokenKind, Word};
 
 /// What is said of a function that people know from elsewhere, by its name.
 pub(crate) fn said_of_function(name: &str) -> &'static str {
@@ -68,8 +68,51 @@ fn is_assigned(spot: Spot<'_>) -> bool {
     }
 }
 
+/// Whether the sign of a loop that counts stands behind a name.
+fn is_before_dots(spot: Spot<'_>) -> bool {
+    match spot.next() {
+        Some(kind) => kind.is_symbol(Symbol::Dots),
+        None => false,
+    }
+}
+
+/// Whether a name that these tokens begin with is given to a list: by a `let` before it with a comma behind the first item, or as a last parameter.
+fn is_list_from(before: Option<&TokenKind>, from: &[Token]) -> bool {
+    match (before, from) {
+        (Some(TokenKind::Word(Word::Let)), [_, _, sign, _, comma, ..])
+            if sign.kind.is_symbol(Symbol::Subtract) => { comma.kind.is_symbol(Symbol::Comma) }
+        (Some(TokenKind::Word(Word::Let)), [_, _, _, comma, ..]) => {
+            comma.kind.is_symbol(Symbol::Comma)
+        }
+        (_, [_, dots, ..]) => dots.kind.is_symbol(Symbol::Dots),
+        _ => false,
+    }
+}
+
+/// Whether a name is given to a list above.
+fn is_list(spot: Spot<'_>) -> bool {
+    let Some(TokenKind::Name(name)) = spot.kind() else {
+        return false;
+    };
+    let mut before = None;
+    for (index, token) in spot.before.iter().enumerate() {
+        let (_, from) = spot.before.split_at(index);
+        if token.kind.is_named(name.as_str()) && is_list_from(before, from) {
+            return true;
+        }
+        before = Some(&token.kind);
+    }
+    false
+}
+
 /// What is said of a name that stands in a program, or in its head.
 fn said_in_program(spot: Spot<'_>) -> &'static str {
+    if spot.is_item() && is_before_dots(spot) {
+        return "is no item, and a loop that counts begins at 0: for NAME in 0..COUNT";
+    }
+    if spot.is_item() {
+        return "is no item: those are texts and numbers as they stand, parameters, constants and lists, and no variables";
+    }
     if spot.is_behind_word(0, Word::Let) || spot.is_behind_word(0, Word::For) {
         return "cannot be given here: it is the name of something in sight, or one of v0 to v15, which are never let and stand beside no other names";
     }
@@ -90,6 +133,9 @@ fn said_in_program(spot: Spot<'_>) -> &'static str {
     }
     if is_assigned(spot) {
         return "is no variable in sight: a new one is let NAME = VALUE, and a parameter is not set";
+    }
+    if is_list(spot) {
+        return "is a list, which stands as an item of a for alone: for NAME in LIST";
     }
     "is no variable and no parameter in sight"
 }

@@ -1,8 +1,13 @@
 //! What is said of a value that is of another kind than is wanted.
 
+use crate::calls::given_at;
+use crate::explaining::is_comparison;
 use crate::spots::{Call, Spot};
 use std::alloc::{AllocError, Global};
 use stm_tokens::{Symbol, TokenKind, Word};
+
+/// A line of more bytes than this is not shown.
+const MOST_SHOWN: usize = 100;
 
 /// Whether a value that begins with this token is a number, and not a text; nothing where the token does not tell.
 fn is_number(kind: Option<&TokenKind>) -> Option<bool> {
@@ -74,12 +79,89 @@ fn is_beside_add(spot: Spot<'_>) -> bool {
     is_next || spot.is_behind_symbol(0, Symbol::Add)
 }
 
+/// Whether a comparison stands before a value.
+fn is_compared(spot: Spot<'_>) -> bool {
+    match spot.back(0) {
+        Some(TokenKind::Symbol(symbol)) => is_comparison(*symbol),
+        _ => false,
+    }
+}
+
+/// Whether a name, or parentheses, with an operator of numbers behind it begins what a call wants as a text.
+fn begins_text_of_numbers(spot: Spot<'_>) -> bool {
+    is_number(spot.kind()).is_none()
+        && wants_number_beside(spot.next()) == Some(true)
+        && (spot.is_behind_symbol(0, Symbol::LeftParenthesis)
+            || spot.is_behind_symbol(0, Symbol::Comma))
+        && wants_number_in(spot.call()) == Some(false)
+}
+
+/// What is said of a value that is compared with one of the other kind, and is a number or a text, where its first token tells.
+fn said_of_compared(
+    alloc: Global,
+    found: &str,
+    is_number: Option<bool>,
+) -> Result<String, AllocError> {
+    match is_number {
+        Some(false) => format!(in alloc;
+            "found {found}, where a number is wanted as on the left: a number stands without quotes, and text_of(NUMBER) makes a text of one"
+        ),
+        Some(true) => format!(in alloc;
+            "found {found}, where a text is wanted as on the left: a text stands in quotes, and num_of(TEXT) makes a number of one"
+        ),
+        None => format!(in alloc;
+            "{found} is of another kind than the left side: num_of(TEXT) makes a number of a text, text_of(NUMBER) a text of a number"
+        ),
+    }
+}
+
+/// The line of a source that begins at a byte; nothing where it is long.
+fn line_from(source: &[u8], at: usize) -> &str {
+    let text = str::from_utf8(source).unwrap_or("");
+    match text.get(at..) {
+        Some(text) => match text.lines().next() {
+            Some(line) if line.len() <= MOST_SHOWN => line.trim(),
+            _ => "",
+        },
+        None => "",
+    }
+}
+
+/// The line in which a value with parameters is defined that is named there; nothing where none is.
+fn definition_of<'a>(source: &'a [u8], spot: Spot<'_>) -> &'a str {
+    let Some(TokenKind::Name(name)) = spot.kind() else {
+        return "";
+    };
+    let Some(index) = given_at(spot.before, name.as_str()) else {
+        return "";
+    };
+    match spot.before.get(index) {
+        Some(token) => line_from(source, token.at),
+        None => "",
+    }
+}
+
 /// What is said of a value that is of another kind than is wanted.
 pub(crate) fn said_of_value(
     alloc: Global,
+    source: &[u8],
     found: &str,
     spot: Spot<'_>,
 ) -> Result<String, AllocError> {
+    let definition = definition_of(source, spot);
+    if !definition.is_empty() {
+        return format!(in alloc;
+            "{found} is of another kind than is wanted here, or an argument of another than it takes: {definition}"
+        );
+    }
+    if is_compared(spot) {
+        return said_of_compared(alloc, found, is_number(spot.kind()));
+    }
+    if begins_text_of_numbers(spot) {
+        return format!(in alloc;
+            "{found} begins a number, where a text is wanted: text_of(NUMBER) makes one of it, and ++ joins texts"
+        );
+    }
     match wants_number(spot) {
         Some(true) if is_beside_add(spot) => format!(in alloc;
             "found {found}, where a number is wanted: texts are joined by ++, and num_of(TEXT) makes a number of one"

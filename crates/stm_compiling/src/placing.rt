@@ -2,9 +2,13 @@
 
 use crate::fault::position_in;
 use std::alloc::{AllocError, Global};
+use stm_events::WorldEvent;
 use stm_history::Sequence;
 use stm_marks::place_of;
-use stm_source::{MarkedProgram, MarkedStart, SourceError, read_marked_starts};
+use stm_source::{
+    MarkedProgram, MarkedPrograms, MarkedRule, MarkedStart, Scenario, SourceError,
+    read_marked_programs, read_source,
+};
 
 /// What stands before the place of a node in a line that explains a run.
 const AT: &str = " at ";
@@ -12,12 +16,18 @@ const AT: &str = " at ";
 /// What stands behind the place of a line, and behind that of a node.
 const BEHIND: &str = ": ";
 
+/// What stands before the name of a rule, and of a final, that comes to a fault.
+const RULES: [&str; 2] = ["the rule ", "the final "];
+
+/// What stands before the number of a runner whose program comes to a fault.
+const RUNNER: &str = "the program of runner ";
+
 /// A source under its name, and where the statements of its programs begin.
 #[derive(Drop)]
 pub struct SourcePlaces<'a> {
     name: &'a str,
     text: &'a str,
-    starts: Sequence<MarkedStart>,
+    programs: MarkedPrograms,
 }
 
 /// A line that explains a run, with its place in a source.
@@ -29,11 +39,14 @@ pub struct PlacedLine<'a> {
     pub source: &'a str,
 }
 
-/// The programs of a source's starts, with their marks; none, where the source is bad.
-fn starts_of(alloc: Global, text: &str) -> Result<Sequence<MarkedStart>, AllocError> {
-    match read_marked_starts(alloc, text) {
-        Ok(starts) => Ok(starts),
-        Err(SourceError::Bad(_)) => Ok(Sequence::new(alloc)),
+/// The programs of a source, with their marks; none, where the source is bad.
+fn programs_of(alloc: Global, text: &str) -> Result<MarkedPrograms, AllocError> {
+    match read_marked_programs(alloc, text) {
+        Ok(programs) => Ok(programs),
+        Err(SourceError::Bad(_)) => Ok(MarkedPrograms {
+            starts: Sequence::new(alloc),
+            rules: Sequence::new(alloc),
+        }),
         Err(SourceError::OutOfMemory) => Err(AllocError),
     }
 }
@@ -42,6 +55,66 @@ fn starts_of(alloc: Global, text: &str) -> Result<Sequence<MarkedStart>, AllocEr
 fn program_of(starts: &[MarkedStart], element: usize) -> Option<&MarkedProgram> {
     let start = starts.iter().rev().find(|start| start.element <= element)?;
     Some(&start.program)
+}
+
+/// The program of the rule or the final of this name.
+fn program_of_rule<'a>(rules: &'a [MarkedRule], name: &str) -> Option<&'a MarkedProgram> {
+    let rule = rules.iter().find(|rule| rule.name.as_str() == name)?;
+    Some(&rule.program)
+}
+
+/// The name of the rule or the final that a line is about.
+fn rule_in(line: &str) -> Option<&str> {
+    for front in RULES {
+        if let Some(behind) = line.strip_prefix(front) {
+            let (name, _) = behind.split_once(' ')?;
+            return Some(name);
+        }
+    }
+    None
+}
+
+/// The number of the runner that a line is about.
+fn runner_in(line: &str) -> Option<u64> {
+    let (number, _) = line.strip_prefix(RUNNER)?.split_once(' ')?;
+    number.parse::<u64>().ok()
+}
+
+/// Whether an event begins a run.
+fn begins_run(event: &WorldEvent) -> bool {
+    match event {
+        WorldEvent::Start { limit, .. } => *limit != 0,
+        _ => false,
+    }
+}
+
+/// The index of a runner's start among the elements of a scenario's JSON.
+fn element_of(scenario: &Scenario, runner: u64) -> Option<usize> {
+    let mut element = if scenario.opening.is_some() {
+        1usize
+    } else {
+        0
+    };
+    let mut begun = 0u64;
+    for event in scenario.events.as_slice() {
+        if begins_run(event) {
+            begun = begun.saturating_add(1);
+            if begun == runner {
+                return Some(element);
+            }
+        }
+        element = element.saturating_add(1);
+    }
+    None
+}
+
+/// The same of the scenario of a source.
+fn start_of(alloc: Global, text: &str, runner: u64) -> Result<Option<usize>, AllocError> {
+    match read_source(alloc, text.as_bytes()) {
+        Ok(scenario) => Ok(element_of(&scenario, runner)),
+        Err(SourceError::Bad(_)) => Ok(None),
+        Err(SourceError::OutOfMemory) => Err(AllocError),
+    }
 }
 
 /// The indices of a JSON Pointer; none, where it is no pointer to a node.
@@ -56,12 +129,32 @@ fn indices_of(alloc: Global, pointer: &str) -> Result<Vec<usize>, AllocError> {
     Ok(indices)
 }
 
-/// What stands before the place of a node in a line under a name, that place, and what stands behind.
-fn parts_of<'a>(line: &'a str, name: &str) -> Option<(&'a str, &'a str, &'a str)> {
-    let (_, words) = line.strip_prefix(name)?.split_once(BEHIND)?;
+/// What stands before the place of a node in words, that place, and what stands behind.
+fn parts_of(words: &str) -> Option<(&str, &str, &str)> {
     let (head, more) = words.split_once(AT)?;
     let (pointer, reason) = more.split_once(BEHIND)?;
     Some((head, pointer, reason))
+}
+
+/// The same in a line under a name.
+fn parts_under<'a>(line: &'a str, name: &str) -> Option<(&'a str, &'a str, &'a str)> {
+    let (_, words) = line.strip_prefix(name)?.split_once(BEHIND)?;
+    parts_of(words)
+}
+
+/// Where in the source the node begins to which these indices lead in a program's JSON.
+fn place_in(
+    alloc: Global,
+    program: &MarkedProgram,
+    indices: &[usize],
+) -> Result<Option<usize>, AllocError> {
+    let [first, inner @ ..] = indices else {
+        return Ok(None);
+    };
+    let mut path = Vec::new(alloc);
+    path.push(first.saturating_sub(program.first))?;
+    path.extend_from_slice(inner)?;
+    Ok(place_of(&program.statements, path.as_slice()))
 }
 
 /// The line of a text with a number, counted from 1, without the spaces around it.
@@ -75,55 +168,112 @@ fn line_of(text: &str, number: usize) -> &str {
 impl<'a> SourcePlaces<'a> {
     /// The places of a source of this text. It fails only when out of memory.
     pub fn of(alloc: Global, name: &'a str, text: &'a str) -> Result<SourcePlaces<'a>, AllocError> {
-        let starts = starts_of(alloc, text)?;
-        Ok(SourcePlaces { name, text, starts })
+        let programs = programs_of(alloc, text)?;
+        Ok(SourcePlaces {
+            name,
+            text,
+            programs,
+        })
     }
 
     /// Where in the source the node begins to which these indices lead in the scenario's JSON.
     fn place(&self, alloc: Global, indices: &[usize]) -> Result<Option<usize>, AllocError> {
-        let [element, 3, first, inner @ ..] = indices else {
+        let [element, 3, inner @ ..] = indices else {
             return Ok(None);
         };
-        let Some(program) = program_of(self.starts.as_slice(), *element) else {
-            return Ok(None);
-        };
-        let mut path = Vec::new(alloc);
-        path.push(first.saturating_sub(program.first))?;
-        path.extend_from_slice(inner)?;
-        Ok(place_of(&program.statements, path.as_slice()))
+        self.place_in_start(alloc, *element, inner)
+    }
+
+    /// Where in the source the node begins to which these indices lead in the program's JSON of a start, which is an element of the scenario's.
+    fn place_in_start(
+        &self,
+        alloc: Global,
+        element: usize,
+        indices: &[usize],
+    ) -> Result<Option<usize>, AllocError> {
+        match program_of(self.programs.starts.as_slice(), element) {
+            Some(program) => place_in(alloc, program, indices),
+            None => Ok(None),
+        }
+    }
+
+    /// Where in the source the node begins to which these indices lead in the JSON of a rule.
+    fn place_in_rule(
+        &self,
+        alloc: Global,
+        name: &str,
+        indices: &[usize],
+    ) -> Result<Option<usize>, AllocError> {
+        match program_of_rule(self.programs.rules.as_slice(), name) {
+            Some(program) => place_in(alloc, program, indices),
+            None => Ok(None),
+        }
     }
 
     /// The words of a run's fault, of which `head` stands before the place of its node and `reason` behind, at a byte of the source, and the line there.
     fn placed_at(
         &self,
         alloc: Global,
-        at: usize,
+        at: Option<usize>,
         head: &str,
         reason: &str,
-    ) -> Result<PlacedLine<'a>, AllocError> {
+    ) -> Result<Option<PlacedLine<'a>>, AllocError> {
+        let Some(at) = at else {
+            return Ok(None);
+        };
         let position = position_in(self.text.as_bytes(), at);
         let (line, column) = (position.line, position.column);
         let name = self.name;
         let words = format!(in alloc; "{name}:{line}:{column}: {head}: {reason}")?;
-        Ok(PlacedLine {
+        Ok(Some(PlacedLine {
             words,
             source: line_of(self.text, line),
-        })
+        }))
     }
 
     /// A line that explains a run, as `NAME:LINE:COLUMN: WORDS at POINTER: REASON`, with the place of the statement in the source for that in the line of
     /// JSON, and the line of the source. None, where it says no place of a statement.
     pub fn placed(&self, alloc: Global, line: &str) -> Result<Option<PlacedLine<'a>>, AllocError> {
-        let Some((head, pointer, reason)) = parts_of(line, self.name) else {
+        let Some((head, pointer, reason)) = parts_under(line, self.name) else {
             return Ok(None);
         };
         let indices = indices_of(alloc, pointer)?;
-        match self.place(alloc, indices.as_slice())? {
-            Some(at) => {
-                let placed = self.placed_at(alloc, at, head, reason)?;
-                Ok(Some(placed))
-            }
-            None => Ok(None),
-        }
+        let at = self.place(alloc, indices.as_slice())?;
+        self.placed_at(alloc, at, head, reason)
     }
+}
+
+/// The same, of a source of this name and text, of a line `the rule NAME WORDS at POINTER: REASON`, or of a final. It fails only when out of memory.
+pub fn placed_rule<'a>(
+    alloc: Global,
+    name: &'a str,
+    text: &'a str,
+    line: &str,
+) -> Result<Option<PlacedLine<'a>>, AllocError> {
+    let (Some(rule), Some((head, pointer, reason))) = (rule_in(line), parts_of(line)) else {
+        return Ok(None);
+    };
+    let places = SourcePlaces::of(alloc, name, text)?;
+    let indices = indices_of(alloc, pointer)?;
+    let at = places.place_in_rule(alloc, rule, indices.as_slice())?;
+    places.placed_at(alloc, at, head, reason)
+}
+
+/// The same of a line `the program of runner NUMBER WORDS at POINTER: REASON`.
+pub fn placed_runner<'a>(
+    alloc: Global,
+    name: &'a str,
+    text: &'a str,
+    line: &str,
+) -> Result<Option<PlacedLine<'a>>, AllocError> {
+    let (Some(runner), Some((head, pointer, reason))) = (runner_in(line), parts_of(line)) else {
+        return Ok(None);
+    };
+    let Some(element) = start_of(alloc, text, runner)? else {
+        return Ok(None);
+    };
+    let places = SourcePlaces::of(alloc, name, text)?;
+    let indices = indices_of(alloc, pointer)?;
+    let at = places.place_in_start(alloc, element, indices.as_slice())?;
+    places.placed_at(alloc, at, head, reason)
 }

@@ -1,5 +1,6 @@
 //! The names of runners, by their numbers.
 
+use crate::wanted::allowed;
 use crate::whole::Beside;
 use std::alloc::{AllocError, Global};
 use stm_history::Text;
@@ -81,4 +82,17 @@ pub fn name_of_runner(runners: &[NamedRunner], number: u64) -> Option<&str> {
         Some(runner) => Some(runner.name.as_str()),
         None => None,
     }
+}
+
+/// Which names these runners have, and which of them is nearest to a name that is none of them. It fails only when out of memory.
+pub fn runners_named(
+    alloc: Global,
+    runners: &[NamedRunner],
+    name: &str,
+) -> Result<String, AllocError> {
+    let mut names = Vec::new(alloc);
+    for runner in runners {
+        names.push(runner.name.as_str())?;
+    }
+    allowed(alloc, names.as_slice(), "", name)
 }

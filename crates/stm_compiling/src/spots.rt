@@ -257,20 +257,27 @@ impl<'a> Spot<'a> {
         false
     }
 
-    /// Whether it stands behind a comma of a list that is given a name outside of programs.
-    pub(crate) fn is_in_list(self) -> bool {
-        if !self.is_behind_symbol(0, Symbol::Comma) {
-            return false;
-        }
+    /// The word before the texts, numbers and names, with commas or a sign between them, behind which it stands.
+    fn word_of_list(self) -> Option<Word> {
         for token in self.before.iter().rev() {
             match &token.kind {
-                TokenKind::Word(Word::Let) => return true,
+                TokenKind::Word(word) => return Some(*word),
                 TokenKind::Text(_) | TokenKind::Number(_) | TokenKind::Name(_) => {}
                 TokenKind::Symbol(Symbol::Comma | Symbol::Assign | Symbol::Subtract) => {}
-                _ => return false,
+                _ => return None,
             }
         }
-        false
+        None
+    }
+
+    /// Whether it stands behind a comma of a list that is given a name outside of programs.
+    pub(crate) fn is_in_list(self) -> bool {
+        self.is_behind_symbol(0, Symbol::Comma) && self.word_of_list() == Some(Word::Let)
+    }
+
+    /// Whether it stands among the items of a `for`.
+    pub(crate) fn is_item(self) -> bool {
+        self.word_of_list() == Some(Word::In)
     }
 
     /// The token at an index before it.

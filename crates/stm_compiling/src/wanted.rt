@@ -10,7 +10,7 @@ use strsim::levenshtein;
 const MOST_NEAR: usize = 60;
 
 /// The words that begin an event, or what stands beside events.
-const EVENTS: [&str; 16] = [
+pub(crate) const EVENTS: [&str; 16] = [
     "program", "start", "step", "txn", "grant", "keep", "revoke", "advance", "watch", "poll",
     "cancel", "compact", "begin", "rule", "finally", "let",
 ];
@@ -23,7 +23,10 @@ const OPTIONS: [&str; 16] = [
 
 const ORDERS: [&str; 4] = ["==", "!=", "<", ">"];
 
-const STATEMENTS: [&str; 7] = ["put", "del", "emit", "abort", "let", "if", "for"];
+/// What is wanted where one of these words may begin it.
+pub(crate) const STATEMENT: &str = "statement";
+
+const STATEMENTS: [&str; 8] = ["put", "del", "emit", "abort", "let", "if", "for", "return"];
 
 const OPERATIONS: [&str; 3] = ["put", "get", "del"];
 
@@ -131,7 +134,7 @@ fn in_event(spot: Spot<'_>) -> Wanted {
 }
 
 /// Whether a value is wanted behind what stands before a place: an operator, a comma, an opened parenthesis or a sign of assignment.
-fn is_behind_operator(spot: Spot<'_>) -> bool {
+pub(crate) fn is_behind_operator(spot: Spot<'_>) -> bool {
     match spot.back(0) {
         Some(TokenKind::Symbol(symbol)) => matches!(
             symbol,
@@ -215,7 +218,7 @@ fn statement_or_more(spot: Spot<'_>) -> Wanted {
         return Wanted::Said("an operator, or the { of the block,");
     }
     if is_worded(spot.kind()) {
-        return Wanted::Words("statement", &STATEMENTS, ", or a variable and =");
+        return Wanted::Words(STATEMENT, &STATEMENTS, ", or a variable and =");
     }
     Wanted::Said("an operator, a statement, or the } that ends the block")
 }
@@ -229,7 +232,7 @@ fn in_program(spot: Spot<'_>) -> Wanted {
         return Wanted::Said("=");
     }
     if spot.is_behind_word(1, Word::For) {
-        return Wanted::Said("in");
+        return Wanted::Said("in, and 0..COUNT or ITEM, ITEM behind it,");
     }
     if spot.is_behind_word(0, Word::In) {
         return Wanted::Said("0..COUNT, or texts or numbers with commas between them,");
@@ -259,6 +262,9 @@ fn in_parentheses(spot: Spot<'_>) -> Wanted {
     if is_behind_call(spot) {
         return Wanted::Said("(");
     }
+    if is_behind_opening(spot) && is_parameter(spot) {
+        return Wanted::Said("the name of a parameter");
+    }
     if is_behind_opening(spot) {
         return Wanted::Said(value_in(spot));
     }
@@ -281,8 +287,21 @@ fn is_behind_else_of_look_up(spot: Spot<'_>) -> bool {
     spot.is_behind_word(0, Word::Else) && spot.is_behind_symbol(1, Symbol::RightParenthesis)
 }
 
+/// Whether the sign of a number stands before a place: a `-` where a value may begin.
+fn is_behind_sign(spot: Spot<'_>) -> bool {
+    match spot.back(1) {
+        Some(TokenKind::Symbol(symbol)) => {
+            *symbol != Symbol::RightParenthesis && spot.is_behind_symbol(0, Symbol::Subtract)
+        }
+        _ => false,
+    }
+}
+
 /// What is wanted in a place.
 pub(crate) fn wanted_at(spot: Spot<'_>) -> Wanted {
+    if is_behind_sign(spot) {
+        return Wanted::Said("a number as it stands, and else 0 - VALUE,");
+    }
     if is_behind_else_of_look_up(spot) {
         return Wanted::Said("a text: as it stands, a name, get(..), or a value in parentheses,");
     }

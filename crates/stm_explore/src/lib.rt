@@ -29,7 +29,7 @@ mod turns;
 mod waiting;
 mod waits;
 
-pub use asking::When;
+pub use asking::{When, laid};
 pub use ends::ends_reported;
 pub use exploring::{Explored, explore};
 pub use finding::{Outcomes, find_outcomes};
@@ -39,7 +39,7 @@ pub use stm_history::Sequence;
 pub use stm_meaning::End;
 pub use stm_program::Program;
 pub use stm_retry::World;
-pub use stm_schedules::{Move, Outcome, RunnerEnd};
+pub use stm_schedules::{KeyValue, Move, Outcome, RunnerEnd};
 pub use stm_visited::{Budget, Nobody, Observer};
 pub use stm_world::WorldEvent;
 pub use waiting::explore_waiting;

@@ -14,6 +14,7 @@ use std::alloc::{AllocError, Global};
 use stm_events::EventRefusal;
 use stm_explain::shown;
 use stm_explore::When;
+use stm_faulted_runs::fault_on;
 use stm_history::Text;
 use stm_meaning::{End, Run};
 use stm_program::Program;
@@ -75,6 +76,8 @@ struct Runs {
     ends: Vec<Came>,
     /// How many outputs a run of it had at most.
     outputs: usize,
+    /// To which fault its program came where it first came to one, and why, where that is to be said.
+    fault: Option<String>,
 }
 
 /// How the programs of runners end, each run alone, in every serial order.
@@ -83,6 +86,8 @@ struct Account<'a> {
     alloc: Global,
     /// The rules that make keys of variables, and so may ask for another one at each place.
     varying: Vec<VaryingRule<'a>>,
+    /// The runners' programs.
+    programs: &'a [Program],
     /// By the runners' numbers.
     runners: Vec<Runs>,
     /// Which keys are asked for, and which are put.
@@ -119,6 +124,12 @@ impl Follower for Account<'_> {
         }
     }
 
+    fn stopped(&mut self, world: &World, runner: u64, run: &Run) {
+        if self.note_stop(world, runner, run).is_err() {
+            self.is_cut = true;
+        }
+    }
+
     fn refused(&mut self, runner: u64, cause: EventRefusal) {
         if self.note_word(runner, "ended", cause.name()).is_err() {
             self.is_cut = true;
@@ -133,6 +144,12 @@ pub(crate) fn shown_text(alloc: Global, text: &str) -> Result<String, AllocError
     let shown = shown(alloc, &json);
     drop(json);
     shown
+}
+
+/// To which fault a program comes in a world, where in it, and why.
+fn fault_in(alloc: Global, program: &Program, world: &World) -> Result<String, AllocError> {
+    let state = world.state()?;
+    fault_on(alloc, program, &state)
 }
 
 /// Where such an end is among these.
@@ -167,6 +184,7 @@ fn no_runs(alloc: Global) -> Runs {
         has_committed: false,
         ends: Vec::new(alloc),
         outputs: 0,
+        fault: None,
     }
 }
 
@@ -215,12 +233,14 @@ impl<'a> Account<'a> {
         keys: KeyUse,
         outputs: Vec<AskedOutput>,
         varying: Vec<VaryingRule<'a>>,
+        programs: &'a [Program],
         told: Told,
     ) -> Result<Account<'a>, AllocError> {
         let runners = no_account(alloc, count)?;
         Ok(Account {
             alloc,
             varying,
+            programs,
             runners,
             keys,
             outputs,
@@ -252,6 +272,28 @@ impl<'a> Account<'a> {
             End::Done => self.note_commit(runner, run.output.len()),
             End::Aborted(text) => self.note_abort(runner, text),
             End::Faulted(fault) => self.note_word(runner, "faulted", fault.name()),
+        }
+    }
+
+    /// Notes to which fault the program of a runner came in a world, where that is to be said and it is the first one.
+    fn note_fault(&mut self, world: &World, runner: u64) -> Result<(), AllocError> {
+        let index = runner.saturating_sub(1);
+        if index >= self.runners.len() as u64 || index >= self.programs.len() as u64 {
+            return Ok(());
+        }
+        let runs = &mut self.runners[index as usize];
+        if runs.fault.is_none() {
+            let program = &self.programs[index as usize];
+            runs.fault = Some(fault_in(self.alloc, program, world)?);
+        }
+        Ok(())
+    }
+
+    /// Notes that a run of a runner stopped in a world.
+    fn note_stop(&mut self, world: &World, runner: u64, run: &Run) -> Result<(), AllocError> {
+        match (&run.end, self.told) {
+            (End::Faulted(_), Told::All) if !self.is_cut => self.note_fault(world, runner),
+            _ => Ok(()),
         }
     }
 
@@ -360,6 +402,39 @@ fn is_said(runs: &Runs, told: Told) -> bool {
     }
 }
 
+/// Says to which fault the program of a runner first comes, where that was noted.
+fn tell_fault<O: Audience>(
+    alloc: Global,
+    runner: usize,
+    runs: &Runs,
+    audience: &mut O,
+) -> Result<(), AllocError> {
+    if let Some(fault) = &runs.fault {
+        let fault = fault.as_str();
+        let line = format!(in alloc; "the program of runner {runner} comes to {fault}")?;
+        audience.hear_fault(line.as_str());
+    }
+    Ok(())
+}
+
+/// Says how the runs of a runner ended, which are of these.
+fn tell_runner<O: Audience>(
+    alloc: Global,
+    runner: usize,
+    runs: &Runs,
+    of: &str,
+    audience: &mut O,
+) -> Result<(), AllocError> {
+    let line = line_of(alloc, runner, runs, of)?;
+    if runs.has_committed {
+        audience.hear(line.as_str());
+    } else {
+        audience.doubt(line.as_str());
+    }
+    drop(line);
+    tell_fault(alloc, runner, runs, audience)
+}
+
 /// Says how the runs of each runner ended of which it is to be said. The account is of these runs.
 fn tell_runs<O: Audience>(
     account: &Account<'_>,
@@ -370,12 +445,7 @@ fn tell_runs<O: Audience>(
     for index in 0..account.runners.len() {
         let runs = &account.runners[index];
         if is_said(runs, told) {
-            let line = line_of(account.alloc, index + 1, runs, of)?;
-            if runs.has_committed {
-                audience.hear(line.as_str());
-            } else {
-                audience.doubt(line.as_str());
-            }
+            tell_runner(account.alloc, index + 1, runs, of, audience)?;
         }
     }
     Ok(())
@@ -575,7 +645,7 @@ fn tell_outputs<O: Audience>(
 
 /// Says how the runs of runners ended: at the ends of the schedules in which some wait, where these were seen, and else in serial orders.
 fn tell_ended<O: Audience>(
-    account: &Account,
+    account: &Account<'_>,
     answers: &[RuleAnswer],
     seen: Option<&SeenEnds>,
     audience: &mut O,
@@ -635,11 +705,14 @@ fn account_of<'a>(
     alloc: Global,
     count: usize,
     keys: KeyUse,
+    programs: &'a [Program],
     answers: &'a [RuleAnswer],
     told: Told,
 ) -> Result<Account<'a>, AllocError> {
     match asked_by(alloc, answers) {
-        Ok((outputs, varying)) => Account::new(alloc, count, keys, outputs, varying, told),
+        Ok((outputs, varying)) => {
+            Account::new(alloc, count, keys, outputs, varying, programs, told)
+        }
         Err(_) => {
             drop(keys);
             Err(AllocError)
@@ -652,13 +725,13 @@ fn account_before<'a>(
     alloc: Global,
     world: &World,
     others: &[WorldEvent],
-    programs: &[Program],
+    programs: &'a [Program],
     answers: &'a [RuleAnswer],
     told: Told,
 ) -> Result<Account<'a>, AllocError> {
     let mut keys = KeyUse::new(alloc, world)?;
     match note_keys(alloc, &mut keys, others, programs, answers) {
-        Ok(()) => account_of(alloc, world.runner_count(), keys, answers, told),
+        Ok(()) => account_of(alloc, world.runner_count(), keys, programs, answers, told),
         Err(_) => {
             drop(keys);
             Err(AllocError)

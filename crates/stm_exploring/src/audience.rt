@@ -11,6 +11,16 @@ pub trait Audience: Observer {
     /// This is said, without a line feed at its end.
     fn hear(&mut self, line: &str);
 
+    /// The same is said, of a program that comes to a fault: `WHO comes to FAULT at PLACE: REASON`, with the place in the program's JSON.
+    fn hear_fault(&mut self, line: &str) {
+        self.hear(line);
+    }
+
+    /// The same is said, of which events are the set-up, and which the others'.
+    fn hear_parts(&mut self, line: &str) {
+        self.hear(line);
+    }
+
     /// The same is said, of what makes the answer worth little: of a program that never did its work, or a key that nothing puts.
     fn doubt(&mut self, line: &str);
 }
@@ -74,6 +84,18 @@ impl<O: Audience> Audience for Once<'_, O> {
         }
     }
 
+    fn hear_fault(&mut self, line: &str) {
+        if self.is_new(line) {
+            self.audience.hear_fault(line);
+        }
+    }
+
+    fn hear_parts(&mut self, line: &str) {
+        if self.is_new(line) {
+            self.audience.hear_parts(line);
+        }
+    }
+
     fn doubt(&mut self, line: &str) {
         if self.is_new(line) {
             self.audience.doubt(line);
@@ -109,7 +131,7 @@ pub(crate) fn tell_parts<O: Audience>(
         return;
     }
     if let Ok(line) = parts_line(alloc, setup, others) {
-        audience.hear(line.as_str());
+        audience.hear_parts(line.as_str());
     }
 }
 

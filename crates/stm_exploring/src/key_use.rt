@@ -171,7 +171,7 @@ pub(crate) fn varying_rules(
         }
         let program = &a.rule.program;
         let names = keys_looked_up(alloc, program)?;
-        if names.iter().any(is_front) {
+        if names.as_slice().iter().any(is_front) {
             varying.push(VaryingRule { place, program })?;
         }
     }

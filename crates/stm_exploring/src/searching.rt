@@ -289,7 +289,7 @@ fn explore_from<O: Audience>(
 }
 
 /// The world of a scenario before its first event.
-fn world_of(alloc: Global, scenario: &Scenario) -> Result<World, AllocError>
+pub(crate) fn world_of(alloc: Global, scenario: &Scenario) -> Result<World, AllocError>
     ensures { IfOk result (λ world. world ≡ opened (opening_of scenario.now)) }
 {
     let opening = opens_with(scenario.opening);

@@ -5,6 +5,7 @@ use Rattle.serde_json.specs.Read.{read as read_text}
 use Rattle.stm_history.specs.History.{History}
 use Rattle.stm_program.specs.Syntax.{ProgramTree}
 use Rattle.stm_program_json.specs.Reading.{first_statement, program_of}
+use Rattle.stm_program_json.specs.Writing.{written_program}
 use Rattle.stm_steps.specs.declared.fault.Fault.{Fault}
 use Rattle.stm_steps.specs.declared.state.StateEntry.{StateEntry}
 use Rattle.stm_steps.specs.Answer.{Lookup}
@@ -56,13 +57,21 @@ abbrev pub ExplainsRule : List ℕ → List ℕ → Outcome Scenario → List �
 ExplainsRule name text (Ok s) said = (state : List StateEntry) × IsStateOf (left_by s) state × ExplainsOver name text (state_answers state) said
 ExplainsRule name text (Err bad) said = said ≡ []
 
--- the fault that was found and why, in words; nothing where none was
-abbrev pub IsReasonSaid : Option FoundFault → List ℕ → Type 0
-IsReasonSaid None said = said ≡ []
-IsReasonSaid (Some found) said = (reason : List ℕ) × (said ≡ fault_name found.fault ++ codes ": " ++ reason)
+-- a fault that was found in a program, in whose JSON the first statement is the element with this index: its place there, and why
+abbrev pub IsFaultSaid : ℕ → FoundFault → List ℕ → Type 0
+IsFaultSaid first found said = (more : List ℕ) × ReturnsPlace (counted_from first found.site.place) more × (said ≡ fault_name found.fault ++ more)
+
+-- the fault that was found in a program; nothing where none was
+abbrev pub IsReasonSaid : ProgramTree → Option FoundFault → List ℕ → Type 0
+IsReasonSaid program None said = said ≡ []
+IsReasonSaid program (Some found) said = IsFaultSaid (first_statement (written_program program)) found said
+
+-- what is said of a program that comes to a fault on a state
+abbrev pub SaysFault : ProgramTree → List StateEntry → List ℕ → Type 0
+SaysFault program state said = IsReasonSaid program (fault_of (state_answers state) program.statements) said
 
 -- what is said of a rule's program that comes to a fault on the state that a scenario leaves; nothing where there is no scenario
 abbrev pub SaysReason : ProgramTree → Outcome Scenario → List ℕ → Type 0
 SaysReason program (Ok s) said =
-    (state : List StateEntry) × IsStateOf (left_by s) state × IsReasonSaid (fault_of (state_answers state) program.statements) said
+    (state : List StateEntry) × IsStateOf (left_by s) state × SaysFault program state said
 SaysReason program (Err bad) said = said ≡ []

@@ -19,9 +19,10 @@ mod said;
 mod scripts;
 
 pub use jobs::{FaultedJob, jobs_explained};
-pub use rules::{rule_explained, rule_reason};
+pub use rules::{fault_on, rule_explained, rule_reason};
 pub use said::said_of;
 pub use scripts::{Named, faults_explained};
+pub use stm_retry::State;
 pub use stm_sites::{
     Fault, FoundFault, Lookup, Node, Operator, Program, Sequence, Site, Value, find_fault,
 };

@@ -140,21 +140,6 @@ pub(crate) fn place_of_fault(
     Ok(Place { steps, more })
 }
 
-/// Why a fault was found in the program of this JSON, of whose elements the first statement is the one with this index.
-pub(crate) fn reason_in(
-    alloc: Global,
-    program: &Json,
-    first: usize,
-    found: &FoundFault,
-) -> Result<String, AllocError>
-    requires first { first ≤ 1 }
-    requires few { BeginsBelow MAX_NODES found.now.site.place }
-{
-    let mut steps = Vec::new(alloc);
-    push_place(&mut steps, first, found.site.place.as_slice())?;
-    reason_of(alloc, program, steps.as_slice(), found)
-}
-
 /// A place of which nothing more is said.
 fn bare_place(alloc: Global, steps: Vec<usize>) -> Place
     ensures { string_bytes result.more ≡ [] }

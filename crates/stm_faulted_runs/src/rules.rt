@@ -9,10 +9,10 @@ ghost use Rattle.stm_steps.specs.States.{state_answers};
 ghost use Rattle.stm_texts.specs.Reading.{scenario_in};
 ghost use Rattle.stm_world.specs.World.{world_after};
 ghost use Rattle.stm_faulted_runs.specs.Places.{BeginsBelow};
-ghost use Rattle.stm_faulted_runs.specs.Rules.{IsRuleLine, ExplainsProgram, ExplainsOver, ExplainsRule, IsReasonSaid, SaysReason, rule_head, left_by};
+ghost use Rattle.stm_faulted_runs.specs.Rules.{IsRuleLine, ExplainsProgram, ExplainsOver, ExplainsRule, IsFaultSaid, IsReasonSaid, SaysFault, SaysReason, rule_head, left_by};
 
 use crate::lines::words_of;
-use crate::places::{fault_in_program, place_of_fault, reason_in};
+use crate::places::{fault_in_program, place_of_fault};
 use crate::scripts::Named;
 use serde_json::Value as Json;
 use std::alloc::{AllocError, Global};
@@ -171,31 +171,43 @@ pub fn rule_explained(alloc: Global, rule: &Named<'_>, scenario: &str) -> Result
     }
 }
 
-/// What is said of a fault that was found in a program.
-fn fault_and_reason(
+/// What is said of a fault that was found in a program with this JSON, of whose elements the first statement is the one with this index.
+fn fault_at_place(
     alloc: Global,
-    program: &Program,
+    json: &Json,
+    first: usize,
     found: &FoundFault,
 ) -> Result<String, AllocError>
+    requires first { first ≤ 1 }
+    requires few { BeginsBelow MAX_NODES found.now.site.place }
+    ensures { IfOk result (λ said. IsFaultSaid first found.now (string_bytes said)) }
+{
+    let place = place_of_fault(alloc, json, Vec::new(alloc), first, found)?;
+    words_of(alloc, found.fault.name(), place.more.as_str())
+}
+
+/// What is said of a fault that was found in a program.
+fn fault_in(alloc: Global, program: &Program, found: &FoundFault) -> Result<String, AllocError>
     requires { BeginsBelow MAX_NODES found.now.site.place }
-    ensures { IfOk result (λ said. IsReasonSaid (SomeOf found.now) (string_bytes said)) }
+    ensures { IfOk result (λ said. IsReasonSaid program.now (SomeOf found.now) (string_bytes said)) }
 {
     let json = write_program(alloc, program)?;
     let first = first_statement(&json);
-    let reason = reason_in(alloc, &json, first, found);
+    let said = fault_at_place(alloc, &json, first, found);
     drop(json);
-    let reason = reason?;
-    let fault = found.fault;
-    format!(in alloc; "{fault}: {reason}")
+    said
 }
 
-/// What is said of a rule's program that comes to a fault on a state.
-fn reason_on(alloc: Global, program: &Program, state: &State) -> Result<String, AllocError>
-    ensures { IfOk result (λ said. IsReasonSaid (fault_of (state_answers state.now) program.now.statements) (string_bytes said)) }
+/// The fault to which a program comes, run alone on a state, its place in the program's JSON, and why: `FAULT at PLACE: REASON`; nothing where it comes to
+/// none.
+///
+/// It fails where an allocation failed.
+pub fn fault_on(alloc: Global, program: &Program, state: &State) -> Result<String, AllocError>
+    ensures { IfOk result (λ said. SaysFault program.now state.now (string_bytes said)) }
 {
     let found = fault_in_program(alloc, program, state)?;
     let said = match &found {
-        Some(found) => fault_and_reason(alloc, program, found),
+        Some(found) => fault_in(alloc, program, found),
         None => Ok(String::new(alloc)),
     };
     drop(found);
@@ -207,11 +219,10 @@ fn reason_after(alloc: Global, program: &Program, scenario: Scenario) -> Result<
     ensures { IfOk result (λ said. SaysReason program.now (OkOf scenario) (string_bytes said)) }
 {
     let state = state_left(alloc, scenario)?;
-    reason_on(alloc, program, &state)
+    fault_on(alloc, program, &state)
 }
 
-/// The fault to which a rule's program comes on the state after the scenario that this text spells, and why: `FAULT: REASON`; nothing where it comes to
-/// none.
+/// What `fault_on` says of a rule's program on the state after the scenario that this text spells.
 ///
 /// It fails where an allocation failed.
 pub fn rule_reason(alloc: Global, program: &Program, scenario: &str) -> Result<String, AllocError>

@@ -20,6 +20,9 @@ pub trait Follower {
     /// A runner's program was run alone: this is its run. Where it came to its last statement, its writes were applied.
     fn ran(&mut self, runner: u64, run: &Run);
 
+    /// A runner's program was run alone and did not come to its last statement: this is its run, and the world that it left as it was.
+    fn stopped(&mut self, _world: &World, _runner: u64, _run: &Run) {}
+
     /// A runner's program was run alone to its last statement, but the store refused its writes.
     fn refused(&mut self, runner: u64, cause: EventRefusal);
 }

@@ -140,6 +140,7 @@ fn leave<F: Follower>(
         notify(follower, runner, run, &reply);
         return Ok(());
     }
+    follower.stopped(world, runner, run);
     follower.ran(runner, run);
     Ok(())
 }

@@ -1,4 +1,3 @@
-pub mod Allowed
 pub mod BlockLemmas
 pub mod SourceLemmas
 mod PlaceLemmas

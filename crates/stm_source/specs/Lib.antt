@@ -1,4 +1,3 @@
-pub mod Allowed
 pub mod Bulk
 pub mod Constants
 pub mod Definitions

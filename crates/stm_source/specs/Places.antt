@@ -1,24 +1,29 @@
--- Where the statements of the programs of a source's starts begin: the programs, read once more with a mark before each statement.
-use Rattle.std.specs.Prelude.{ℕ, zero, suc, ◌+◌, ◌-◌, List, [], ◌∷◌, ◌++◌, length, drop, Option, Some, None, Ok, Err, nat_lt, codes, if◌then◌else◌, true, false}
+-- Where the statements of the programs of a source's starts, rules and finals begin: the programs, read once more with a mark before each statement.
+use Rattle.std.specs.Prelude.{ℕ, zero, suc, ◌+◌, ◌-◌, Bool, List, [], ◌∷◌, ◌++◌, length, drop, Option, Some, None, Ok, Err, nat_lt, codes, if◌then◌else◌, true, false}
 use Rattle.stm_tokens.specs.declared.token.Token.{Token}
+use Rattle.stm_tokens.specs.declared.token.Symbol.TheVariants as symbol
+use Rattle.stm_tokens.specs.declared.token.Word.TheVariants as word
 use Rattle.stm_program.specs.Syntax.{Block}
 use Rattle.stm_leaving.specs.Closed.{nothing, closed}
 use Rattle.stm_leaving.specs.Written.{is_too_long}
 use Rattle.stm_terms.specs.declared.arguments.Arguments.{Arguments}
 use Rattle.stm_terms.specs.declared.arguments.Given.{Given}
 use Rattle.stm_terms.specs.declared.faults.SourceCause.TheVariants as cause
-use Rattle.stm_terms.specs.Cursor.{place, unexpected, after_name, next_name}
+use Rattle.stm_terms.specs.Cursor.{place, unexpected, after_name, after_symbol, after_word, next_name}
 use Rattle.stm_terms.specs.Outcome.{Outcome, bad, ◌>>=◌}
 use Rattle.stm_txn.specs.Standing.{Setup}
 use Rattle.stm_source.specs.declared.definitions.Definition.{Definition}
 use Rattle.stm_source.specs.declared.definitions.Definitions.{Definitions}
 use Rattle.stm_source.specs.declared.places.MarkedProgram.{MarkedProgram}
+use Rattle.stm_source.specs.declared.places.MarkedPrograms.{MarkedPrograms}
+use Rattle.stm_source.specs.declared.places.MarkedRule.{MarkedRule}
 use Rattle.stm_source.specs.declared.places.MarkedStart.{MarkedStart}
 use Rattle.stm_source.specs.declared.places.TheConstants.{MOST_MARKED}
 use Rattle.stm_source.specs.declared.programs.Look.{Look}
 use Rattle.stm_source.specs.declared.story.Story.{Story}
 use Rattle.stm_source.specs.Definitions.{alone, arguments_at, bound, definition_named, look_of, no_arguments}
 use Rattle.stm_source.specs.Programs.{parts_at}
+use Rattle.stm_source.specs.Rules.{rule_look, weakest_level}
 use Rattle.stm_source.specs.Sources.{at_end, empty_story, item_at, no_definitions}
 
 -- ---- a program with its marks
@@ -58,7 +63,24 @@ marked_by all definitions tokens (Some p) = marked_named definitions all (place 
 abbrev pub marked_started : List Token → Definitions → List Token → Outcome MarkedProgram
 marked_started all definitions tokens = marked_by all definitions tokens (next_name tokens)
 
--- ---- those of all starts
+-- ---- of a rule or a final
+
+abbrev pub marked_called : List Token → Definitions → List Token → Option (List ℕ × List Token) → Outcome MarkedProgram
+marked_called all definitions tokens None = Err (unexpected tokens)
+marked_called all definitions tokens (Some p) = marked_named definitions all (place tokens) p.1 (definition_named definitions p.0)
+
+-- one that is named, with its arguments, or its own in braces
+abbrev pub marked_asked : List Token → Definitions → Story → Bool → List Token → Option (List Token) → Outcome MarkedProgram
+marked_asked all definitions story is_final tokens (Some rest) = marked_called all definitions rest (next_name rest)
+marked_asked all definitions story is_final tokens None =
+    marked_body (rule_look definitions.constants story is_final (place tokens) tokens) no_arguments tokens
+
+-- behind its name
+abbrev pub marked_ruled : List Token → Definitions → Story → Bool → List Token → Outcome MarkedProgram
+marked_ruled all definitions story is_final tokens =
+    weakest_level tokens >>= λ l. marked_asked all definitions story is_final l.1 (after_symbol symbol.Assign l.1)
+
+-- ---- those of a source
 
 -- the index that the next event has among the elements of the scenario's JSON
 abbrev pub behind_opening : ℕ → Option Setup → ℕ
@@ -68,29 +90,50 @@ behind_opening events (Some o) = events + 1
 abbrev pub next_element : Story → ℕ
 next_element story = behind_opening (length story.events) story.opening
 
+abbrev pub no_programs : MarkedPrograms
+no_programs = record { starts = []; rules = [] }
+
 abbrev pub start_as : ℕ → MarkedProgram → MarkedStart
 start_as element program = record { element = element; program = program }
 
 -- none, where it cannot be read again
-abbrev pub with_read : List MarkedStart → ℕ → Outcome MarkedProgram → List MarkedStart
-with_read starts element (Ok p) = starts ++ start_as element p ∷ []
-with_read starts element (Err e) = starts
+abbrev pub with_start : MarkedPrograms → ℕ → Outcome MarkedProgram → MarkedPrograms
+with_start programs element (Ok p) = record programs { starts = programs.starts ++ start_as element p ∷ [] }
+with_start programs element (Err e) = programs
 
-abbrev pub after_start : List Token → Option (List Token)
-after_start tokens = after_name (codes "start") tokens
+abbrev pub rule_as : List ℕ → MarkedProgram → MarkedRule
+rule_as name program = record { name = name; program = program }
 
-abbrev pub with_item : List Token → Definitions → ℕ → List MarkedStart → Option (List Token) → List MarkedStart
-with_item all definitions element starts None = starts
-with_item all definitions element starts (Some inner) = with_read starts element (marked_started all definitions inner)
+abbrev pub with_rule : MarkedPrograms → List ℕ → MarkedProgram → MarkedPrograms
+with_rule programs name p = record programs { rules = programs.rules ++ rule_as name p ∷ [] }
+
+abbrev pub with_rule_read : MarkedPrograms → List ℕ → Outcome MarkedProgram → MarkedPrograms
+with_rule_read programs name (Ok p) = with_rule programs name p
+with_rule_read programs name (Err e) = programs
+
+abbrev pub with_ruled : List Token → Definitions → Story → Bool → MarkedPrograms → Option (List ℕ × List Token) → MarkedPrograms
+with_ruled all definitions story is_final programs None = programs
+with_ruled all definitions story is_final programs (Some p) = with_rule_read programs p.0 (marked_ruled all definitions story is_final p.1)
+
+-- a start, a rule or a final; nothing of other items
+abbrev pub item_with : List Token → Definitions → Story → ℕ → MarkedPrograms → Option (List Token) → Option (List Token) → Option (List Token) → MarkedPrograms
+item_with all definitions story element programs (Some inner) asked start = with_ruled all definitions story false programs (next_name inner)
+item_with all definitions story element programs None (Some inner) start = with_ruled all definitions story true programs (next_name inner)
+item_with all definitions story element programs None None (Some inner) = with_start programs element (marked_started all definitions inner)
+item_with all definitions story element programs None None None = programs
+
+abbrev pub with_item : List Token → Definitions → Story → ℕ → MarkedPrograms → List Token → MarkedPrograms
+with_item all definitions story element programs tokens =
+    item_with all definitions story element programs (after_word word.Rule tokens) (after_word word.Finally tokens) (after_name (codes "start") tokens)
 
 -- those of the items that are left, at most so many
-unfoldable pub starts_from : List Token → ℕ → Definitions → Story → List MarkedStart → List Token → Outcome (List MarkedStart)
-starts_from all zero definitions story starts tokens = Err (unexpected tokens)
-starts_from all (suc more) definitions story starts tokens =
-    if at_end tokens then Ok starts
+unfoldable pub programs_from : List Token → ℕ → Definitions → Story → MarkedPrograms → List Token → Outcome MarkedPrograms
+programs_from all zero definitions story programs tokens = Err (unexpected tokens)
+programs_from all (suc more) definitions story programs tokens =
+    if at_end tokens then Ok programs
     else (item_at all definitions story tokens >>= λ x.
-    starts_from all more x.0 x.1 (with_item all x.0 (next_element story) starts (after_start tokens)) x.2)
+    programs_from all more x.0 x.1 (with_item all x.0 x.1 (next_element story) programs tokens) x.2)
 
 -- those that tokens spell
-unfoldable pub starts_at : List Token → Outcome (List MarkedStart)
-starts_at tokens = starts_from tokens (length tokens) no_definitions empty_story [] tokens
+unfoldable pub programs_at : List Token → Outcome MarkedPrograms
+programs_at tokens = programs_from tokens (length tokens) no_definitions empty_story no_programs tokens

@@ -9,7 +9,6 @@ mod bulk;
 mod constants;
 mod definitions;
 mod events;
-pub mod laws;
 mod leaving;
 mod loops;
 mod openings;
@@ -26,7 +25,7 @@ mod txns;
 mod wanted;
 mod words;
 
-pub use places::{MarkedProgram, MarkedStart, read_marked_starts};
+pub use places::{MarkedProgram, MarkedPrograms, MarkedRule, MarkedStart, read_marked_programs};
 pub use sources::{Source, read_source, read_whole_source};
 pub use stm_terms::{BadSource, Kind, MOST_BRACKETS, Names, SourceCause, SourceError};
 pub use stm_texts::Scenario;

@@ -1,6 +1,8 @@
 //! Reading where the statements of programs begin.
-ghost use Rattle.std.specs.Prelude.{◌≡◌, [], length, map, OnOk, string_bytes};
+ghost use Rattle.std.specs.Prelude.{◌≡◌, length, map, OnOk, string_bytes};
+ghost use Rattle.stm_terms.specs.Cursor.{after_symbol, next_name};
 ghost use Rattle.stm_terms.specs.Outcome.{Returns};
+ghost use Rattle.stm_tokens.specs.declared.token.Symbol.TheVariants.{Assign};
 ghost use Rattle.stm_tokens.specs.Tokens.{tokens_in};
 ghost use Rattle.stm_source.specs.Definitions.{definition_named};
 ghost use Rattle.stm_source.specs.Places as spec;
@@ -8,18 +10,19 @@ ghost use Rattle.stm_source.specs.Places as spec;
 use crate::arguments::arguments;
 use crate::definitions::{Definition, Definitions, alone, bound, look_of, no_arguments};
 use crate::programs::{Look, parts};
+use crate::rules::{rule_look, weakest_level};
 use crate::sources::{at_end, empty_definitions, empty_story, item};
 use crate::story::Story;
 use std::alloc::{AllocError, Global};
 use std::sync::Arc;
-use stm_history::Sequence;
+use stm_history::{Sequence, Text};
 use stm_leaving::{Parts, closed_parts, is_too_long};
 use stm_program::{Block, MAX_NODES};
 use stm_terms::{
-    Arguments, Given, Shared, SourceCause, SourceError, after_name, fault, next_name, place,
-    unexpected,
+    Arguments, Given, Shared, SourceCause, SourceError, after_name, after_symbol, after_word,
+    fault, next_name, place, unexpected,
 };
-use stm_tokens::{Token, tokens_of};
+use stm_tokens::{Symbol, Token, Word, tokens_of};
 
 /// How many statements a program has at most with its marks, of which one stands before each.
 const MOST_MARKED: usize = 2 * MAX_NODES;
@@ -43,6 +46,24 @@ pub struct MarkedStart {
     pub element: usize,
     /// The program.
     pub program: MarkedProgram,
+}
+
+/// A rule or a final with its program.
+#[derive(Debug, Drop)]
+pub struct MarkedRule {
+    /// Its name.
+    pub name: Text,
+    /// The program.
+    pub program: MarkedProgram,
+}
+
+/// The programs of a source that are run.
+#[derive(Debug, Drop)]
+pub struct MarkedPrograms {
+    /// Those of its starts, in their order.
+    pub starts: Sequence<MarkedStart>,
+    /// Those of its rules and finals, in their order.
+    pub rules: Sequence<MarkedRule>,
 }
 
 /// How many elements stand before the statements in the JSON of a program with this list.
@@ -151,19 +172,70 @@ fn marked_started(
     marked_body(alloc, none, look, tokens)
 }
 
+/// The same of a program that is named where a rule has none of its own.
+fn marked_called(
+    alloc: Global,
+    all: &[Token],
+    definitions: &Definitions,
+    tokens: &[Token],
+) -> Result<MarkedProgram, SourceError>
+    ensures { Returns (λ p. p) result (spec.marked_called all.now definitions.now tokens.now (next_name tokens.now)) }
+{
+    match next_name(tokens) {
+        Some((name, rest)) => { marked_named(alloc, all, definitions, name, place(tokens), rest) }
+        None => Err(unexpected(tokens)),
+    }
+}
+
+/// The same of a rule or a final, behind its name and its level.
+fn marked_asked(
+    alloc: Global,
+    all: &[Token],
+    definitions: &Definitions,
+    story: &Story,
+    is_final: bool,
+    tokens: &[Token],
+) -> Result<MarkedProgram, SourceError>
+    ensures { Returns (λ p. p) result (spec.marked_asked all.now definitions.now story.now is_final tokens.now (after_symbol Assign tokens.now)) }
+{
+    if let Some(rest) = after_symbol(tokens, Symbol::Assign) {
+        return marked_called(alloc, all, definitions, rest);
+    }
+    let at = place(tokens);
+    let look = rule_look(alloc, &definitions.constants, story, is_final, at, tokens)?;
+    let none = no_arguments(alloc)?;
+    marked_body(alloc, none, look, tokens)
+}
+
+/// The same of a rule or a final, behind its name.
+fn marked_ruled(
+    alloc: Global,
+    all: &[Token],
+    definitions: &Definitions,
+    story: &Story,
+    is_final: bool,
+    tokens: &[Token],
+) -> Result<MarkedProgram, SourceError>
+    ensures { Returns (λ p. p) result (spec.marked_ruled all.now definitions.now story.now is_final tokens.now) }
+{
+    let (_, rest) = weakest_level(tokens)?;
+    marked_asked(alloc, all, definitions, story, is_final, rest)
+}
+
 /// Adds a start, which begins behind its word: nothing, where its program cannot be read again. It fails only when out of memory.
 fn push_start(
     alloc: Global,
     all: &[Token],
     definitions: &Definitions,
     element: usize,
-    starts: &mut Sequence<MarkedStart>,
+    programs: &mut MarkedPrograms,
     tokens: &[Token],
 ) -> Result<(), AllocError>
-    ensures { OnOk result (starts.new ≡ spec.with_read starts.old element (spec.marked_started all.now definitions.now tokens.now)) }
+    ensures { OnOk result (programs.new ≡ spec.with_start programs.old element (spec.marked_started all.now definitions.now tokens.now)) }
 {
     match marked_started(alloc, all, definitions, tokens) {
         Ok(program) => {
+            let starts = &mut programs.starts;
             starts.push(MarkedStart { element, program })?;
             Ok(())
         }
@@ -172,64 +244,125 @@ fn push_start(
     }
 }
 
-/// Adds what an item starts, if it is a start.
+/// Adds a rule or a final of a name.
+fn push_named(
+    alloc: Global,
+    programs: &mut MarkedPrograms,
+    name: &str,
+    program: MarkedProgram,
+) -> Result<(), AllocError>
+    ensures { OnOk result (programs.new ≡ spec.with_rule programs.old name.now program) }
+{
+    let name = Text::copy_of(alloc, name)?;
+    programs.rules.push(MarkedRule { name, program })?;
+    Ok(())
+}
+
+/// Adds a rule or a final, which begins behind its word: nothing, where its program cannot be read again. It fails only when out of memory.
+fn push_rule(
+    alloc: Global,
+    all: &[Token],
+    definitions: &Definitions,
+    story: &Story,
+    is_final: bool,
+    programs: &mut MarkedPrograms,
+    tokens: &[Token],
+) -> Result<(), AllocError>
+    ensures { OnOk result (programs.new ≡ spec.with_ruled all.now definitions.now story.now is_final programs.old (next_name tokens.now)) }
+{
+    let Some((name, rest)) = next_name(tokens) else {
+        return Ok(());
+    };
+    match marked_ruled(alloc, all, definitions, story, is_final, rest) {
+        Ok(program) => push_named(alloc, programs, name, program),
+        Err(SourceError::Bad(_)) => Ok(()),
+        Err(SourceError::OutOfMemory) => Err(AllocError),
+    }
+}
+
+/// Adds what an item starts or asks, if it is a start, a rule or a final.
 fn push_item(
     alloc: Global,
     all: &[Token],
     definitions: &Definitions,
+    story: &Story,
     element: usize,
-    starts: &mut Sequence<MarkedStart>,
+    programs: &mut MarkedPrograms,
     tokens: &[Token],
 ) -> Result<(), AllocError>
-    ensures { OnOk result (starts.new ≡ spec.with_item all.now definitions.now element starts.old (spec.after_start tokens.now)) }
+    ensures { OnOk result (programs.new ≡ spec.with_item all.now definitions.now story.now element programs.old tokens.now) }
 {
+    if let Some(inner) = after_word(tokens, Word::Rule) {
+        return push_rule(alloc, all, definitions, story, false, programs, inner);
+    }
+    if let Some(inner) = after_word(tokens, Word::Finally) {
+        return push_rule(alloc, all, definitions, story, true, programs, inner);
+    }
     match after_name(tokens, START) {
-        Some(inner) => push_start(alloc, all, definitions, element, starts, inner),
+        Some(inner) => push_start(alloc, all, definitions, element, programs, inner),
         None => Ok(()),
     }
 }
 
-/// The starts of all items.
+/// No programs.
+fn no_programs(alloc: Global) -> MarkedPrograms
+    ensures { result ≡ spec.no_programs }
+{
+    MarkedPrograms {
+        starts: Sequence::new(alloc),
+        rules: Sequence::new(alloc),
+    }
+}
+
+/// The programs of all items.
 fn marked_items(
     alloc: Global,
     definitions: &mut Definitions,
     story: &mut Story,
     tokens: &[Token],
-) -> Result<Sequence<MarkedStart>, SourceError>
-    ensures { Returns (λ starts. starts) result (spec.starts_from tokens.now (length tokens.now) definitions.old story.old [] tokens.now) }
+) -> Result<MarkedPrograms, SourceError>
+    ensures { Returns (λ programs. programs) result (spec.programs_from tokens.now (length tokens.now) definitions.old story.old spec.no_programs tokens.now) }
 {
-    let mut starts = Sequence::new(alloc);
+    let mut programs = no_programs(alloc);
     let mut rest = tokens;
     for _turn in 0..tokens.len() {
         if at_end(rest) {
-            return Ok(starts);
+            return Ok(programs);
         }
         let element = next_element(story);
         let behind = item(alloc, tokens, definitions, story, rest)?;
-        push_item(alloc, tokens, definitions, element, &mut starts, rest)?;
+        push_item(
+            alloc,
+            tokens,
+            definitions,
+            story,
+            element,
+            &mut programs,
+            rest,
+        )?;
         rest = behind;
     }
     Err(unexpected(rest))
 }
 
-/// The starts that tokens spell.
-#[tactic(auto, unfolding(crate::specs::Places::starts_at))]
-fn starts_at(alloc: Global, tokens: &[Token]) -> Result<Sequence<MarkedStart>, SourceError>
-    ensures { Returns (λ starts. starts) result (spec.starts_at tokens.now) }
+/// The programs that tokens spell.
+#[tactic(auto, unfolding(crate::specs::Places::programs_at))]
+fn programs_at(alloc: Global, tokens: &[Token]) -> Result<MarkedPrograms, SourceError>
+    ensures { Returns (λ programs. programs) result (spec.programs_at tokens.now) }
 {
     let mut definitions = empty_definitions(alloc)?;
     let mut story = empty_story(alloc);
-    let starts = marked_items(alloc, &mut definitions, &mut story, tokens);
+    let programs = marked_items(alloc, &mut definitions, &mut story, tokens);
     drop(definitions);
     drop(story);
-    starts
+    programs
 }
 
-/// The programs of a source's starts, in their order, each with marks that say where its statements begin; or the source's first fault, as
-/// `read_whole_source` answers it of a text that is not too long. A start whose program has too many statements with their marks is left out.
-pub fn read_marked_starts(alloc: Global, source: &str) -> Result<Sequence<MarkedStart>, SourceError>
-    ensures { Returns (λ starts. starts) result (spec.starts_at (tokens_in source.now)) }
+/// The programs of a source's starts, rules and finals, each with marks that say where its statements begin; or the source's first fault, as
+/// `read_whole_source` answers it of a text that is not too long. One that has too many statements with its marks is left out.
+pub fn read_marked_programs(alloc: Global, source: &str) -> Result<MarkedPrograms, SourceError>
+    ensures { Returns (λ programs. programs) result (spec.programs_at (tokens_in source.now)) }
 {
     let tokens = tokens_of(alloc, source.as_bytes())?;
-    starts_at(alloc, tokens.as_slice())
+    programs_at(alloc, tokens.as_slice())
 }

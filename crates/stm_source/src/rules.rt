@@ -22,7 +22,7 @@ use stm_terms::{
 use stm_tokens::{Symbol, Token};
 
 /// The weakest level at which a rule is to be kept, where that is said.
-fn weakest_level(tokens: &[Token]) -> Result<(Option<Level>, &[Token]), SourceError>
+pub(crate) fn weakest_level(tokens: &[Token]) -> Result<(Option<Level>, &[Token]), SourceError>
     ensures { Returns (λ x. (x.0, x.1.now)) result (spec.weakest_level tokens.now) }
 {
     let Some(rest) = after_name(tokens, "from") else {
@@ -50,7 +50,7 @@ fn asked_runners(
 }
 
 /// How the body of a rule or a final is looked at. `at` is the place of what is wrong with it as a whole.
-fn rule_look(
+pub(crate) fn rule_look(
     alloc: Global,
     constants: &Shared<Constants>,
     story: &Story,

@@ -1,5 +1,6 @@
 //! The places of watchers: watcher 1 stands first.
 ghost use Rattle.std.specs.Prelude.{◌≡◌, ◌++◌, [], ◌∷◌, Some, None, OnOk, OnErr, IfOk, IfSome, IsSome, is_some, true, false, option_map, slice_set, slice_index_or, length};
+ghost use Rattle.std.specs.List.{list_any};
 ghost use Rattle.stm_watch.specs.Touch.{wants, touch_at};
 ghost use Rattle.stm_watch.specs.Slots.{IsFollowed, SlotPolls, PlacePolls, made_ready};
 
@@ -20,6 +21,18 @@ fn wants(slot: &Option<Watcher>, revision: u64, key: &Text) -> bool
         None => false,
         Some(watcher) => watcher.first.is_none() && watcher.wants(revision, key),
     }
+}
+
+/// Whether a watcher stands at one of these places.
+fn has_watcher(places: &[Option<Watcher>]) -> bool
+    ensures { result ≡ list_any is_some places.now }
+{
+    for slot in places {
+        if slot.is_some() {
+            return true;
+        }
+    }
+    false
 }
 
 /// Makes what stands at a place ready from a revision on.
@@ -97,6 +110,13 @@ impl Slots {
         ensures { result ≡ is_some (slice_index_or self.now index None) }
     {
         index < self.watchers.len() && self.watchers[index].is_some()
+    }
+
+    /// Whether a watcher stands at one of the places.
+    pub(crate) fn has_any(&self) -> bool
+        ensures { result ≡ list_any is_some self.now }
+    {
+        has_watcher(self.watchers.as_slice())
     }
 
     /// The watcher at a place.

@@ -1,5 +1,6 @@
 //! The places of watchers, with what finds those that a change concerns.
-ghost use Rattle.std.specs.Prelude.{◌≡◌, ◌++◌, [], ◌∷◌, None, Some, IfOk, IfSome, OnOk, OnErr, IsSome, length, map, option_map, slice_index_or, slice_set};
+ghost use Rattle.std.specs.Prelude.{◌≡◌, ◌++◌, [], ◌∷◌, None, Some, IfOk, IfSome, OnOk, OnErr, IsSome, is_some, length, map, option_map, slice_index_or, slice_set};
+ghost use Rattle.std.specs.List.{list_any};
 ghost use Rattle.stm_keys.specs.Events.{change_of_event};
 ghost use Rattle.stm_watch.specs.Calls.{IsNextReady};
 ghost use Rattle.stm_watch.specs.Slots.{IsFollowed, PlacePolls, IsPlaceOf};
@@ -64,6 +65,13 @@ impl Table {
         ensures { result ≡ length self.now }
     {
         self.slots.len()
+    }
+
+    /// Whether a watcher stands at one of the places.
+    pub(crate) fn has_any(&self) -> bool
+        ensures { result ≡ list_any is_some self.now }
+    {
+        self.slots.has_any()
     }
 
     /// The place of the watcher with a number, where there is one.

@@ -218,12 +218,7 @@ impl Watchers {
     pub fn has_any(&self) -> bool
         ensures { result ≡ list_any is_some self.now.places }
     {
-        for number in 0..self.table.len() as u64 {
-            if self.table.find(number + 1).is_some() {
-                return true;
-            }
-        }
-        false
+        self.table.has_any()
     }
 
     /// Whether the watcher at a place is lost.

@@ -2,6 +2,7 @@
 ghost use Rattle.std.specs.Prelude.{◌≡◌, false};
 
 use crate::files::{Opened, open};
+use crate::naming::RUNNERS;
 use crate::noting::Noting;
 use crate::sources::{Given, JsonFile, say_of_runs};
 use crate::terminals::{Told, close, shown_budget};
@@ -32,7 +33,7 @@ pub(crate) fn name_of(path: &str) -> &str {
 }
 
 /// The file of a path, or standard input, to be read and kept.
-fn kept<'a, R: Files + Input + AllocGlobal>(
+pub(crate) fn kept<'a, R: Files + Input + AllocGlobal>(
     rt: &R,
     path: &'a str,
 ) -> KeptSource<'a, Std<Noting<Opened<R::File, R::Reader, &'static [u8]>>>>
@@ -100,7 +101,7 @@ pub(crate) fn run_script(
     let mut err = Std::new(said);
     let status = script_on(rt, &given.scenario, format, labels, &mut err);
     let said = str::from_utf8(err.device.as_slice()).unwrap_or("");
-    say_of_runs(rt, given, said);
+    say_of_runs(rt, given, RUNNERS, said);
     status
 }
 

@@ -2,11 +2,15 @@
 ghost use Rattle.std.specs.Prelude.{◌≡◌, false};
 
 use crate::explaining;
+use crate::explaining::name_of;
+use crate::files::is_missing;
 use crate::found::{Form, only_level, print_found, run_rules_in, runners_of};
 use crate::noting::Noting;
 use crate::rules::{is_json, named_in, rules_named, rules_of, unnamed_rule};
 use crate::ruling::Question;
-use crate::sources::{Given, JsonFile, SourceText, say_unasked, source_at, source_text};
+use crate::sources::{
+    Given, JsonFile, NamedSource, SourceText, say_unasked, source_at, source_text,
+};
 use crate::terminals::{Told, close, shown_budget};
 use crate::waits::{read_waits, refuse_beside, refuse_without_rule};
 use std::io::Write;
@@ -203,6 +207,25 @@ fn say_others(rt: &HostRuntime, search: &Search<'_, '_>, rules: &[SourceRule]) -
     Ok(())
 }
 
+/// Refuses words that are names of the scenario's own rules, and of no files.
+fn refuse_titles(
+    rt: &HostRuntime,
+    search: &Search<'_, '_>,
+    rules: &[SourceRule],
+) -> Result<(), u8> {
+    for rule in rules {
+        let name = rule.name.as_str();
+        if search.keeps.iter().any(|word| *word == name) && is_missing(rt, name) {
+            let path = name_of(search.path);
+            let _ = eprintln!(rt;
+                "error: invalid value '{name}' for '--keeps <PROGRAM>': no file has this name; a rule of {path} has it: --keeps {path}:{name}"
+            );
+            return Err(2);
+        }
+    }
+    Ok(())
+}
+
 /// Refuses runners that wait where no rule is asked, after it was said which do not.
 fn refuse_waiting(
     rt: &HostRuntime,
@@ -227,7 +250,8 @@ fn search_named(
     scenario: &JsonFile<'_>,
     beside: &Beside,
 ) -> Result<u8, u8> {
-    let waits = read_waits(rt, search.after, beside)?;
+    let waits = read_waits(rt, search.after, beside, search.told.runners)?;
+    refuse_titles(rt, search, beside.rules.as_slice())?;
     say_others(rt, search, beside.rules.as_slice())?;
     match search.keeps {
         [word] if is_json(word) => search_rule(rt, search, scenario, word, waits.as_slice()),
@@ -260,7 +284,7 @@ fn search_own(
     if search.witness || search.serial || beside.rules.as_slice().is_empty() {
         return search_without(rt, search, scenario, &beside);
     }
-    let waits = read_waits(rt, search.after, &beside)?;
+    let waits = read_waits(rt, search.after, &beside, search.told.runners)?;
     let Beside { rules, .. } = beside;
     let rules = rules_of(rt, rules)?;
     Ok(ask(rt, search, scenario, rules.as_slice(), waits.as_slice()))
@@ -298,11 +322,27 @@ fn form_of<'a>(format: Option<&str>, source: Option<&'a SourceText>) -> Form<'a>
     }
 }
 
+/// The source of the scenario, where it has one, under its name.
+fn source_of<'a>(
+    words: &ExploreWords<'a>,
+    source: Option<&'a SourceText>,
+) -> Option<NamedSource<'a>> {
+    match source {
+        Some(source) => Some(NamedSource {
+            name: name_of(words.scenario),
+            text: source.text.as_str(),
+            has_rules: words.keeps.as_slice().is_empty(),
+        }),
+        None => None,
+    }
+}
+
 /// How many events may be taken, and how runners are named.
-fn told_of<'a>(words: &ExploreWords<'_>, source: Option<&'a SourceText>) -> Told<'a> {
+fn told_of<'a>(words: &ExploreWords<'a>, source: Option<&'a SourceText>) -> Told<'a> {
     Told {
         events: words.budget,
         runners: runners_of(source),
+        source: source_of(words, source),
         strict: words.strict,
     }
 }

@@ -43,6 +43,11 @@ pub(crate) fn open<R: Files + Input>(
     open_beside(rt, path)
 }
 
+/// Whether no file has this path.
+pub(crate) fn is_missing(rt: &HostRuntime, path: &str) -> bool {
+    matches!(fs::exists(rt, path), Ok(false))
+}
+
 impl<F: Read, I: Read, C: Read> Read for Opened<F, I, C> {
     fn read(&mut self, buffer: &mut [u8]) -> io::Result<usize>
         ensures bound { ReadsAtMost result buffer.new }

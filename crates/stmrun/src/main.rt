@@ -28,7 +28,7 @@ use explaining::{name_of, say_unread, say_unwritten};
 use exploring::run_search;
 use files::open;
 use noting::Noting;
-use sources::{Given, JsonFile, given_at, labels_of, run_compile, scenario_at};
+use sources::{Given, JsonFile, given_at, is_source, labels_of, run_compile, scenario_at};
 use std::alloc::{AllocError, Global};
 use std::process::ExitCode;
 use std::sync::Wait;
@@ -151,6 +151,15 @@ fn run_recipe(rt: &HostRuntime, words: &RecipeWords<'_>) -> u8 {
     recipe_to(rt.alloc(), words, &mut out, &mut err)
 }
 
+/// Says that what is to be shown as a source is one already, and gives the status.
+fn refuse_source(rt: &HostRuntime, path: &str) -> u8 {
+    let path = name_of(path);
+    let _ = eprintln!(rt;
+        "stmrun: {path} is a source already, and stmrun show prints the source of JSON: stmrun compile {path} prints its JSON"
+    );
+    2
+}
+
 /// Prints the source of a scenario or of a program. On a terminal it is said why a file failed, unless nothing is to be explained.
 fn run_show(rt: &HostRuntime, words: &ShowWords<'_>, is_silent: bool) -> u8 {
     let shown = if words.program {
@@ -159,6 +168,9 @@ fn run_show(rt: &HostRuntime, words: &ShowWords<'_>, is_silent: bool) -> u8 {
         Shown::Scenario
     };
     let path = path_of(words.input);
+    if is_source(path) {
+        return refuse_source(rt, path);
+    }
     let mut input = Std::new(Noting::new(open(rt, path)));
     let mut out = Std::new(Noting::new(rt.stdout()));
     let mut err = Std::new(rt.stderr());

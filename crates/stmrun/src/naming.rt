@@ -3,8 +3,26 @@
 use std::alloc::{AllocError, Global};
 use stm_compiling::{NamedRunner, name_of_runner};
 
-/// What stands before the number of a runner.
-const RUNNER: &str = "runner ";
+/// How lines call runners.
+#[derive(Clone, Copy)]
+pub(crate) struct Called {
+    /// What stands before the number of one.
+    word: &'static str,
+    /// The number of the first one.
+    first: u64,
+}
+
+/// Runners of a world.
+pub(crate) const RUNNERS: Called = Called {
+    word: "runner ",
+    first: 1,
+};
+
+/// Runners as jobs of threads.
+pub(crate) const JOBS: Called = Called {
+    word: "job ",
+    first: 0,
+};
 
 /// Whether a character is no digit.
 fn is_no_digit(character: char) -> bool {
@@ -19,10 +37,10 @@ fn digits_of(text: &str) -> (&str, &str) {
     }
 }
 
-/// The name of the runner whose number the digits are.
-fn name_in<'a>(runners: &'a [NamedRunner], digits: &str) -> Option<&'a str> {
+/// The name of the runner whose number the digits are, where the first one has this number.
+fn name_in<'a>(runners: &'a [NamedRunner], first: u64, digits: &str) -> Option<&'a str> {
     match digits.parse::<u64>() {
-        Ok(number) => name_of_runner(runners, number),
+        Ok(number) => name_of_runner(runners, number.saturating_sub(first).saturating_add(1)),
         Err(_) => None,
     }
 }
@@ -31,17 +49,19 @@ fn name_in<'a>(runners: &'a [NamedRunner], digits: &str) -> Option<&'a str> {
 fn push_runner(
     alloc: Global,
     out: &mut String,
+    called: Called,
     runners: &[NamedRunner],
     behind: &str,
 ) -> Result<(), AllocError> {
+    let word = called.word;
     let (digits, rest) = digits_of(behind);
-    match name_in(runners, digits) {
+    match name_in(runners, called.first, digits) {
         Some(name) => {
-            let named = format!(in alloc; "{name} (runner {digits}){rest}")?;
+            let named = format!(in alloc; "{name} ({word}{digits}){rest}")?;
             out.push_str(named.as_str())
         }
         None => {
-            out.push_str(RUNNER)?;
+            out.push_str(word)?;
             out.push_str(behind)
         }
     }
@@ -51,19 +71,20 @@ fn push_runner(
 /// the number of a runner.
 pub(crate) fn with_names(
     alloc: Global,
+    called: Called,
     runners: &[NamedRunner],
     line: &str,
 ) -> Result<String, AllocError> {
     let mut named = String::new(alloc);
     let mut are_others = false;
-    for (index, part) in line.split(RUNNER).enumerate() {
+    for (index, part) in line.split(called.word).enumerate() {
         if index == 0 {
             named.push_str(part)?;
         } else if are_others {
-            named.push_str(RUNNER)?;
+            named.push_str(called.word)?;
             named.push_str(part)?;
         } else {
-            push_runner(alloc, &mut named, runners, part)?;
+            push_runner(alloc, &mut named, called, runners, part)?;
         }
         are_others = are_others || part.contains('"');
     }

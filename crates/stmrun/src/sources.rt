@@ -1,17 +1,17 @@
 //! Inputs that are read as JSON: files of it, and sources, which are compiled first.
 ghost use Rattle.std.specs.Prelude.{◌≡◌, false};
 
-use crate::explaining::{name_of, say_unread, say_unwritten};
+use crate::explaining::{kept, name_of, say_unread, say_unwritten};
 use crate::files::{Opened, open, open_beside};
-use crate::naming::with_names;
+use crate::naming::{Called, RUNNERS, with_names};
 use crate::noting::Noting;
 use std::alloc::{AllocError, Global};
 use std::io::Input;
 use std::rt::Files;
 use stm_commands::{RunnerLabel, Std};
 use stm_compiling::{
-    Beside, CalledRunner, Compiled, NamedRunner, Part, Rule, SourcePlaces, Wait, called_runners,
-    compile_to, compiled, compiled_part, named_runners, notes_of,
+    Beside, CalledRunner, Compiled, NamedRunner, Part, PlacedLine, Rule, SourcePlaces, Wait,
+    called_runners, compile_to, compiled, compiled_part, named_runners, notes_of,
 };
 use stm_devices::{ReadFault, read_all};
 use stm_history::{Sequence, Text};
@@ -186,6 +186,17 @@ pub(crate) fn source_at<'a>(
     }
 }
 
+/// A source under its name.
+#[derive(Clone, Copy)]
+pub(crate) struct NamedSource<'a> {
+    /// Its name.
+    pub(crate) name: &'a str,
+    /// Its text.
+    pub(crate) text: &'a str,
+    /// Whether the rules that are asked are its own.
+    pub(crate) has_rules: bool,
+}
+
 /// A source as people read it.
 #[derive(Drop)]
 pub(crate) struct SourceText {
@@ -254,29 +265,44 @@ pub(crate) fn rules_at(rt: &HostRuntime, path: &str, explain: bool) -> Result<Se
     Ok(rules)
 }
 
-/// Says lines about a source, with the names that it gives to runners.
-pub(crate) fn say_named(rt: &HostRuntime, lines: &str, runners: &[NamedRunner]) {
+/// Says lines about a source, with the names that it gives to runners, which are called so.
+fn say_named(rt: &HostRuntime, lines: &str, called: Called, runners: &[NamedRunner]) {
     for line in lines.lines() {
-        if let Ok(line) = with_names(rt.alloc(), runners, line) {
+        if let Ok(line) = with_names(rt.alloc(), called, runners, line) {
             let _ = rt.eprintln(line.as_str());
         }
     }
 }
 
+/// Says a line with its place in a source, and the line of the source.
+pub(crate) fn say_line(
+    rt: &HostRuntime,
+    placed: &PlacedLine<'_>,
+    called: Called,
+    runners: &[NamedRunner],
+) {
+    say_named(rt, placed.words.as_str(), called, runners);
+    let source = placed.source;
+    let _ = eprintln!(rt; "    {source}");
+}
+
 /// Says a line that explains a run, with its place in the source, if it has one there, and the line of the source.
-fn say_placed(rt: &HostRuntime, line: &str, places: &SourcePlaces<'_>, runners: &[NamedRunner]) {
+fn say_placed(
+    rt: &HostRuntime,
+    line: &str,
+    places: &SourcePlaces<'_>,
+    called: Called,
+    runners: &[NamedRunner],
+) {
     match places.placed(rt.alloc(), line) {
-        Ok(Some(placed)) => {
-            say_named(rt, placed.words.as_str(), runners);
-            let source = placed.source;
-            let _ = eprintln!(rt; "    {source}");
-        }
-        _ => say_named(rt, line, runners),
+        Ok(Some(placed)) => say_line(rt, &placed, called, runners),
+        _ => say_named(rt, line, called, runners),
     }
 }
 
-/// Says lines that explain the runs of a scenario: with the places of its source, where it has one, and with the names that this gives to runners.
-pub(crate) fn say_of_runs(rt: &HostRuntime, given: &Given<'_>, lines: &str) {
+/// Says lines that explain the runs of a scenario, of runners that are called so: with the places of its source, where it has one, and with the names that
+/// this gives to runners.
+pub(crate) fn say_of_runs(rt: &HostRuntime, given: &Given<'_>, called: Called, lines: &str) {
     let runners = runners_of(rt, given);
     let name = given.scenario.name();
     let name = name.strip_suffix(COMPILED).unwrap_or(name);
@@ -287,10 +313,10 @@ pub(crate) fn say_of_runs(rt: &HostRuntime, given: &Given<'_>, lines: &str) {
     match SourcePlaces::of(rt.alloc(), name, text) {
         Ok(places) => {
             for line in lines.lines() {
-                say_placed(rt, line, &places, runners.as_slice());
+                say_placed(rt, line, &places, called, runners.as_slice());
             }
         }
-        Err(_) => say_named(rt, lines, runners.as_slice()),
+        Err(_) => say_named(rt, lines, called, runners.as_slice()),
     }
 }
 
@@ -303,7 +329,7 @@ pub(crate) fn say_unasked(
 ) -> Result<(), u8> {
     match notes_of(rt.alloc(), rules, waits) {
         Ok(notes) => {
-            say_named(rt, notes.as_str(), runners);
+            say_named(rt, notes.as_str(), RUNNERS, runners);
             Ok(())
         }
         Err(_) => Err(out_of_memory(rt)),
@@ -373,11 +399,37 @@ pub(crate) fn program_at<'a>(
     line_of(rt, path, printed?.line)
 }
 
+/// The runners that a source of this text names.
+fn runners_in(alloc: Global, text: &str) -> Result<Vec<NamedRunner>, AllocError> {
+    let called = called_runners(alloc, text)?;
+    let mut runners = Vec::new(alloc);
+    for (index, runner) in called.into_iter().enumerate() {
+        if let Some(name) = runner.name {
+            let number = (index as u64).saturating_add(1);
+            runners.push(NamedRunner { number, name })?;
+        }
+    }
+    Ok(runners)
+}
+
+/// Says what was said of a source that was compiled, with the names that its text gives to runners, where it was kept.
+fn say_compiled(rt: &HostRuntime, said: &[u8], text: Option<&str>) {
+    let runners = runners_in(rt.alloc(), text.unwrap_or(""));
+    let lines = str::from_utf8(said).unwrap_or("");
+    match runners {
+        Ok(runners) => say_named(rt, lines, RUNNERS, runners.as_slice()),
+        Err(_) => {
+            let _ = rt.eprint(lines);
+        }
+    }
+}
+
 /// Prints a part of a path's source. A fault is explained, or is not.
 pub(crate) fn run_compile(rt: &HostRuntime, path: &str, part: Part<'_>, explain: bool) -> u8 {
-    let mut input = Std::new(Noting::new(open(rt, path)));
+    let mut input = kept(rt, path);
     let mut out = Std::new(Noting::new(rt.stdout()));
-    let mut err = Std::new(rt.stderr());
+    let said: Vec<u8> = Vec::new(rt.alloc());
+    let mut err = Std::new(said);
     let status = compile_to(
         rt.alloc(),
         part,
@@ -386,8 +438,12 @@ pub(crate) fn run_compile(rt: &HostRuntime, path: &str, part: Part<'_>, explain:
         &mut out,
         &mut err,
     );
+    if err.failed && status == 3 {
+        return out_of_memory(rt);
+    }
+    say_compiled(rt, err.device.as_slice(), input.text());
     if explain {
-        say_unread(rt, name_of(path), input.device.failure);
+        say_unread(rt, name_of(path), input.source.device.failure);
         say_unwritten(rt, out.device.failure);
     }
     status

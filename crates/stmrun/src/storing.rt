@@ -7,8 +7,12 @@ ghost use Rattle.stm_texts.specs.Reading.{scenario_in};
 ghost use Rattle.stm_workers.specs.declared.run.TheConstants.{MOST_WORKERS};
 
 use crate::explaining::{kept_json, name_of, say_unread, say_unwritten};
+use crate::files::is_missing;
+use crate::naming::JOBS;
 use crate::noting::Noting;
-use crate::sources::{JsonFile, is_source, out_of_memory, program_at, scenario_at};
+use crate::sources::{
+    Given, JsonFile, given_at, is_source, out_of_memory, program_at, say_of_runs, scenario_at,
+};
 use std::fs;
 use std::sync::Wait;
 use std::thread::Threads;
@@ -18,9 +22,9 @@ use stm_devices::Source;
 use stm_explain::Input;
 use stm_file_disk::{FileDisk, open};
 use stm_storing::{
-    HIGHEST_REVISION, InputFault, JobsAsked, Manner, Program, RecordFile, Scenario, StoreFault,
-    Text, Watched, check_kept, compact_kept, read_input, read_jobs, read_program, run_anew,
-    run_kept, script_kept, show_at, show_kept, show_since, threads_kept,
+    HIGHEST_REVISION, InputFault, JobEnd, JobsAsked, Manner, Program, RecordFile, Scenario,
+    StoreFault, Text, Watched, check_kept, compact_kept, read_input, read_jobs, read_program,
+    run_anew, run_kept, script_kept, show_at, show_kept, show_since, threads_kept,
 };
 use stm_threading::report_ends;
 
@@ -182,6 +186,21 @@ fn jobs_of<S: Source>(
     }
 }
 
+/// Explains the jobs that came to a fault, or does not.
+fn say_ends<S>(
+    rt: &HostRuntime,
+    given: &Given<'_>,
+    input: &KeptSource<'_, S>,
+    ends: &[JobEnd],
+    explain: bool,
+) {
+    let said: Vec<u8> = Vec::new(rt.alloc());
+    let mut err = Std::new(said);
+    report_ends(rt.alloc(), explain, input, ends, &mut err);
+    let said = str::from_utf8(err.device.as_slice()).unwrap_or("");
+    say_of_runs(rt, given, JOBS, said);
+}
+
 /// Runs the jobs of the scenario of a path, or of that on standard input, over the store of a file, by several threads.
 fn run_jobs<T: Threads + Wait + Sync>(
     rt: &HostRuntime,
@@ -198,8 +217,8 @@ fn run_jobs<T: Threads + Wait + Sync>(
         );
         return Err(2);
     }
-    let file = scenario_at(rt, words.scenario.unwrap_or("-"), explain)?;
-    let mut input = kept_json(rt, &file);
+    let given = given_at(rt, words.scenario.unwrap_or("-"), explain)?;
+    let mut input = kept_json(rt, &given.scenario);
     let read = jobs_of(rt, &mut input, explain);
     say_unread(rt, input.name, input.source.device.failure.take());
     let asked = read?;
@@ -217,17 +236,11 @@ fn run_jobs<T: Threads + Wait + Sync>(
     say_unwritten(rt, out.device.failure);
     match ran {
         Ok(ends) => {
-            let mut err = Std::new(rt.stderr());
-            report_ends(rt.alloc(), explain, &input, ends.as_slice(), &mut err);
+            say_ends(rt, &given, &input, ends.as_slice(), explain);
             Ok(())
         }
         Err(fault) => Err(say_fault(rt, store, &fault)),
     }
-}
-
-/// Whether no file has this path.
-fn is_missing(rt: &HostRuntime, path: &str) -> bool {
-    matches!(fs::exists(rt, path), Ok(false))
 }
 
 /// Runs a program over the store of a file that is not there, which is not made: whether it would commit. Where it would not, its line was printed.

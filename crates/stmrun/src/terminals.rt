@@ -1,10 +1,12 @@
 //! What is shown on a terminal, and said on standard error, of a search.
 ghost use Rattle.std.specs.Prelude.{◌≡◌};
 
-use crate::naming::with_names;
+use crate::naming::{RUNNERS, with_names};
+use crate::sources::{NamedSource, say_line};
+use std::alloc::{AllocError, Global};
 use std::io::{IsTerminal, Stderr};
 use std::time::Clock;
-use stm_compiling::NamedRunner;
+use stm_compiling::{NamedRunner, PlacedLine, event_lines, placed_rule, placed_runner};
 use stm_exploring::{Audience, Budget, Observer, ProgressLine, ProgressNotes};
 
 /// Standard error, if it is a terminal.
@@ -50,11 +52,13 @@ impl<C: Clock> Observer for Progress<'_, C> {
     }
 }
 
-/// How many events a search may take, the runners that its scenario names, and whether an answer that is worth little has status 1.
+/// How many events a search may take, what its source names, and whether an answer that is worth little has status 1.
 #[derive(Clone, Copy)]
 pub(crate) struct Told<'a> {
     pub(crate) events: u64,
     pub(crate) runners: &'a [NamedRunner],
+    /// The source of the scenario, where it has one.
+    pub(crate) source: Option<NamedSource<'a>>,
     pub(crate) strict: bool,
 }
 
@@ -67,6 +71,8 @@ pub(crate) struct SearchLines<'a> {
     explain: bool,
     /// The runners that the scenario names.
     runners: &'a [NamedRunner],
+    /// The source of the scenario, where it has one.
+    source: Option<NamedSource<'a>>,
     /// Whether an answer that is worth little has status 1.
     is_strict: bool,
     /// Whether something was said that makes the answer worth little.
@@ -76,10 +82,52 @@ pub(crate) struct SearchLines<'a> {
 impl SearchLines<'_> {
     /// Says a line on standard error.
     fn say(&self, line: &str) {
-        if let Ok(line) = with_names(self.rt.alloc(), self.runners, line) {
+        if let Ok(line) = with_names(self.rt.alloc(), RUNNERS, self.runners, line) {
             let _ = eprintln!(self.rt; "stmrun: {line}");
         }
     }
+
+    /// Says a line about a program that comes to a fault with its place in the source, where it has one there: whether that was done.
+    fn say_placed(&self, line: &str) -> bool {
+        let Some(source) = self.source else {
+            return false;
+        };
+        match placed_in(self.rt.alloc(), source, line) {
+            Ok(Some(placed)) => {
+                say_line(self.rt, &placed, RUNNERS, self.runners);
+                true
+            }
+            _ => false,
+        }
+    }
+
+    /// Says which lines of the source have the events of the set-up, and which the others': whether that was done.
+    fn say_event_lines(&self) -> bool {
+        let Some(source) = self.source else {
+            return false;
+        };
+        match event_lines(self.rt.alloc(), source.name, source.text) {
+            Ok(line) => {
+                let _ = eprintln!(self.rt; "stmrun: {line}");
+                true
+            }
+            Err(_) => false,
+        }
+    }
+}
+
+/// A line about a program that comes to a fault, with its place in a source: that of a runner, or of a rule, if the rules are the source's own.
+fn placed_in<'a>(
+    alloc: Global,
+    source: NamedSource<'a>,
+    line: &str,
+) -> Result<Option<PlacedLine<'a>>, AllocError> {
+    if source.has_rules {
+        if let Some(placed) = placed_rule(alloc, source.name, source.text, line)? {
+            return Ok(Some(placed));
+        }
+    }
+    placed_runner(alloc, source.name, source.text, line)
 }
 
 impl Observer for SearchLines<'_> {
@@ -103,6 +151,18 @@ impl Audience for SearchLines<'_> {
 
     fn hear(&mut self, line: &str) {
         self.say(line);
+    }
+
+    fn hear_fault(&mut self, line: &str) {
+        if !self.say_placed(line) {
+            self.say(line);
+        }
+    }
+
+    fn hear_parts(&mut self, line: &str) {
+        if !self.say_event_lines() {
+            self.say(line);
+        }
     }
 
     fn doubt(&mut self, line: &str) {
@@ -131,6 +191,7 @@ pub(crate) fn shown_budget<'a>(
     let Told {
         events,
         runners,
+        source,
         strict,
     } = told;
     Budget {
@@ -140,6 +201,7 @@ pub(crate) fn shown_budget<'a>(
             progress: progress_of(rt, events),
             explain,
             runners,
+            source,
             is_strict: strict,
             is_doubtful: false,
         },

@@ -4,8 +4,10 @@ ghost use Rattle.stm_threading.specs.declared.shown.Printing.TheVariants.{Values
 ghost use Rattle.stm_workers.specs.declared.run.TheConstants.{MOST_WORKERS};
 
 use crate::explaining::{kept_json, say_unread, say_unwritten};
+use crate::naming::JOBS;
 use crate::noting::Noting;
-use crate::sources::scenario_at;
+use crate::sources::{JsonFile, given_at, say_of_runs};
+use std::io::Write;
 use std::sync::Wait;
 use std::thread::Threads;
 use stm_commands::Std;
@@ -24,7 +26,29 @@ pub(crate) fn printing_of(ends: bool, repeat: Option<u32>) -> Printing
     }
 }
 
-/// Runs the jobs of a path's scenario by this many threads. A fault is explained, or is not.
+/// Runs the jobs of a scenario by threads, and says on `err` what is wrong.
+fn threads_on<T: Threads + Wait + Sync, E: Write + Drop>(
+    rt: &HostRuntime,
+    threads: &T,
+    scenario: &JsonFile<'_>,
+    options: ThreadsOptions,
+    err: &mut Std<E>,
+) -> u8
+    requires workers { (1 ≤ options.workers) × (options.workers ≤ MOST_WORKERS) }
+    requires err_works { err.old.failed ≡ false }
+{
+    let explain = options.explain;
+    let mut input = kept_json(rt, scenario);
+    let mut out = Std::new(Noting::new(rt.stdout()));
+    let status = threads_as_to(threads, rt.alloc(), options, &mut input, &mut out, err);
+    if explain {
+        say_unread(rt, input.name, input.source.device.failure);
+        say_unwritten(rt, out.device.failure);
+    }
+    status
+}
+
+/// Runs the jobs of a path's scenario by this many threads. A fault is explained, or is not: with its place in the source, where the scenario has one.
 pub(crate) fn run_threads<T: Threads + Wait + Sync>(
     rt: &HostRuntime,
     threads: &T,
@@ -35,8 +59,8 @@ pub(crate) fn run_threads<T: Threads + Wait + Sync>(
 ) -> u8
     requires { (1 ≤ workers) × (workers ≤ MOST_WORKERS) }
 {
-    let scenario = match scenario_at(rt, path, explain) {
-        Ok(scenario) => scenario,
+    let given = match given_at(rt, path, explain) {
+        Ok(given) => given,
         Err(status) => return status,
     };
     let options = ThreadsOptions {
@@ -44,13 +68,14 @@ pub(crate) fn run_threads<T: Threads + Wait + Sync>(
         printing,
         explain,
     };
-    let mut input = kept_json(rt, &scenario);
-    let mut out = Std::new(Noting::new(rt.stdout()));
-    let mut err = Std::new(rt.stderr());
-    let status = threads_as_to(threads, rt.alloc(), options, &mut input, &mut out, &mut err);
-    if explain {
-        say_unread(rt, input.name, input.source.device.failure);
-        say_unwritten(rt, out.device.failure);
+    if given.text.is_none() {
+        let mut err = Std::new(rt.stderr());
+        return threads_on(rt, threads, &given.scenario, options, &mut err);
     }
+    let said: Vec<u8> = Vec::new(rt.alloc());
+    let mut err = Std::new(said);
+    let status = threads_on(rt, threads, &given.scenario, options, &mut err);
+    let said = str::from_utf8(err.device.as_slice()).unwrap_or("");
+    say_of_runs(rt, &given, JOBS, said);
     status
 }

@@ -3,7 +3,7 @@
 use crate::explaining::has_hidden;
 use crate::sources::out_of_memory;
 use std::alloc::{AllocError, Global};
-use stm_compiling::{Beside, Wait as SourceWait};
+use stm_compiling::{Beside, NamedRunner, Wait as SourceWait, runners_named};
 use stm_exploring::{BadWaits, Wait, waits_in};
 
 /// What stands after a fault of an option.
@@ -29,12 +29,68 @@ fn refuse(rt: &HostRuntime, text: &str, bad: &BadWaits<'_>) -> u8 {
     2
 }
 
-/// The waits that a text spells, or the status where it spells none.
-fn waits_of(rt: &HostRuntime, text: &str) -> Result<Vec<Wait>, u8> {
+/// The waits that a text spells, which was typed so; or the status where it spells none.
+fn waits_of(rt: &HostRuntime, text: &str, typed: &str) -> Result<Vec<Wait>, u8> {
     match waits_in(rt.alloc(), text) {
         Ok(Ok(waits)) => Ok(waits),
-        Ok(Err(bad)) => Err(refuse(rt, text, &bad)),
+        Ok(Err(bad)) => Err(refuse(rt, typed, &bad)),
         Err(_) => Err(out_of_memory(rt)),
+    }
+}
+
+/// Whether a word may be the number of a runner, as it begins.
+fn is_numeric(word: &str) -> bool {
+    match word.chars().next() {
+        Some(first) => first.is_ascii_digit(),
+        None => false,
+    }
+}
+
+/// The word of a wait that stands where a runner does, and is none's name or number.
+fn stranger_in<'a>(beside: &Beside, part: &'a str) -> Option<&'a str> {
+    for (index, word) in part.split(':').enumerate() {
+        if index < 2 && !word.is_empty() && !is_numeric(word) && number_of(beside, word).is_none() {
+            return Some(word);
+        }
+    }
+    None
+}
+
+/// The first such word of a text of waits.
+fn first_stranger<'a>(beside: &Beside, text: &'a str) -> Option<&'a str> {
+    for part in text.split(',') {
+        if let Some(word) = stranger_in(beside, part) {
+            return Some(word);
+        }
+    }
+    None
+}
+
+/// Says that no runner of a source has the name of a word, and which names they have, and gives the status.
+fn refuse_name(rt: &HostRuntime, text: &str, word: &str, runners: &[NamedRunner]) -> u8 {
+    let Ok(names) = runners_named(rt.alloc(), runners, word) else {
+        return out_of_memory(rt);
+    };
+    let _ = eprintln!(rt;
+        "error: invalid value '{text}' for '--after <RUNNER:FIRST,..>': no runner has the name '{word}': {names}"
+    );
+    let _ = rt.eprintln(USAGE);
+    2
+}
+
+/// Refuses words in the place of runners that are no names, where a source has names.
+fn refuse_strangers(
+    rt: &HostRuntime,
+    text: &str,
+    beside: &Beside,
+    runners: &[NamedRunner],
+) -> Result<(), u8> {
+    if runners.is_empty() || has_hidden(text) {
+        return Ok(());
+    }
+    match first_stranger(beside, text) {
+        Some(word) => Err(refuse_name(rt, text, word, runners)),
+        None => Ok(()),
     }
 }
 
@@ -94,23 +150,30 @@ fn push_waits(waits: &mut Vec<Wait>, more: &[SourceWait]) -> Result<(), AllocErr
 }
 
 /// The waits that are spelled, where some are, by numbers of runners or by their names in a source.
-fn spelled_waits(rt: &HostRuntime, after: Option<&str>, beside: &Beside) -> Result<Vec<Wait>, u8> {
+fn spelled_waits(
+    rt: &HostRuntime,
+    after: Option<&str>,
+    beside: &Beside,
+    runners: &[NamedRunner],
+) -> Result<Vec<Wait>, u8> {
     let Some(text) = after else {
         return Ok(Vec::new(rt.alloc()));
     };
+    refuse_strangers(rt, text, beside, runners)?;
     match numbered(rt.alloc(), beside, text) {
-        Ok(text) => waits_of(rt, text.as_str()),
+        Ok(with_numbers) => waits_of(rt, with_numbers.as_str(), text),
         Err(_) => Err(out_of_memory(rt)),
     }
 }
 
-/// The waits that are spelled, and those of a source; or the status where they are spelled wrongly.
+/// The waits that are spelled, and those of a source, which names these runners; or the status where they are spelled wrongly.
 pub(crate) fn read_waits(
     rt: &HostRuntime,
     after: Option<&str>,
     beside: &Beside,
+    runners: &[NamedRunner],
 ) -> Result<Vec<Wait>, u8> {
-    let mut waits = spelled_waits(rt, after, beside)?;
+    let mut waits = spelled_waits(rt, after, beside, runners)?;
     match push_waits(&mut waits, beside.waits.as_slice()) {
         Ok(()) => Ok(waits),
         Err(_) => Err(out_of_memory(rt)),

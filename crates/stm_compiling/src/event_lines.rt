@@ -1,0 +1,109 @@
+//! The lines of a source in which the events stand that a search takes as set-up, and those of the others' events.
+
+use crate::fault::position_in;
+use crate::kept::{Begun, Item, items_of};
+use std::alloc::{AllocError, Global};
+use stm_tokens::{Token, tokens_of};
+
+/// From one token of a source to another: the bytes at which they begin.
+#[derive(Clone, Copy)]
+struct Span {
+    from: usize,
+    to: usize,
+}
+
+/// Where the events of a source stand.
+#[derive(Clone, Copy)]
+struct Spans {
+    /// Those of the set-up, if there are any.
+    setup: Option<Span>,
+    /// Those of the others, if there are any.
+    others: Option<Span>,
+}
+
+/// A span with an item behind it, whose last token begins at a byte.
+fn with_item(span: Option<Span>, begun: Begun, to: usize) -> Option<Span> {
+    let from = match span {
+        Some(span) => span.from,
+        None => begun.at,
+    };
+    Some(Span { from, to })
+}
+
+/// The place of the last start's first token, if there is a start.
+fn last_start(items: &[Begun]) -> Option<usize> {
+    let mut last = None;
+    for begun in items {
+        if begun.item == Item::Start {
+            last = Some(begun.place);
+        }
+    }
+    last
+}
+
+/// Whether an event of this place stands behind the last start, or there is no start.
+fn is_behind(start: Option<usize>, place: usize) -> bool {
+    match start {
+        Some(start) => place > start,
+        None => true,
+    }
+}
+
+/// The byte at which the last token of the item with an index begins.
+fn last_byte(tokens: &[Token], items: &[Begun], index: usize) -> usize {
+    let behind = match items.get(index.saturating_add(1)) {
+        Some(next) => next.place,
+        None => tokens.len().saturating_sub(1),
+    };
+    match tokens.get(behind.saturating_sub(1)) {
+        Some(token) => token.at,
+        None => 0,
+    }
+}
+
+/// Where the events of these items stand.
+fn spans_of(tokens: &[Token], items: &[Begun]) -> Spans {
+    let start = last_start(items);
+    let mut setup = None;
+    let mut others = None;
+    for (index, begun) in items.iter().enumerate() {
+        let to = last_byte(tokens, items, index);
+        match begun.item {
+            Item::Part | Item::Step => {}
+            Item::Event if is_behind(start, begun.place) => others = with_item(others, *begun, to),
+            Item::Event | Item::Start => setup = with_item(setup, *begun, to),
+        }
+    }
+    Spans { setup, others }
+}
+
+/// The lines of a span in a source of this name.
+fn lines_of(
+    alloc: Global,
+    name: &str,
+    source: &str,
+    span: Option<Span>,
+) -> Result<String, AllocError> {
+    let Some(span) = span else {
+        return String::from_str(alloc, "none");
+    };
+    let first = position_in(source.as_bytes(), span.from).line;
+    let last = position_in(source.as_bytes(), span.to).line;
+    if first == last {
+        return format!(in alloc; "{name}:{first}");
+    }
+    format!(in alloc; "{name}:{first}-{last}")
+}
+
+/// Which lines of a source of this name have the events that a search takes as set-up, and which have those of the others, in words. It fails only when out of
+/// memory.
+pub fn event_lines(alloc: Global, name: &str, source: &str) -> Result<String, AllocError> {
+    let tokens = tokens_of(alloc, source.as_bytes())?;
+    let items = items_of(alloc, tokens.as_slice())?;
+    let spans = spans_of(tokens.as_slice(), items.as_slice());
+    let setup = lines_of(alloc, name, source, spans.setup)?;
+    let others = lines_of(alloc, name, source, spans.others)?;
+    format!(in alloc;
+        "set-up, up to the last start: {setup}; events of the others, each at any moment, in their order: {others}"
+    )
+}

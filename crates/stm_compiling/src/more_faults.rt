@@ -1,0 +1,209 @@
+//! The faults of a source behind its first one: those of what is left where each part with a fault is left out.
+//!
+//! A part begins in the first column, with a word that begins an event, a program, a rule or a definition. Of one whose fault stands in braces the head stays,
+//! so that it can be named.
+
+use crate::kept::between;
+use crate::wanted::EVENTS;
+use std::alloc::{AllocError, Global};
+use stm_source::{BadSource, SourceCause, SourceError, read_source};
+use stm_tokens::{Token, TokenKind, tokens_of};
+
+/// How many faults behind the first one are looked for.
+pub(crate) const MOST_MORE: usize = 9;
+
+/// At most so often a source is read again for them.
+const MOST_READS: usize = 18;
+
+/// Of a longer source no more faults are looked for.
+const LONGEST: usize = 1048576;
+
+/// The word of a start, and one that does nothing in its place: the others keep their numbers.
+const START: &str = "start";
+
+const EMPTY_START: &str = "start{}";
+
+/// A source of which parts are left out, and the next fault in it.
+#[derive(Drop)]
+pub(crate) struct Rest {
+    /// The text, in which spaces stand for what is left out.
+    pub(crate) text: String,
+    /// What was left out and may have been named elsewhere.
+    gone: String,
+    /// How often it may be read again.
+    reads: usize,
+}
+
+/// A part of a source: from one byte to another.
+#[derive(Clone, Copy)]
+struct Part {
+    from: usize,
+    to: usize,
+}
+
+/// Whether a part begins with a line.
+fn begins_part(line: &str) -> bool {
+    for word in EVENTS {
+        if let Some(behind) = line.strip_prefix(word) {
+            return behind.starts_with(' ') || behind.starts_with('{');
+        }
+    }
+    false
+}
+
+/// The part of a text in which a byte stands.
+fn part_at(text: &str, at: usize) -> Part {
+    let mut from = 0usize;
+    let mut begin = 0usize;
+    for line in text.split('\n') {
+        if begins_part(line) && begin > at {
+            return Part { from, to: begin };
+        }
+        if begins_part(line) {
+            from = begin;
+        }
+        begin = begin.saturating_add(line.len()).saturating_add(1);
+    }
+    Part {
+        from,
+        to: text.len(),
+    }
+}
+
+/// What stays of a part with a fault so many bytes behind its beginning, and what may have been named elsewhere of that which does not.
+fn parted(part: &str, fault: usize) -> (&str, &'static str, &str) {
+    if part.starts_with(START) && part.len() > EMPTY_START.len() {
+        return ("", EMPTY_START, part);
+    }
+    match part.split_once('{') {
+        Some((head, _)) if head.len() < fault => (head, "{}", ""),
+        Some((head, _)) => ("", "", head),
+        None => ("", "", part),
+    }
+}
+
+/// Adds spaces in the place of bytes, and their line feeds.
+fn push_blank(out: &mut String, bytes: &[u8]) -> Result<(), AllocError> {
+    for byte in bytes {
+        if *byte == b'\n' {
+            out.push_str("\n")?;
+        } else {
+            out.push_str(" ")?;
+        }
+    }
+    Ok(())
+}
+
+/// A text without a part, in whose place stands this, of which the second is not longer than what it stands for.
+fn without(
+    alloc: Global,
+    text: &str,
+    part: Part,
+    head: &str,
+    sign: &str,
+) -> Result<String, AllocError> {
+    let mut out = String::new(alloc);
+    out.push_str(between(text, 0, part.from))?;
+    out.push_str(head)?;
+    out.push_str(sign)?;
+    let blank = text.as_bytes().get(out.len()..part.to).unwrap_or(&[]);
+    push_blank(&mut out, blank)?;
+    out.push_str(between(text, part.to, text.len()))?;
+    Ok(out)
+}
+
+/// Whether a text has this word.
+fn has_word(text: &str, word: &str) -> bool {
+    for known in text.split(is_sign) {
+        if known == word {
+            return true;
+        }
+    }
+    false
+}
+
+/// Whether a character cannot stand in a name.
+fn is_sign(character: char) -> bool {
+    !character.is_ascii_alphanumeric() && character != '_'
+}
+
+/// The kind of the token that begins at a byte.
+fn token_at(tokens: &[Token], at: usize) -> Option<&TokenKind> {
+    let token = tokens.iter().find(|token| token.at >= at)?;
+    Some(&token.kind)
+}
+
+impl Rest {
+    /// A whole source.
+    pub(crate) fn new(alloc: Global, source: &str) -> Result<Rest, AllocError> {
+        Ok(Rest {
+            text: String::from_str(alloc, source)?,
+            gone: String::new(alloc),
+            reads: if source.len() > LONGEST {
+                0
+            } else {
+                MOST_READS
+            },
+        })
+    }
+
+    /// Leaves out the part in which a byte stands.
+    fn leave_out(&mut self, alloc: Global, at: usize) -> Result<(), AllocError> {
+        let text = self.text.as_str();
+        let part = part_at(text, at);
+        let (head, sign, gone) = parted(
+            between(text, part.from, part.to),
+            at.saturating_sub(part.from),
+        );
+        self.gone.push_str(" ")?;
+        self.gone.push_str(gone)?;
+        self.text = without(alloc, text, part, head, sign)?;
+        Ok(())
+    }
+
+    /// The first fault of what is left, where it stands behind a byte.
+    fn fault_behind(&self, alloc: Global, at: usize) -> Result<Option<BadSource>, AllocError> {
+        match read_source(alloc, self.text.as_bytes()) {
+            Ok(scenario) => {
+                drop(scenario);
+                Ok(None)
+            }
+            Err(SourceError::Bad(bad)) if bad.at > at => Ok(Some(bad)),
+            Err(SourceError::Bad(_)) => Ok(None),
+            Err(SourceError::OutOfMemory) => Err(AllocError),
+        }
+    }
+
+    /// Whether a fault is there since what it names was left out.
+    fn is_of_what_is_gone(&self, alloc: Global, bad: BadSource) -> Result<bool, AllocError> {
+        if bad.cause != SourceCause::Name {
+            return Ok(false);
+        }
+        let tokens = tokens_of(alloc, self.text.as_bytes())?;
+        Ok(match token_at(tokens.as_slice(), bad.at) {
+            Some(TokenKind::Name(name)) => has_word(self.gone.as_str(), name.as_str()),
+            _ => false,
+        })
+    }
+
+    /// The next fault behind this one, where the part with this one is left out, and those of which it is.
+    pub(crate) fn next_behind(
+        &mut self,
+        alloc: Global,
+        bad: BadSource,
+    ) -> Result<Option<BadSource>, AllocError> {
+        let mut last = bad;
+        for _turn in 0..self.reads {
+            self.reads = self.reads.saturating_sub(1);
+            self.leave_out(alloc, last.at)?;
+            let Some(next) = self.fault_behind(alloc, last.at)? else {
+                return Ok(None);
+            };
+            if !self.is_of_what_is_gone(alloc, next)? {
+                return Ok(Some(next));
+            }
+            last = next;
+        }
+        Ok(None)
+    }
+}

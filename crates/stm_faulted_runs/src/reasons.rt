@@ -29,22 +29,21 @@ fn spelled_at(alloc: Global, values: &[Value], index: usize) -> Result<String, A
     }
 }
 
-/// What the result of an operator is called, and its sign.
-fn operation(operator: Operator) -> (&'static str, &'static str) {
+/// What the result of an operator is called, of a remainder that of its division.
+fn result_name(operator: Operator) -> &'static str {
     match operator {
-        Operator::Add => ("sum", "+"),
-        Operator::Sub => ("difference", "-"),
-        Operator::Mul => ("product", "*"),
-        Operator::Div => ("quotient", "/"),
-        Operator::Rem => ("quotient", "rem"),
+        Operator::Add => "sum",
+        Operator::Sub => "difference",
+        Operator::Mul => "product",
+        Operator::Div | Operator::Rem => "quotient",
     }
 }
 
-/// What the result of a node is called, and the sign of its operator.
+/// What the result of a node is called, and the sign of its operator, between spaces.
 fn operation_of(node: Node) -> (&'static str, &'static str) {
     match node {
-        Node::Operation(operator) => operation(operator),
-        _ => ("result", "and"),
+        Node::Operation(operator) => (result_name(operator), operator.sign()),
+        _ => ("result", " and "),
     }
 }
 
@@ -53,14 +52,14 @@ fn of_overflow(alloc: Global, node: Node, values: &[Value]) -> Result<String, Al
     let (name, sign) = operation_of(node);
     let left = spelled_at(alloc, values, 0)?;
     let right = spelled_at(alloc, values, 1)?;
-    format!(in alloc; "{name} out of range: {left} {sign} {right}")
+    format!(in alloc; "{name} out of range: {left}{sign}{right}")
 }
 
 /// Why a division is none.
 fn of_zero(alloc: Global, node: Node, values: &[Value]) -> Result<String, AllocError> {
     let (_, sign) = operation_of(node);
     let left = spelled_at(alloc, values, 0)?;
-    format!(in alloc; "division by zero: {left} {sign} 0")
+    format!(in alloc; "division by zero: {left}{sign}0")
 }
 
 /// Why a count is no number of turns.

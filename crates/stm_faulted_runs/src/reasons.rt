@@ -39,11 +39,11 @@ fn result_name(operator: Operator) -> &'static str {
     }
 }
 
-/// What the result of a node is called, and the sign of its operator, between spaces.
+/// What the result of a node is called, and the sign of its operator.
 fn operation_of(node: Node) -> (&'static str, &'static str) {
     match node {
         Node::Operation(operator) => (result_name(operator), operator.sign()),
-        _ => ("result", " and "),
+        _ => ("result", "and"),
     }
 }
 
@@ -52,14 +52,14 @@ fn of_overflow(alloc: Global, node: Node, values: &[Value]) -> Result<String, Al
     let (name, sign) = operation_of(node);
     let left = spelled_at(alloc, values, 0)?;
     let right = spelled_at(alloc, values, 1)?;
-    format!(in alloc; "{name} out of range: {left}{sign}{right}")
+    format!(in alloc; "{name} out of range: {left} {sign} {right}")
 }
 
 /// Why a division is none.
 fn of_zero(alloc: Global, node: Node, values: &[Value]) -> Result<String, AllocError> {
     let (_, sign) = operation_of(node);
     let left = spelled_at(alloc, values, 0)?;
-    format!(in alloc; "division by zero: {left}{sign}0")
+    format!(in alloc; "division by zero: {left} {sign} 0")
 }
 
 /// Why a count is no number of turns.

@@ -12,13 +12,13 @@ operator_word Mul = codes "mul"
 operator_word Div = codes "div"
 operator_word Rem = codes "rem"
 
--- the signs of a source, between spaces
+-- the signs of a source
 abbrev pub operator_sign : Operator → List ℕ
-operator_sign Add = codes " + "
-operator_sign Sub = codes " - "
-operator_sign Mul = codes " * "
-operator_sign Div = codes " / "
-operator_sign Rem = codes " % "
+operator_sign Add = codes "+"
+operator_sign Sub = codes "-"
+operator_sign Mul = codes "*"
+operator_sign Div = codes "/"
+operator_sign Rem = codes "%"
 
 -- how tightly each binds in a source
 abbrev pub operator_rank : Operator → ℕ

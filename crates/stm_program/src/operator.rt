@@ -40,16 +40,16 @@ impl Operator {
         }
     }
 
-    /// The sign that it is in a source, between spaces.
+    /// The sign that it is in a source.
     pub fn sign(self) -> &'static str
         ensures { result.now ≡ operator_sign self }
     {
         match self {
-            Operator::Add => " + ",
-            Operator::Sub => " - ",
-            Operator::Mul => " * ",
-            Operator::Div => " / ",
-            Operator::Rem => " % ",
+            Operator::Add => "+",
+            Operator::Sub => "-",
+            Operator::Mul => "*",
+            Operator::Div => "/",
+            Operator::Rem => "%",
         }
     }
 

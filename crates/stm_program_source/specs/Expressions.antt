@@ -20,7 +20,8 @@ rank_of (NumOf e) = 4
 
 -- brackets stand round a left operand that binds less, and round a right one that does not bind more
 abbrev pub operation : ℕ → List ℕ → Expression → List ℕ → Expression → List ℕ → List ℕ
-operation own between l left r right = bracketed (nat_lt (rank_of l) own) left ++ between ++ bracketed (nat_le (rank_of r) own) right
+operation own sign l left r right =
+    bracketed (nat_lt (rank_of l) own) left ++ codes " " ++ sign ++ codes " " ++ bracketed (nat_le (rank_of r) own) right
 
 abbrev pub variable_name : ℕ → List ℕ
 variable_name v = codes "v" ++ decimal v
@@ -32,6 +33,6 @@ shown_expression (Variable v) = variable_name v
 shown_expression (Get e) = call (codes "get") (shown_expression e)
 shown_expression (Rev e) = call (codes "rev") (shown_expression e)
 shown_expression (Arithmetic o l r) = operation (operator_rank o) (operator_sign o) l (shown_expression l) r (shown_expression r)
-shown_expression (Cat l r) = operation 1 (codes " ++ ") l (shown_expression l) r (shown_expression r)
+shown_expression (Cat l r) = operation 1 (codes "++") l (shown_expression l) r (shown_expression r)
 shown_expression (TextOf e) = call (codes "text_of") (shown_expression e)
 shown_expression (NumOf e) = call (codes "num_of") (shown_expression e)

@@ -78,15 +78,17 @@ fn push_operation(
     alloc: Global,
     out: &mut String,
     own: u8,
-    between: &str,
+    sign: &str,
     left: &Expr,
     right: &Expr,
 ) -> Result<(), AllocError>
     ensures { OnOk result (string_bytes out.new ≡ string_bytes out.old
-        ++ operation own between.now left.now (shown_expression left.now) right.now (shown_expression right.now)) }
+        ++ operation own sign.now left.now (shown_expression left.now) right.now (shown_expression right.now)) }
 {
     push_operand(alloc, out, left, rank_of(left) < own)?;
-    out.push_str(between)?;
+    out.push(' ')?;
+    out.push_str(sign)?;
+    out.push(' ')?;
     push_operand(alloc, out, right, rank_of(right) <= own)
 }
 
@@ -107,7 +109,7 @@ pub(crate) fn push_expression(
         ExprNode::Rev(key) => push_call(alloc, out, "rev", key),
         ExprNode::TextOf(number) => push_call(alloc, out, "text_of", number),
         ExprNode::NumOf(text) => push_call(alloc, out, "num_of", text),
-        ExprNode::Cat(left, right) => push_operation(alloc, out, CAT, " ++ ", left, right),
+        ExprNode::Cat(left, right) => push_operation(alloc, out, CAT, "++", left, right),
         ExprNode::Arithmetic(operator, left, right) => {
             push_operation(alloc, out, operator.rank(), operator.sign(), left, right)
         }

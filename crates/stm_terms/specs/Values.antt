@@ -1,5 +1,5 @@
 -- Values: the expression that tokens spell, or the first fault. A reader is given how many brackets may still be opened.
-use Rattle.std.specs.Prelude.{ℕ, zero, suc, ◌+◌, ◌^◌, pos, neg_ℤ, List, [], ◌∷◌, ◌++◌, length, Option, Some, None, Ok, Err, not, nat_eq, nat_le, nat_lt, if◌then◌else◌}
+use Rattle.std.specs.Prelude.{ℕ, zero, suc, ◌+◌, ◌-◌, ◌^◌, pos, neg_ℤ, List, [], ◌∷◌, ◌++◌, length, Option, Some, None, Ok, Err, not, nat_eq, nat_le, nat_lt, if◌then◌else◌}
 use Rattle.stm_tokens.specs.declared.token.Token.{Token}
 use Rattle.stm_tokens.specs.declared.token.TokenKind.{TokenKind}
 use Rattle.stm_tokens.specs.declared.token.TokenKind.TheVariants as kind

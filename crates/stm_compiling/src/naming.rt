@@ -2,6 +2,7 @@
 
 use crate::calls::{is_argument, is_lease, is_listed, is_parameter};
 use crate::spots::{Event, Place, Spot};
+use stm_program::Operator;
 use stm_tokens::{Symbol, Token, TokenKind, Word};
 
 /// What is said of a function that people know from elsewhere, by its name.
@@ -80,7 +81,9 @@ fn is_before_dots(spot: Spot<'_>) -> bool {
 fn is_list_from(before: Option<&TokenKind>, from: &[Token]) -> bool {
     match (before, from) {
         (Some(TokenKind::Word(Word::Let)), [_, _, sign, _, comma, ..])
-            if sign.kind.is_symbol(Symbol::Subtract) => { comma.kind.is_symbol(Symbol::Comma) }
+            if sign.kind.is_symbol(Symbol::Arithmetic(Operator::Sub)) => {
+            comma.kind.is_symbol(Symbol::Comma)
+        }
         (Some(TokenKind::Word(Word::Let)), [_, _, _, comma, ..]) => {
             comma.kind.is_symbol(Symbol::Comma)
         }

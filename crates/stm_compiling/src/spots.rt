@@ -1,5 +1,6 @@
 //! Where in a source a token stands: between which brackets, and behind which words.
 
+use stm_program::Operator;
 use stm_tokens::{Symbol, Token, TokenKind, Word};
 
 /// What the brackets that are open before a token belong to.
@@ -263,7 +264,9 @@ impl<'a> Spot<'a> {
             match &token.kind {
                 TokenKind::Word(word) => return Some(*word),
                 TokenKind::Text(_) | TokenKind::Number(_) | TokenKind::Name(_) => {}
-                TokenKind::Symbol(Symbol::Comma | Symbol::Assign | Symbol::Subtract) => {}
+                TokenKind::Symbol(
+                    Symbol::Comma | Symbol::Assign | Symbol::Arithmetic(Operator::Sub),
+                ) => {}
                 _ => return None,
             }
         }

@@ -3,6 +3,7 @@
 use crate::calls::{behind_value, is_parameter, value_in};
 use crate::spots::{Event, Place, Spot};
 use std::alloc::{AllocError, Global};
+use stm_program::Operator;
 use stm_tokens::{Symbol, TokenKind, Word};
 use strsim::levenshtein;
 
@@ -151,11 +152,7 @@ pub(crate) fn is_behind_operator(spot: Spot<'_>) -> bool {
                 | Symbol::LessOrEqual
                 | Symbol::Greater
                 | Symbol::GreaterOrEqual
-                | Symbol::Add
-                | Symbol::Subtract
-                | Symbol::Multiply
-                | Symbol::Divide
-                | Symbol::Remainder
+                | Symbol::Arithmetic(_)
                 | Symbol::Concatenate
         ),
         _ => false,
@@ -291,7 +288,8 @@ fn is_behind_else_of_look_up(spot: Spot<'_>) -> bool {
 fn is_behind_sign(spot: Spot<'_>) -> bool {
     match spot.back(1) {
         Some(TokenKind::Symbol(symbol)) => {
-            *symbol != Symbol::RightParenthesis && spot.is_behind_symbol(0, Symbol::Subtract)
+            *symbol != Symbol::RightParenthesis
+                && spot.is_behind_symbol(0, Symbol::Arithmetic(Operator::Sub))
         }
         _ => false,
     }

@@ -1,8 +1,17 @@
 -- The operators, and how they are written: the one table of them.
-use Rattle.std.specs.Prelude.{◌≡◌, refl, ℕ, List, [], ◌∷◌, Option, Some, None, bytes_eq, if◌then◌else◌, codes}
+use Rattle.std.specs.Prelude.{◌≡◌, refl, ℕ, List, [], ◌∷◌, Option, Some, None, nat_eq, bytes_eq, if◌then◌else◌, codes}
+use Rattle.std.specs.List.{starts_with}
 use Rattle.stm_program.specs.declared.operator.Operator.{Operator}
 use Rattle.stm_program.specs.declared.operator.Operator.TheVariants.{Add, Sub, Mul, Div, Rem}
 use Rattle.stm_program.specs.declared.operator.TheConstants.{OPERATORS}
+
+-- their places in the list of all
+abbrev pub operator_place : Operator → ℕ
+operator_place Add = 0
+operator_place Sub = 1
+operator_place Mul = 2
+operator_place Div = 3
+operator_place Rem = 4
 
 -- the words of JSON
 abbrev pub operator_word : Operator → List ℕ
@@ -37,6 +46,14 @@ named_in (o ∷ os) word = if bytes_eq word (operator_word o) then Some o else n
 
 abbrev pub operator_named : List ℕ → Option Operator
 operator_named word = named_in OPERATORS word
+
+-- the first of these with whose sign bytes begin
+abbrev pub signed_in : List Operator → List ℕ → Option Operator
+signed_in [] bytes = None
+signed_in (o ∷ os) bytes = if starts_with nat_eq bytes (operator_sign o) then Some o else signed_in os bytes
+
+abbrev pub operator_signed : List ℕ → Option Operator
+operator_signed bytes = signed_in OPERATORS bytes
 
 -- each is found by its word
 pub each_is_named : (o : Operator) → operator_named (operator_word o) ≡ Some o

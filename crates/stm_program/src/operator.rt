@@ -1,6 +1,6 @@
 //! The operators on whole numbers, and how they are written.
-ghost use Rattle.std.specs.Prelude.{◌≡◌};
-ghost use Rattle.stm_program.specs.Operators.{named_in, operator_named, operator_rank, operator_sign, operator_word};
+ghost use Rattle.std.specs.Prelude.{◌≡◌, ◌≤◌, ◌<◌};
+ghost use Rattle.stm_program.specs.Operators.{named_in, operator_named, operator_place, operator_rank, operator_sign, operator_signed, operator_word, signed_in};
 
 /// What `add`, `sub`, `mul`, `div` and `rem` compute.
 #[derive(Clone, Copy, Debug, PartialEq, Eq)]
@@ -17,7 +17,7 @@ pub enum Operator {
     Rem,
 }
 
-/// All operators.
+/// All operators. Of two signs that begin alike the longer one stands first.
 pub const OPERATORS: [Operator; 5] = [
     Operator::Add,
     Operator::Sub,
@@ -27,6 +27,20 @@ pub const OPERATORS: [Operator; 5] = [
 ];
 
 impl Operator {
+    /// Its place among the operators, from 0.
+    pub fn place(self) -> u8
+        ensures is { result ≡ operator_place self }
+        ensures few { result < 100 }
+    {
+        match self {
+            Operator::Add => 0,
+            Operator::Sub => 1,
+            Operator::Mul => 2,
+            Operator::Div => 3,
+            Operator::Rem => 4,
+        }
+    }
+
     /// The word that it is in JSON.
     pub fn word(self) -> &'static str
         ensures { result.now ≡ operator_word self }
@@ -55,7 +69,8 @@ impl Operator {
 
     /// How tightly it binds in a source: 2 or 3, between `++`, which is 1, and what is no operator, 4.
     pub fn rank(self) -> u8
-        ensures { result ≡ operator_rank self }
+        ensures is { result ≡ operator_rank self }
+        ensures most { result ≤ 3 }
     {
         match self {
             Operator::Add | Operator::Sub => 2,
@@ -69,6 +84,13 @@ impl Operator {
     {
         named_in(&OPERATORS, word)
     }
+
+    /// The operator with whose sign these bytes begin, if there is one.
+    pub fn signed(bytes: &[u8]) -> Option<Operator>
+        ensures { result ≡ operator_signed bytes.now }
+    {
+        signed_in(&OPERATORS, bytes)
+    }
 }
 
 /// The first of these that is this word in JSON.
@@ -77,6 +99,18 @@ fn named_in(operators: &[Operator], word: &str) -> Option<Operator>
 {
     for operator in operators {
         if word == operator.word() {
+            return Some(*operator);
+        }
+    }
+    None
+}
+
+/// The first of these with whose sign bytes begin.
+fn signed_in(operators: &[Operator], bytes: &[u8]) -> Option<Operator>
+    ensures { result ≡ signed_in operators.now bytes.now }
+{
+    for operator in operators {
+        if bytes.starts_with(operator.sign().as_bytes()) {
             return Some(*operator);
         }
     }

@@ -10,7 +10,7 @@ ghost use Rattle.stm_source.specs.Loops as spec;
 
 use std::alloc::{AllocError, Global};
 use stm_history::{Sequence, Text};
-use stm_program::{Cond, Expr, ExprNode, MAX_DEPTH, MAX_TURNS, Stmt, Variable};
+use stm_program::{Cond, Expr, ExprNode, MAX_DEPTH, MAX_TURNS, Operator, Stmt, Variable};
 use stm_terms::{
     Argument, Item, Kind, Scope, Shared, SharedText, SourceCause, SourceError, after_name,
     after_symbol, argument_number, condition_room, fault, list_of_items, next_name, next_number,
@@ -146,7 +146,7 @@ fn begins_item(tokens: &[Token]) -> bool
     next_name(tokens).is_some()
         || next_text(tokens).is_some()
         || next_number(tokens).is_some()
-        || after_symbol(tokens, Symbol::Subtract).is_some()
+        || after_symbol(tokens, Symbol::Arithmetic(Operator::Sub)).is_some()
 }
 
 /// The items of a loop, by the name that begins at a byte: that of a variable names none.

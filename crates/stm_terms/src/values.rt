@@ -484,7 +484,7 @@ fn signed<'a>(
 {
     if symbol.is(Symbol::LeftParenthesis) {
         bracketed(alloc, scope, levels, Kind::Either, tokens)
-    } else if symbol.is(Symbol::Subtract) {
+    } else if symbol.is(Symbol::Arithmetic(Operator::Sub)) {
         negation(alloc, scope, rest)
     } else if symbol.is(Symbol::Not) {
         Err(fault(place(tokens), SourceCause::Sort))

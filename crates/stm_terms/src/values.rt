@@ -27,7 +27,7 @@ use crate::uses::{Defined, add_argument, copied_in, is_copied, may_join, may_sta
 use std::alloc::{AllocError, Global};
 use std::sync::Arc;
 use stm_history::{Sequence, Text};
-use stm_program::{Expr, ExprNode, MAX_TEXT, Variable};
+use stm_program::{Expr, ExprNode, MAX_TEXT, Operator, Variable};
 use stm_tokens::{Symbol, Token, TokenKind, Word};
 
 fn literal<'a>(

@@ -86,6 +86,13 @@ fn push_key(laid: &mut Vec<KeyValue>, key: String, value: Text) -> Result<(), Al
     Ok(())
 }
 
+/// The key of the output that the runner with this number has at a place.
+fn output_key(alloc: Global, number: u64, place: usize) -> Result<String, AllocError>
+    ensures { IfOk result (λ key. string_bytes key ≡ output_key number place) }
+{
+    format!(in alloc; "#out/{number}/{place}")
+}
+
 /// Adds the output that the runner with this number has at a place.
 fn push_output(
     alloc: Global,
@@ -96,7 +103,7 @@ fn push_output(
 ) -> Result<(), AllocError>
     ensures { OnOk result (laid.new.items ≡ laid.old.items ++ record { key = output_key number place; value = value_text output.now } ∷ []) }
 {
-    let key = format!(in alloc; "#out/{number}/{place}")?;
+    let key = output_key(alloc, number, place)?;
     let value = value_text(alloc, output)?;
     push_key(laid, key, value)
 }
@@ -127,7 +134,7 @@ fn push_laid_outputs(
 {
     match outputs {
         [] => {
-            let key = format!(in alloc; "#out/{number}/0")?;
+            let key = output_key(alloc, number, 0)?;
             let value = Text::copy_of(alloc, "")?;
             push_key(laid, key, value)
         }

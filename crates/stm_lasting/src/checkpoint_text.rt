@@ -1,6 +1,7 @@
 //! Checkpoints as texts: a scenario, and behind it the lines with which a report ends.
-ghost use Rattle.std.specs.Prelude.{◌≡◌, ◌∷◌, List, Some, Ok as OkOf, IfOk, IfSome, option_map};
+ghost use Rattle.std.specs.Prelude.{◌≡◌, ℕ, ◌∷◌, List, Some, Ok as OkOf, IfOk, IfSome, option_map};
 ghost use Rattle.stm_events.specs.declared.line.ReportLine.{ReportLine as ALine};
+ghost use Rattle.stm_events.specs.declared.line.ReportLine.TheVariants as kinds;
 ghost use Rattle.stm_texts.specs.Reading.{scenario_in};
 ghost use Rattle.stm_report_lines.specs.Reading.{report_in};
 ghost use Rattle.stm_lasting.specs.CheckpointText.{first_line, behind_line, held_in, held_of, checkpoint_in};
@@ -43,19 +44,65 @@ fn cut_line(text: &[u8]) -> (&[u8], &[u8])
     (text, &[])
 }
 
-/// Takes one more line: what has come of them then, and none where the line is out of place.
-fn take_line(held: &mut Held, stage: Stage, line: ReportLine) -> Result<Option<Stage>, AllocError> {
-    match (stage, line) {
-        (Stage::Keys, ReportLine::Key { key, state }) => {
+/// Takes a key, which stands before all leases: what has come then, and none where it is out of place.
+fn take_key(
+    held: &mut Held,
+    stage: Stage,
+    key: Text,
+    state: KeyState,
+) -> Result<Option<Stage>, AllocError>
+    ensures { IfOk result (λ o. IfSome o (λ next. (lines : List ALine)
+        → option_map (joined held.old) (left_in stage (kinds.Key key state ∷ lines)) ≡ option_map (joined held.new) (left_in next lines))) }
+{
+    match stage {
+        Stage::Keys => {
             held.states.push((key, state))?;
             Ok(Some(Stage::Keys))
         }
-        (Stage::Keys | Stage::Leases, ReportLine::Lease { id, ttl, renewed }) => {
-            held.leases.push(KeptLease { id, ttl, renewed })?;
+        Stage::Leases | Stage::Ended => Ok(None),
+    }
+}
+
+/// Takes a lease, which stands before the end.
+fn take_lease(held: &mut Held, stage: Stage, lease: KeptLease) -> Result<Option<Stage>, AllocError>
+    ensures { IfOk result (λ o. IfSome o (λ next. (lines : List ALine)
+        → option_map (joined held.old) (left_in stage (kinds.Lease lease.id lease.ttl lease.renewed ∷ lines))
+        ≡ option_map (joined held.new) (left_in next lines))) }
+{
+    match stage {
+        Stage::Keys | Stage::Leases => {
+            held.leases.push(lease)?;
             Ok(Some(Stage::Leases))
         }
-        (Stage::Keys | Stage::Leases, ReportLine::End { .. }) => Ok(Some(Stage::Ended)),
-        _ => Ok(None),
+        Stage::Ended => Ok(None),
+    }
+}
+
+/// What has come with an end, and none where it is the second one.
+fn ended(stage: Stage) -> Option<Stage>
+    ensures { IfSome result (λ next. (revision entries : ℕ) (lines : List ALine)
+        → left_in stage (kinds.End revision entries ∷ lines) ≡ left_in next lines) }
+{
+    match stage {
+        Stage::Keys | Stage::Leases => Some(Stage::Ended),
+        Stage::Ended => None,
+    }
+}
+
+/// Takes one more line: what has come of them then, and none where the line is out of place.
+fn take_line(held: &mut Held, stage: Stage, line: ReportLine) -> Result<Option<Stage>, AllocError>
+    ensures { IfOk result (λ o. IfSome o (λ next. (lines : List ALine)
+        → option_map (joined held.old) (left_in stage (line ∷ lines)) ≡ option_map (joined held.new) (left_in next lines))) }
+{
+    match line {
+        ReportLine::Key { key, state } => take_key(held, stage, key, state),
+        ReportLine::Lease { id, ttl, renewed } => take_lease(
+            held,
+            stage,
+            KeptLease { id, ttl, renewed },
+        ),
+        ReportLine::End { .. } => Ok(ended(stage)),
+        ReportLine::Event { .. } => Ok(None),
     }
 }
 

@@ -1,7 +1,7 @@
 -- What the file of a world is once it was written anew as a checkpoint, also where a crash comes at any moment of that.
 --
 -- etcd's API reference, "Compaction": what a store shows from the compacted revision on stays. That it is looked at before the file is written is our own.
-use Rattle.std.specs.Prelude.{◌≡◌, ◌⊎◌, ◌≤◌, ◌<◌, ℕ, List}
+use Rattle.std.specs.Prelude.{◌≡◌, ◌⊎◌, ◌≤◌, ℕ, List, Option, None, Some}
 use Rattle.stm_history.specs.History.{now, key_at}
 use Rattle.stm_keys.specs.Events.{events_of}
 use Rattle.stm_txn.specs.Standing.{Standing, kept}
@@ -21,12 +21,27 @@ pub record ShowsTheSame (floor : ℕ) (s t : Standing) : Type 0 where
 abbrev pub ShowTheSame : ℕ → World → World → Type 0
 ShowTheSame floor before after = ShowsTheSame floor (kept before.standing) (kept after.standing)
 
+-- the revision from which on a store is to be kept: its own, where none is named
+abbrev pub asked_floor : Option ℕ → Standing → ℕ
+asked_floor None s = now s.history
+asked_floor (Some revision) s = revision
+
+-- what a world shows from that revision on
+abbrev pub ShowsTheKept : Option ℕ → World → World → Type 0
+ShowsTheKept asked before after = ShowTheSame (asked_floor asked (kept before.standing)) before after
+
 -- the file of a world leads to one that shows the same from a revision on
-abbrev pub HasCompacted : List ℕ → List ℕ → Type 0
-HasCompacted found file =
-    (floor : ℕ) × (before : World) × (after : World) × OpensTo found before × IsKept file after × ShowTheSame floor before after
+pub record HasCompacted (asked : Option ℕ) (found file : List ℕ) : Type 0 where
+  pub before : World
+  pub after : World
+  pub opens : OpensTo found before
+  pub kept : IsKept file after
+  pub shows : ShowsTheKept asked before after
+
+-- a file opens to a world that shows the same
+abbrev pub OpensCompacted : Option ℕ → World → List ℕ → Type 0
+OpensCompacted asked before c = (after : World) × OpensTo c after × ShowsTheKept asked before after
 
 -- What a crash leaves: a file that opens to the world of the one that was found, or to one that shows the same.
-abbrev pub LeavesFoundOrCompacted : List ℕ → List ℕ → Type 0
-LeavesFoundOrCompacted found c =
-    OpensAlike found c ⊎ ((floor : ℕ) × (before : World) × (after : World) × OpensTo found before × OpensTo c after × ShowTheSame floor before after)
+abbrev pub LeavesFoundOrCompacted : Option ℕ → List ℕ → List ℕ → Type 0
+LeavesFoundOrCompacted asked found c = OpensAlike found c ⊎ ((before : World) × OpensTo found before × OpensCompacted asked before c)

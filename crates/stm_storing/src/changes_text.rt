@@ -1,8 +1,9 @@
 //! The text of a scenario that makes the calls and the changes of a run of jobs again: no clause speaks of it, since what it comes to is looked at before it
 //! is kept.
-ghost use Rattle.std.specs.Prelude.{◌≡◌, false};
+ghost use Rattle.std.specs.Prelude.{◌≡◌, ◌≤◌, false};
 ghost use Rattle.serde_json.specs.View.{view};
 ghost use Rattle.serde_json.specs.Written.{has_float};
+ghost use Rattle.stm_history.specs.History.{now};
 
 use serde_json::Value as Json;
 use std::alloc::{AllocError, Global};
@@ -73,7 +74,9 @@ pub(crate) fn push_revision(
     text: &mut String,
     keys: &Keys,
     revision: u64,
-) -> Result<(), AllocError> {
+) -> Result<(), AllocError>
+    requires { revision ≤ now keys.now.history }
+{
     let txn = txn_of(alloc, keys.events_at(revision))?;
     push_event(alloc, text, &txn)
 }

@@ -1,6 +1,7 @@
 //! The text of a checkpoint of a world: no clause speaks of it, since what it leads to is looked at before it is kept.
 ghost use Rattle.std.specs.Prelude.{◌≤◌};
 ghost use Rattle.stm_history.specs.History.{now};
+ghost use Rattle.stm_txn.specs.Standing.{kept};
 
 use crate::changes_text::{push_event, push_revision};
 use crate::ended_leases::{Ended, ended_since, is_end_of};
@@ -39,7 +40,10 @@ fn push_ends(
 }
 
 /// Whether the end of a lease does what a revision did, which was the last to touch its keys.
-fn is_an_end(keys: &Keys, ended: &Ended, revision: u64) -> bool {
+fn is_an_end(keys: &Keys, ended: &Ended, revision: u64) -> bool
+    requires positive { 1 ≤ revision }
+    requires reached { revision ≤ now keys.now.history }
+{
     for (lease, last) in ended {
         if *last == revision && is_end_of(keys, *lease, revision) {
             return true;
@@ -55,7 +59,10 @@ fn push_change(
     keys: &Keys,
     ended: &Ended,
     revision: u64,
-) -> Result<(), AllocError> {
+) -> Result<(), AllocError>
+    requires positive { 1 ≤ revision }
+    requires reached { revision ≤ now keys.now.history }
+{
     if !is_an_end(keys, ended, revision) {
         push_revision(alloc, text, keys, revision)?;
     }
@@ -69,7 +76,10 @@ fn push_scenario(
     store: &Store,
     ended: &Ended,
     floor: u64,
-) -> Result<(), AllocError> {
+) -> Result<(), AllocError>
+    requires positive { 1 ≤ floor }
+    requires reached { floor ≤ now store.now.standing.history }
+{
     let keys = store.keys();
     push_opening(alloc, text, store, floor - 1)?;
     let advance = WorldEvent::Advance {
@@ -122,7 +132,7 @@ fn push_held(
     ended: &Ended,
     below: u64,
 ) -> Result<(), AllocError>
-    requires { below ≤ now world.now.standing.history }
+    requires { below ≤ now (kept world.now.standing).history }
 {
     let lines = text_at(alloc, world.store().keys(), below)?;
     text.push_str(lines.as_str())?;
@@ -138,7 +148,8 @@ pub(crate) fn checkpoint_text(
     world: &World,
     floor: u64,
 ) -> Result<String, AllocError>
-    requires { floor ≤ now world.now.standing.history }
+    requires positive { 1 ≤ floor }
+    requires reached { floor ≤ now (kept world.now.standing).history }
 {
     let ended = ended_since(alloc, world.store(), floor)?;
     let mut text = String::new(alloc);

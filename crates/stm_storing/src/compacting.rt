@@ -1,16 +1,12 @@
 //! Writing the file of a world anew, without what is below a revision.
-ghost use Rattle.std.specs.Prelude.{◌≡◌, ◌≤◌, ◌⊎◌, ℕ, List, true, Some, IfOk, OnOk, IsTrue};
-ghost use Rattle.std.specs.BTreeMap as tree;
-ghost use Rattle.std.specs.Ordering.{nat_cmp};
-ghost use Rattle.stm_history.specs.declared.key_state.KeyState.{KeyState as AState};
+ghost use Rattle.std.specs.Prelude.{◌≡◌, ◌≤◌, ◌⊎◌, ◌∷◌, ℕ, [], List, true, Some, IfOk, OnOk, IsTrue, string_bytes};
 ghost use Rattle.stm_history.specs.History.{now, key_at};
-ghost use Rattle.stm_entries.specs.declared.live_leases.LiveLease.{LiveLease as ALease};
+ghost use Rattle.stm_txn.specs.Standing.{kept};
 ghost use Rattle.stm_world.specs.World.{World as WorldOf};
 ghost use Rattle.stm_records.specs.Disk.{Only, LeavesOnly};
 ghost use Rattle.stm_records.specs.RecordFiles.{IsSettled};
-ghost use Rattle.stm_lasting.specs.Kept.{IsKept, OpensTo};
-ghost use Rattle.stm_storing.specs.Past.{state_in};
-ghost use Rattle.stm_storing.specs.Compacting.{ShowTheSame, HasCompacted, LeavesFoundOrCompacted};
+ghost use Rattle.stm_lasting.specs.Kept.{world_in, IsKept, OpensTo};
+ghost use Rattle.stm_storing.specs.Compacting.{asked_floor, ShowsTheSame, ShowTheSame, HasCompacted, LeavesFoundOrCompacted};
 
 use crate::checkpoint_text::checkpoint_text;
 use crate::fault::StoreFault;
@@ -20,7 +16,6 @@ use crate::scripting::opened;
 use crate::showing::Checked;
 use std::alloc::{AllocError, Global};
 use std::collections::BTreeMap;
-use stm_history::are_same_states;
 use stm_keys::Keys;
 use stm_lasting::{Disk, RecordFile, World, compact, world_of_checkpoint};
 use stm_report::{LiveLease, live_leases};
@@ -36,17 +31,11 @@ fn has_running(world: &World) -> bool {
     false
 }
 
-/// Whether each of these leases is one of those.
-fn has_all_leases(left: &BTreeMap<u64, LiveLease>, right: &BTreeMap<u64, LiveLease>) -> bool
-    ensures { result ≡ true → (id : ℕ) (lease : ALease) → tree.get nat_cmp left.now id ≡ Some lease → tree.get nat_cmp right.now id ≡ Some lease }
+/// Whether these leases are those.
+fn are_same_leases(left: &BTreeMap<u64, LiveLease>, right: &BTreeMap<u64, LiveLease>) -> bool
+    ensures { result ≡ true → left.now.entries ≡ right.now.entries }
 {
-    for (id, lease) in left {
-        match right.get(id) {
-            Some(other) if other.ttl == lease.ttl && other.renewed == lease.renewed => {}
-            _ => return false,
-        }
-    }
-    true
+    *left == *right
 }
 
 /// Whether two worlds have the same live leases.
@@ -55,20 +44,14 @@ fn have_same_leases(alloc: Global, left: &World, right: &World) -> Result<bool, 
 {
     let leases = live_leases(alloc, left.history())?;
     let others = live_leases(alloc, right.history())?;
-    Ok(has_all_leases(&leases, &others) && has_all_leases(&others, &leases))
+    Ok(are_same_leases(&leases, &others))
 }
 
-/// Whether each of these keys was among those, in the same state.
-fn has_all_keys(left: &Past, right: &Past) -> bool
-    ensures { result ≡ true → (key : List ℕ) (s : AState) → state_in left.now.entries key ≡ Some s → state_in right.now.entries key ≡ Some s }
+/// Whether the same keys were present, in the same states.
+fn are_same_pasts(left: &Past, right: &Past) -> bool
+    ensures { result ≡ true → left.now.entries ≡ right.now.entries }
 {
-    for (key, state) in left {
-        match right.get(key) {
-            Some(other) if are_same_states(state, other) => {}
-            _ => return false,
-        }
-    }
-    true
+    *left == *right
 }
 
 /// Whether two histories had the same keys at a revision, in the same states.
@@ -84,35 +67,57 @@ fn had_same_keys(
 {
     let past = past_of(alloc, left, revision)?;
     let other = past_of(alloc, right, revision)?;
-    Ok(has_all_keys(&past, &other) && has_all_keys(&other, &past))
+    Ok(are_same_pasts(&past, &other))
+}
+
+/// Whether two stores take the same in a transaction.
+fn have_same_limit(left: &Store, right: &Store) -> bool
+    ensures { result ≡ true → left.now.standing.limit ≡ right.now.standing.limit }
+{
+    left.limit() == right.limit()
+}
+
+/// Whether two stores with the same leases show the same from a revision on.
+fn stores_show_the_same(
+    alloc: Global,
+    left: &Store,
+    right: &Store,
+    floor: u64,
+) -> Result<bool, AllocError>
+    requires positive { 1 ≤ floor }
+    requires reached { floor ≤ now left.now.standing.history }
+    ensures { IfOk result (λ is. is ≡ true → left.now.standing.live ≡ right.now.standing.live
+        → ShowsTheSame floor left.now.standing right.now.standing) }
+{
+    if !have_same_limit(left, right) {
+        return Ok(false);
+    }
+    if !are_alike_since(left, right, floor - 1) {
+        return Ok(false);
+    }
+    had_same_keys(alloc, left.keys(), right.keys(), floor)
 }
 
 /// Whether two worlds show the same from a revision on.
 fn show_the_same(alloc: Global, left: &World, right: &World, floor: u64) -> Result<bool, AllocError>
-    requires { floor ≤ now left.now.standing.history }
+    requires positive { 1 ≤ floor }
+    requires reached { floor ≤ now (kept left.now.standing).history }
     ensures { IfOk result (λ is. is ≡ true → ShowTheSame floor left.now right.now) }
 {
-    let store = left.store();
-    let another = right.store();
-    if another.floor() != floor || store.limit() != another.limit() {
+    if !have_same_leases(alloc, left, right)? {
         return Ok(false);
     }
-    if !are_alike_since(store, another, floor - 1) {
-        return Ok(false);
-    }
-    if !had_same_keys(alloc, store.keys(), another.keys(), floor)? {
-        return Ok(false);
-    }
-    have_same_leases(alloc, left, right)
+    stores_show_the_same(alloc, left.store(), right.store(), floor)
 }
 
 /// The revision from which on a store is to be kept: its own, where none is named. `FutureRevision`: it is above the store's. `Compacted`: it is below the
 /// floor.
-fn floor_of(store: &Store, from: Option<u64>) -> Result<u64, StoreFault>
+fn floor_of(store: &Store, asked: Option<u64>) -> Result<u64, StoreFault>
+    ensures asked { IfOk result (λ floor. floor ≡ asked_floor asked store.now.standing) }
     ensures within { IfOk result (λ floor. floor ≤ now store.now.standing.history) }
 {
     let revision = store.keys().revision();
-    let floor = from.unwrap_or(revision);
+    let floor = asked.unwrap_or(revision);
     if floor > revision {
         return Err(StoreFault::FutureRevision);
     }
@@ -122,34 +127,48 @@ fn floor_of(store: &Store, from: Option<u64>) -> Result<u64, StoreFault>
     Ok(floor)
 }
 
-/// Puts a checkpoint of a world in the place of its file: the world is looked at to which the checkpoint leads, and it has to show the same.
+/// The text of a checkpoint of a world, and the world that it leads to, which shows the same. `CannotCompact`: it does not.
+fn checkpoint_of(alloc: Global, world: &World, floor: u64) -> Result<(String, World), StoreFault>
+    requires positive { 1 ≤ floor }
+    requires reached { floor ≤ now (kept world.now.standing).history }
+    ensures leads { IfOk result (λ r. world_in (string_bytes r.0 ∷ []) ≡ Some r.1) }
+    ensures same { IfOk result (λ r. ShowTheSame floor world.now r.1) }
+{
+    let text = checkpoint_text(alloc, world, floor)?;
+    let Some(after) = world_of_checkpoint(alloc, text.as_str().as_bytes())? else {
+        return Err(StoreFault::CannotCompact);
+    };
+    if !show_the_same(alloc, world, &after, floor)? {
+        return Err(StoreFault::CannotCompact);
+    }
+    Ok((text, after))
+}
+
+/// Puts a checkpoint of a world in the place of its file.
 fn compact_at<D: Disk>(
     records: &mut RecordFile<D>,
     world: &World,
     floor: u64,
-) -> Result<Checked, StoreFault>
+) -> Result<(), StoreFault>
     requires settled { IsSettled D.is_usable D.seen D.may_leave records.old }
     requires kept { IsKept (D.seen records.old.disk) world.now }
-    requires reached { floor ≤ now world.now.standing.history }
+    requires positive { 1 ≤ floor }
+    requires reached { floor ≤ now (kept world.now.standing).history }
     ensures settled { OnOk result (IsSettled D.is_usable D.seen D.may_leave records.new) }
     ensures same { OnOk result ((after : WorldOf) × IsKept (D.seen records.new.disk) after × ShowTheSame floor world.now after) }
     ensures any_moment { LeavesOnly D.moment D.left_since records.old.disk records.new.disk
         (λ c. OpensTo c world.now ⊎ ((after : WorldOf) × OpensTo c after × ShowTheSame floor world.now after)) }
 {
-    let text = checkpoint_text(records.alloc, world, floor)?;
-    let Some(after) = world_of_checkpoint(records.alloc, text.as_str().as_bytes())? else {
-        return Err(StoreFault::CannotCompact);
-    };
-    if !show_the_same(records.alloc, world, &after, floor)? {
-        return Err(StoreFault::CannotCompact);
-    }
+    let (text, after) = checkpoint_of(records.alloc, world, floor)?;
     match compact(records, world, &after, text.as_str().as_bytes()) {
-        Ok(()) => Ok(Checked {
-            records: 1,
-            bytes: records.end,
-        }),
+        Ok(()) => Ok(()),
         Err(fault) => Err(StoreFault::of_keeping(fault)),
     }
+}
+
+/// Whether a runner of a world runs, or a watcher is open.
+fn is_busy(world: &World) -> bool {
+    has_running(world) || world.store().has_watchers()
 }
 
 /// Writes the file of a world anew, which was opened with these bytes, as one record without what is below a revision: the named one, or else the store's.
@@ -160,27 +179,31 @@ fn compact_at<D: Disk>(
 pub fn compact_kept<D: Disk>(
     records: &mut RecordFile<D>,
     bytes: Vec<u8>,
-    from: Option<u64>,
+    asked: Option<u64>,
 ) -> Result<Checked, StoreFault>
     requires bytes { bytes.items ≡ D.seen records.old.disk }
     requires durable { Only (D.seen records.old.disk) (D.may_leave records.old.disk) }
     requires usable { IsTrue (D.is_usable records.old.disk) }
     ensures settled { OnOk result (IsSettled D.is_usable D.seen D.may_leave records.new) }
-    ensures compacted { OnOk result (HasCompacted (D.seen records.old.disk) (D.seen records.new.disk)) }
+    ensures compacted { OnOk result (HasCompacted asked (D.seen records.old.disk) (D.seen records.new.disk)) }
 
     // A crash at any moment leaves a file that opens to what it was found to open to, or to a world that shows the same.
-    ensures any_moment { LeavesOnly D.moment D.left_since records.old.disk records.new.disk (LeavesFoundOrCompacted (D.seen records.old.disk)) }
+    ensures any_moment { LeavesOnly D.moment D.left_since records.old.disk records.new.disk (LeavesFoundOrCompacted asked (D.seen records.old.disk)) }
 {
     let kept = opened(records, bytes)?;
-    let floor = floor_of(kept.world.store(), from)?;
+    let floor = floor_of(kept.world.store(), asked)?;
     if floor <= kept.world.store().keys().below() {
         return Ok(Checked {
             records: kept.count,
             bytes: kept.end,
         });
     }
-    if has_running(&kept.world) || kept.world.store().has_watchers() {
+    if is_busy(&kept.world) {
         return Err(StoreFault::CannotCompact);
     }
-    compact_at(records, &kept.world, floor)
+    compact_at(records, &kept.world, floor)?;
+    Ok(Checked {
+        records: 1,
+        bytes: records.end,
+    })
 }

@@ -4,3 +4,4 @@ pub mod Restarts
 pub mod LineCuts
 pub mod HeldLemmas
 pub mod Resuming
+pub mod Compacted

@@ -1,6 +1,6 @@
 -- What a text is, and what it leads to, from what was read of it.
 use Rattle.std.proofs.Common.{◌≡◌, ℕ, Bool, true, cond, List, sym, ap, ◌∙◌}
-use Rattle.std.specs.Prelude.{Option, None, Some, option_map, Ok, Err}
+use Rattle.std.specs.Prelude.{IfSome, Option, None, Some, option_map, Ok, Err}
 use Rattle.stm_json.specs.Outcome.{Outcome}
 use Rattle.stm_report_lines.specs.Reading.{report_in}
 use Rattle.stm_texts.specs.declared.scenario.Scenario.{Scenario}
@@ -33,3 +33,8 @@ resumes o c scenario opened now read can is after =
     ∙ ap (λ b. cond b (Some (world_after scenario.events (restored_world c))) None) can
     ∙ ap (λ (w : World). Some (world_after scenario.events w)) (sym is)
     ∙ ap (λ (w : World). Some w) (sym after)
+
+-- what holds of a value holds where it follows
+pub if_some : {X : Type 0} {P Q : X → Type 0} (o : Option X) → ((x : X) → P x → Q x) → IfSome o P → IfSome o Q
+if_some None follows is = is
+if_some (Some x) follows is = follows x is

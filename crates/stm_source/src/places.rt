@@ -258,27 +258,7 @@ fn push_named(
     Ok(())
 }
 
-/// Adds a rule or a final of a name, which begins behind that: nothing, where its program cannot be read again. It fails only when out of memory.
-fn push_ruled(
-    alloc: Global,
-    all: &[Token],
-    definitions: &Definitions,
-    story: &Story,
-    is_final: bool,
-    programs: &mut MarkedPrograms,
-    name: &str,
-    tokens: &[Token],
-) -> Result<(), AllocError>
-    ensures { OnOk result (programs.new ≡ spec.with_rule_read programs.old name.now (spec.marked_ruled all.now definitions.now story.now is_final tokens.now)) }
-{
-    match marked_ruled(alloc, all, definitions, story, is_final, tokens) {
-        Ok(program) => push_named(alloc, programs, name, program),
-        Err(SourceError::Bad(_)) => Ok(()),
-        Err(SourceError::OutOfMemory) => Err(AllocError),
-    }
-}
-
-/// Adds a rule or a final, which begins behind its word.
+/// Adds a rule or a final, which begins behind its word: nothing, where its program cannot be read again. It fails only when out of memory.
 fn push_rule(
     alloc: Global,
     all: &[Token],
@@ -290,20 +270,13 @@ fn push_rule(
 ) -> Result<(), AllocError>
     ensures { OnOk result (programs.new ≡ spec.with_ruled all.now definitions.now story.now is_final programs.old (next_name tokens.now)) }
 {
-    match next_name(tokens) {
-        Some((name, rest)) => {
-            push_ruled(
-                alloc,
-                all,
-                definitions,
-                story,
-                is_final,
-                programs,
-                name,
-                rest,
-            )
-        }
-        None => Ok(()),
+    let Some((name, rest)) = next_name(tokens) else {
+        return Ok(());
+    };
+    match marked_ruled(alloc, all, definitions, story, is_final, rest) {
+        Ok(program) => push_named(alloc, programs, name, program),
+        Err(SourceError::Bad(_)) => Ok(()),
+        Err(SourceError::OutOfMemory) => Err(AllocError),
     }
 }
 

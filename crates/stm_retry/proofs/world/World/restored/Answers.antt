@@ -12,14 +12,14 @@ pub invariant_of-result : goal.invariant_of-result
 invariant_of-result c =
     let k : Checkpoint = c.args.checkpoint in
     let m : World = c.in-Some.kept in
-    let can : can_restore k ≡ true = sym c.in_ok-restored.ensures.some ∙ ap (λ (o : Option World). is_some o) c.in-Some.is in
-    let is : m ≡ restored_world k = subst (λ (o : Option World). IfSome o (λ p. p ≡ restored_world k)) c.in-Some.is c.in_ok-restored.ensures.world in
+    let can : can_restore k ≡ true = sym c.in_ok-kept.ensures.some ∙ ap (λ (o : Option World). is_some o) c.in-Some.is in
+    let is : m ≡ restored_world k = subst (λ (o : Option World). IfSome o (λ p. p ≡ restored_world k)) c.in-Some.is c.in_ok-kept.ensures.world in
     subst (λ (o : Opening). IsKeptBy m.standing (whole_world o m)) (sym c.in_ok-opened.ensures) (restored_leaves k m can is)
 
 pub returns-clause-world : goal.returns-clause-world
 returns-clause-world c =
     let k : Checkpoint = c.args.checkpoint in
     let m : World = c.in-Some.kept in
-    let can : can_restore k ≡ true = sym c.in_ok-restored.ensures.some ∙ ap (λ (o : Option World). is_some o) c.in-Some.is in
-    let is : m ≡ restored_world k = subst (λ (o : Option World). IfSome o (λ p. p ≡ restored_world k)) c.in-Some.is c.in_ok-restored.ensures.world in
+    let can : can_restore k ≡ true = sym c.in_ok-kept.ensures.some ∙ ap (λ (o : Option World). is_some o) c.in-Some.is in
+    let is : m ≡ restored_world k = subst (λ (o : Option World). IfSome o (λ p. p ≡ restored_world k)) c.in-Some.is c.in_ok-kept.ensures.world in
     ap (λ (o : Opening). whole_world o m) c.in_ok-opened.ensures ∙ ap (whole_world (restored_world k).standing.history.opening) is ∙ restored_whole k can

@@ -18,7 +18,7 @@ complete -c stmrun -n __fish_use_subcommand -a threads -d 'Runs the starts of a 
 complete -c stmrun -n '__fish_seen_subcommand_from threads' -F
 complete -c stmrun -n '__fish_seen_subcommand_from threads' -l workers -d 'How many threads run the jobs, from 1 to 16' -x -a ''
 complete -c stmrun -n '__fish_seen_subcommand_from threads' -l store -d 'The file of a store that the jobs go on from, which is made where it is missing' -r -F
-complete -c stmrun -n '__fish_seen_subcommand_from threads' -l ends -d 'Whether a line is printed for the end of each job'
+complete -c stmrun -n '__fish_seen_subcommand_from threads' -l ends -d 'Whether the end of each job is printed, and how often commits failed over each key'
 complete -c stmrun -n '__fish_seen_subcommand_from threads' -l repeat -d 'How many runs are made, from 1 to 1000000, of which is printed what they come to, and how often' -x -a ''
 complete -c stmrun -n '__fish_seen_subcommand_from threads' -l explain -d 'Explains faults, of an input or of a run'
 complete -c stmrun -n '__fish_seen_subcommand_from threads' -a '--explain=never'

@@ -16,9 +16,6 @@ With --at its keys as they were at a revision are printed, and with --since what
 before END, by bytes, with --range. A revision that was compacted, or is yet to come, is refused with status 2.
 With --check the file is read whole: yes RECORDS BYTES says that it is as it was written, and no OFFSET Damaged or
 no OFFSET NoScenario that the record at that byte is not. Nothing behind such a record is served, and nothing is changed.
-With --compact the file is written anew, as one record without what is below the store's revision, or that of --since, and
-yes RECORDS BYTES says how long it is then: revisions, versions and leases stay as they were. Where a runner runs,
-or a watcher is open, it is refused with status 2.
 
 A store is kept in a file by stmrun script --store FILE, which makes it where it is missing:
 
@@ -59,8 +56,6 @@ pub enum Shown<'a> {
     Since(&'a str, Which<'a>),
     /// Whether its file is whole.
     Whole,
-    /// How many records its file has once what is below the revision of this word, or else the store's, is dropped.
-    Compacted(Option<&'a str>),
 }
 
 /// Of which keys the events are printed.
@@ -117,13 +112,6 @@ pub(crate) fn store_command<'a>(alloc: Global) -> Result<Command<'a>, AllocError
     let check = flag(alloc, "check", "Whether the file is whole")
         .conflicts_with("at")?
         .conflicts_with("since")?;
-    let compact = flag(
-        alloc,
-        "compact",
-        "Drop what is below the store's revision, or that of --since",
-    )
-    .conflicts_with("at")?
-    .conflicts_with("check")?;
     let format = option(
         alloc,
         "format",
@@ -134,15 +122,13 @@ pub(crate) fn store_command<'a>(alloc: Global) -> Result<Command<'a>, AllocError
     let format = format
         .conflicts_with("at")?
         .conflicts_with("since")?
-        .conflicts_with("check")?
-        .conflicts_with("compact")?;
+        .conflicts_with("check")?;
     let command = Command::new(alloc, "store")
         .about("Prints what a store that is kept in a file has")
         .after_long_help(EXAMPLE)
         .arg(required(alloc, "FILE", "The file of the store"))?
         .arg(format)?
-        .arg(check)?
-        .arg(compact)?;
+        .arg(check)?;
     with_past(alloc, command)
 }
 
@@ -187,9 +173,6 @@ fn shown_of<'a>(found: &ArgMatches<'a>) -> Shown<'a>
 {
     if flag_of(found, "check") {
         return Shown::Whole;
-    }
-    if flag_of(found, "compact") {
-        return Shown::Compacted(word_of(found, "since"));
     }
     if let Some(revision) = word_of(found, "at") {
         return Shown::At(revision);

@@ -90,7 +90,7 @@ pub(crate) fn threads_command<'a>(alloc: Global) -> Result<Command<'a>, AllocErr
         .arg(flag(
             alloc,
             "ends",
-            "Whether a line is printed for the end of each job",
+            "Whether the end of each job is printed, and how often commits failed over each key",
         ))?
         .arg(option(
             alloc,

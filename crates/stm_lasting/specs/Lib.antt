@@ -1,4 +1,2 @@
-pub mod CheckpointText
 pub mod Kept
 pub mod Laws
-pub mod Stages

@@ -4,10 +4,8 @@ ghost use Rattle.stm_frames.specs.Frame.{at_places};
 ghost use Rattle.stm_texts.specs.Opens.{setup_of, IsOpening};
 ghost use Rattle.stm_texts.specs.Reading.{scenario_in};
 ghost use Rattle.stm_world.specs.World.{opened, world_after};
-ghost use Rattle.stm_lasting.specs.CheckpointText.{checkpoint_in};
-ghost use Rattle.stm_lasting.specs.Kept.{taken, led, begun, begun_with, resumed, world_in};
+ghost use Rattle.stm_lasting.specs.Kept.{taken, led, begun, world_in};
 
-use crate::checkpoint_text::read_checkpoint;
 use std::alloc::{AllocError, Global};
 use stm_retry::World;
 use stm_texts::{ReadError, Scenario, opens_with, read_scenario};
@@ -19,17 +17,6 @@ pub(crate) enum ReplayFault {
     OutOfMemory,
     /// The record that stands at this offset spells no scenario.
     NoScenario(usize),
-}
-
-impl From<AllocError> for ReplayFault {
-    ghost use Rattle.std.specs.Prelude.{◌≡◌};
-    ghost use Rattle.stm_lasting.specs.declared.replay.ReplayFault.TheVariants.{OutOfMemory};
-
-    ghost from_gives = { λ _ e. e ≡ OutOfMemory };
-
-    fn from(_error: AllocError) -> ReplayFault {
-        ReplayFault::OutOfMemory
-    }
 }
 
 /// The bytes from an offset on: none, where it is past the end.
@@ -105,49 +92,16 @@ fn take_record(
     Ok(())
 }
 
-/// The world after a scenario with which a file begins.
-fn begun_world(alloc: Global, scenario: &Scenario) -> Result<World, ReplayFault>
-    requires { IsOpening scenario.now.opening }
-    ensures { IfOk result (λ w. begun (OkOf scenario.now) ≡ Some w) }
+/// The world after the first record, which stands at this place.
+fn first_world(alloc: Global, bytes: &[u8], place: &(usize, usize)) -> Result<World, ReplayFault>
+    ensures { IfOk result (λ w. begun (scenario_in (take place.now.1 (drop place.now.0 bytes.now))) ≡ Some w) }
 {
-    let Ok(mut world) = empty_world(alloc, scenario) else {
+    let scenario = read(alloc, record_at(bytes, place), place.0)?;
+    let Ok(mut world) = empty_world(alloc, &scenario) else {
         return Err(ReplayFault::OutOfMemory);
-    };
-    run_again(&mut world, scenario)?;
-    Ok(world)
-}
-
-/// The world that a checkpoint leads to.
-fn resumed_world(alloc: Global, text: &[u8], at: usize) -> Result<World, ReplayFault>
-    ensures { IfOk result (λ w. resumed (checkpoint_in text.now) ≡ Some w) }
-{
-    let Some((checkpoint, scenario)) = read_checkpoint(alloc, text)? else {
-        return Err(ReplayFault::NoScenario(at));
-    };
-    let Some(mut world) = World::restored(alloc, checkpoint)? else {
-        return Err(ReplayFault::NoScenario(at));
     };
     run_again(&mut world, &scenario)?;
     Ok(world)
-}
-
-/// The world that a text leads to with which a file begins, at this offset: a scenario, or a checkpoint.
-pub(crate) fn world_begun(alloc: Global, text: &[u8], at: usize) -> Result<World, ReplayFault>
-    ensures { IfOk result (λ w. begun_with (scenario_in text.now) text.now ≡ Some w) }
-{
-    match read_scenario(alloc, text) {
-        Ok(scenario) => begun_world(alloc, &scenario),
-        Err(ReadError::OutOfMemory) => Err(ReplayFault::OutOfMemory),
-        Err(ReadError::Bad(_)) => resumed_world(alloc, text, at),
-    }
-}
-
-/// The world after the first record, which stands at this place.
-fn first_world(alloc: Global, bytes: &[u8], place: &(usize, usize)) -> Result<World, ReplayFault>
-    ensures { IfOk result (λ w. begun_with (scenario_in (take place.now.1 (drop place.now.0 bytes.now))) (take place.now.1 (drop place.now.0 bytes.now))
-        ≡ Some w) }
-{
-    world_begun(alloc, record_at(bytes, place), place.0)
 }
 
 /// Takes the records of these places, one after another.

@@ -1,4 +1,3 @@
-pub mod Compacting
 pub mod Faults
 pub mod Jobs
 pub mod Past

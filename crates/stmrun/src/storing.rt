@@ -22,9 +22,9 @@ use stm_devices::Source;
 use stm_explain::Input;
 use stm_file_disk::{FileDisk, open};
 use stm_storing::{
-    HIGHEST_REVISION, InputFault, JobEnd, JobsAsked, Manner, Program, RecordFile, Scenario,
-    StoreFault, Text, Watched, check_kept, compact_kept, read_input, read_jobs, read_program,
-    run_anew, run_kept, script_kept, show_at, show_kept, show_since, threads_kept,
+    HIGHEST_REVISION, InputFault, JobsAsked, Manner, Program, RecordFile, Scenario, StoreFault,
+    Text, Watched, check_kept, read_input, read_jobs, read_program, run_anew, run_kept,
+    script_kept, show_at, show_kept, show_since, threads_kept,
 };
 use stm_threading::report_ends;
 
@@ -32,10 +32,7 @@ use stm_threading::report_ends;
 fn say_fault(rt: &HostRuntime, path: &str, fault: &StoreFault) -> u8 {
     let _ = eprintln!(rt; "stmrun: {path}: {fault}");
     match fault {
-        StoreFault::OpenAlready
-        | StoreFault::FutureRevision
-        | StoreFault::Compacted
-        | StoreFault::CannotCompact => 2,
+        StoreFault::OpenAlready | StoreFault::FutureRevision | StoreFault::Compacted => 2,
         _ => 3,
     }
 }
@@ -422,22 +419,6 @@ fn check(rt: &HostRuntime, store: &str) -> Result<(), u8> {
     if said { Ok(()) } else { Err(3) }
 }
 
-/// Drops what is below a revision of the store of a file, that of a word or else its own.
-fn compact(rt: &HostRuntime, store: &str, word: Option<&str>) -> Result<(), u8> {
-    let from = match word {
-        Some(word) => Some(revision_of(rt, word)?),
-        None => None,
-    };
-    let (mut records, bytes) = opened_there(rt, store)?;
-    match compact_kept(&mut records, bytes, from) {
-        Ok(checked) => {
-            let said = println!(rt; "yes {} {}", checked.records, checked.bytes);
-            if said.is_ok() { Ok(()) } else { Err(3) }
-        }
-        Err(fault) => Err(say_fault(rt, store, &fault)),
-    }
-}
-
 /// The status of what was done, or was not.
 fn status_of(done: Result<(), u8>) -> u8 {
     match done {
@@ -482,6 +463,5 @@ pub(crate) fn run_shown(rt: &HostRuntime, words: &StoreWords<'_>) -> u8 {
         Shown::At(revision) => show_past(rt, store, revision),
         Shown::Since(revision, which) => show_events(rt, store, revision, which),
         Shown::Whole => check(rt, store),
-        Shown::Compacted(from) => compact(rt, store, from),
     })
 }

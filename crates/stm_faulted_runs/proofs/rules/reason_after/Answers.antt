@@ -2,4 +2,4 @@ use Rattle.std.proofs.lemmas.Result.{IfOk-weaker}
 use Rattle.stm_faulted_runs.proofs.rules.reason_after.Goals as goal
 
 pub returns : goal.returns
-returns c = IfOk-weaker c.reason_on.result _ _ (λ said is. (c.in_ok-state.state, c.in_ok-state.ensures, is)) c.reason_on.ensures
+returns c = IfOk-weaker c.fault_on.result _ _ (λ said is. (c.in_ok-state.state, c.in_ok-state.ensures, is)) c.fault_on.ensures

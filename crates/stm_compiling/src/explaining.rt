@@ -11,7 +11,7 @@ use crate::more_faults::{MOST_MORE, Rest};
 use crate::naming::{is_called, said_of_function, said_of_place};
 use crate::other_kinds::said_of_value;
 use crate::spots::{Event, Place, Spot, spot_at};
-use crate::titles::said_of_names;
+use crate::titles::{near_name, said_of_names};
 use crate::wanted::{
     EVENTS, STATEMENT, Wanted, allowed, is_behind_condition_word, nearest, numbers_at, wanted_at,
 };
@@ -318,6 +318,15 @@ fn said_of_name(source: &[u8], spot: Spot<'_>) -> &'static str {
     }
 }
 
+/// Which name given above is nearest to one that is none, in words; nothing where none is near.
+fn near_words(alloc: Global, spot: Spot<'_>) -> Result<String, AllocError> {
+    let near = near_name(alloc, name_in(spot), spot)?;
+    if near.is_empty() {
+        return Ok(String::new(alloc));
+    }
+    format!(in alloc; "; the nearest above is {near}")
+}
+
 /// What is said of a name that cannot stand in its place.
 fn name_words(
     alloc: Global,
@@ -325,15 +334,16 @@ fn name_words(
     found: &str,
     spot: Spot<'_>,
 ) -> Result<String, AllocError> {
-    let said = said_of_name(source, spot);
-    if !said.is_empty() {
-        return format!(in alloc; "{found} is no name of anything here: {said}");
-    }
     if let Some(said) = said_of_names(alloc, found, name_in(spot), spot)? {
         return Ok(said);
     }
+    let near = near_words(alloc, spot)?;
+    let said = said_of_name(source, spot);
+    if !said.is_empty() {
+        return format!(in alloc; "{found} is no name of anything here: {said}{near}");
+    }
     let said = said_of_place(spot);
-    format!(in alloc; "{found} {said}")
+    format!(in alloc; "{found} {said}{near}")
 }
 
 /// What is said of a number that is out of range.

@@ -1,4 +1,4 @@
-//! The faults of a source behind its first one: those of what is left where each part with a fault is left out.
+//! The faults of a source behind its first one: those of what is left where the line of each fault is left out, if it has whole statements, and else the part.
 //!
 //! A part begins in the first column, with a word that begins an event, a program, a rule or a definition. Of one whose fault stands in braces the head stays,
 //! so that it can be named.
@@ -68,6 +68,39 @@ fn part_at(text: &str, at: usize) -> Part {
         from,
         to: text.len(),
     }
+}
+
+/// The line in which a byte stands.
+fn line_at(text: &str, at: usize) -> Part {
+    let from = match between(text, 0, at).rsplit_once('\n') {
+        Some((front, _)) => front.len().saturating_add(1),
+        None => 0,
+    };
+    let length = match between(text, at, text.len()).split_once('\n') {
+        Some((rest, _)) => rest.len(),
+        None => text.len().saturating_sub(at),
+    };
+    Part {
+        from,
+        to: at.saturating_add(length),
+    }
+}
+
+/// Whether a line has as many braces that close as that open, none before it was opened.
+fn is_whole(line: &str) -> bool {
+    let mut open = 0usize;
+    for byte in line.as_bytes() {
+        if *byte == b'{' {
+            open = open.saturating_add(1);
+        }
+        if *byte == b'}' && open == 0 {
+            return false;
+        }
+        if *byte == b'}' {
+            open = open.saturating_sub(1);
+        }
+    }
+    open == 0
 }
 
 /// What stays of a part with a fault so many bytes behind its beginning, and what may have been named elsewhere of that which does not.
@@ -147,17 +180,25 @@ impl Rest {
         })
     }
 
-    /// Leaves out the part in which a byte stands.
+    /// Leaves out the line of a byte, where it has whole statements and does not begin a part, else the part in which it stands.
     fn leave_out(&mut self, alloc: Global, at: usize) -> Result<(), AllocError> {
         let text = self.text.as_str();
         let part = part_at(text, at);
-        let (head, sign, gone) = parted(
-            between(text, part.from, part.to),
-            at.saturating_sub(part.from),
-        );
+        let line = line_at(text, at);
+        let (cut, head, sign, gone) = if part.from < line.from
+            && is_whole(between(text, line.from, line.to))
+        {
+            (line, "", "", between(text, line.from, line.to))
+        } else {
+            let (head, sign, gone) = parted(
+                between(text, part.from, part.to),
+                at.saturating_sub(part.from),
+            );
+            (part, head, sign, gone)
+        };
         self.gone.push_str(" ")?;
         self.gone.push_str(gone)?;
-        self.text = without(alloc, text, part, head, sign)?;
+        self.text = without(alloc, text, cut, head, sign)?;
         Ok(())
     }
 

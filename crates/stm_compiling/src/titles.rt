@@ -2,7 +2,7 @@
 
 use crate::naming::is_awaited;
 use crate::spots::{Event, Place, Spot};
-use crate::wanted::allowed;
+use crate::wanted::{allowed, nearest};
 use std::alloc::{AllocError, Global};
 use stm_tokens::{Symbol, Token, TokenKind, Word, tokens_of};
 
@@ -44,6 +44,11 @@ fn programs_of(alloc: Global, tokens: &[Token]) -> Result<Vec<&str>, AllocError>
     Ok(programs)
 }
 
+/// Whether a name that stands behind this token is given there.
+fn gives_name(kind: &TokenKind) -> bool {
+    matches!(kind, TokenKind::Word(Word::Let | Word::For | Word::Program))
+}
+
 /// The names of runners among tokens, in their order.
 fn runners_of(alloc: Global, tokens: &[Token]) -> Result<Vec<&str>, AllocError> {
     let mut runners = Vec::new(alloc);
@@ -61,6 +66,35 @@ fn runners_of(alloc: Global, tokens: &[Token]) -> Result<Vec<&str>, AllocError> 
         }
     }
     Ok(runners)
+}
+
+/// The names that a `let`, a `for` or a head gives before a token.
+fn given_names<'a>(alloc: Global, spot: Spot<'a>) -> Result<Vec<&'a str>, AllocError> {
+    let mut names = Vec::new(alloc);
+    let mut gives = false;
+    for token in spot.before {
+        if let (true, TokenKind::Name(name)) = (gives, &token.kind) {
+            names.push(name.as_str())?;
+        }
+        gives = gives_name(&token.kind);
+    }
+    Ok(names)
+}
+
+/// The name given before it that is nearest to one that stands there, if it has at least three characters; an empty one where none is near.
+pub(crate) fn near_name<'a>(
+    alloc: Global,
+    name: &str,
+    spot: Spot<'a>,
+) -> Result<&'a str, AllocError> {
+    if name.len() < 3 {
+        return Ok("");
+    }
+    let names = given_names(alloc, spot)?;
+    if is_among(names.as_slice(), name) {
+        return Ok("");
+    }
+    nearest(alloc, names.as_slice(), name)
 }
 
 /// Whether a name is among these.

@@ -86,21 +86,52 @@ fn line_at(text: &str, at: usize) -> Part {
     }
 }
 
-/// Whether a line has as many braces that close as that open, none before it was opened.
-fn is_whole(line: &str) -> bool {
+/// What a bracket adds to and takes from those that are open; none, where one closes that was not opened.
+fn open_after(open: usize, byte: u8) -> Option<usize> {
+    match byte {
+        b'{' | b'(' => Some(open.saturating_add(1)),
+        b'}' | b')' => open.checked_sub(1),
+        _ => Some(open),
+    }
+}
+
+/// Whether a line opens as many brackets as it closes, none of them before it was opened.
+fn is_balanced(line: &str) -> bool {
     let mut open = 0usize;
     for byte in line.as_bytes() {
-        if *byte == b'{' {
-            open = open.saturating_add(1);
-        }
-        if *byte == b'}' && open == 0 {
-            return false;
-        }
-        if *byte == b'}' {
-            open = open.saturating_sub(1);
+        match open_after(open, *byte) {
+            Some(more) => open = more,
+            None => return false,
         }
     }
     open == 0
+}
+
+/// Whether a byte can be the last one of a statement.
+fn can_end(byte: u8) -> bool {
+    byte.is_ascii_alphanumeric() || matches!(byte, b')' | b'}' | b'"' | b';')
+}
+
+/// Whether a line without a comment begins with a word, as a statement does, and ends as one can.
+fn is_between_words(line: &str) -> bool {
+    let (Some(first), Some(last)) = (line.as_bytes().first(), line.as_bytes().last()) else {
+        return false;
+    };
+    first.is_ascii_alphabetic() && can_end(*last) && !line.contains("//")
+}
+
+/// Whether what stands behind a line begins with a word, a comment or the end of a block.
+fn begins_anew(text: &str) -> bool {
+    match text.trim_start().as_bytes().first() {
+        Some(byte) => byte.is_ascii_alphabetic() || matches!(*byte, b'}' | b'/'),
+        None => false,
+    }
+}
+
+/// Whether a line of a text has whole statements, and none goes on behind it.
+fn is_whole(text: &str, line: Part) -> bool {
+    let words = between(text, line.from, line.to).trim();
+    is_balanced(words) && is_between_words(words) && begins_anew(between(text, line.to, text.len()))
 }
 
 /// What stays of a part with a fault so many bytes behind its beginning, and what may have been named elsewhere of that which does not.
@@ -185,9 +216,7 @@ impl Rest {
         let text = self.text.as_str();
         let part = part_at(text, at);
         let line = line_at(text, at);
-        let (cut, head, sign, gone) = if part.from < line.from
-            && is_whole(between(text, line.from, line.to))
-        {
+        let (cut, head, sign, gone) = if part.from < line.from && is_whole(text, line) {
             (line, "", "", between(text, line.from, line.to))
         } else {
             let (head, sign, gone) = parted(

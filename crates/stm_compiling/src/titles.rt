@@ -1,5 +1,6 @@
 //! The names that a source gives to its programs, rules and runners.
 
+use crate::kept::items_of;
 use crate::naming::is_awaited;
 use crate::spots::{Event, Place, Spot};
 use crate::wanted::{allowed, nearest};
@@ -44,11 +45,6 @@ fn programs_of(alloc: Global, tokens: &[Token]) -> Result<Vec<&str>, AllocError>
     Ok(programs)
 }
 
-/// Whether a name that stands behind this token is given there.
-fn gives_name(kind: &TokenKind) -> bool {
-    matches!(kind, TokenKind::Word(Word::Let | Word::For | Word::Program))
-}
-
 /// The names of runners among tokens, in their order.
 fn runners_of(alloc: Global, tokens: &[Token]) -> Result<Vec<&str>, AllocError> {
     let mut runners = Vec::new(alloc);
@@ -68,16 +64,57 @@ fn runners_of(alloc: Global, tokens: &[Token]) -> Result<Vec<&str>, AllocError> 
     Ok(runners)
 }
 
-/// The names that a `let`, a `for` or a head gives before a token.
-fn given_names<'a>(alloc: Global, spot: Spot<'a>) -> Result<Vec<&'a str>, AllocError> {
-    let mut names = Vec::new(alloc);
+/// Whether a name that stands behind this token is given there.
+fn gives_name(kind: &TokenKind) -> bool {
+    matches!(kind, TokenKind::Word(Word::Let | Word::For))
+}
+
+/// Whether a head with parameters is that of the item which these tokens begin.
+fn has_parameters(item: &[Token]) -> bool {
+    match item.first() {
+        Some(token) => matches!(token.kind, TokenKind::Word(Word::Let | Word::Program)),
+        None => false,
+    }
+}
+
+/// Adds the names that the head of an item gives to parameters, and its statements to variables.
+fn push_inner<'a>(names: &mut Vec<&'a str>, item: &'a [Token]) -> Result<(), AllocError> {
+    let mut is_head = has_parameters(item);
     let mut gives = false;
-    for token in spot.before {
-        if let (true, TokenKind::Name(name)) = (gives, &token.kind) {
+    for token in item.iter().skip(2) {
+        let ends = token.kind.is_symbol(Symbol::LeftBrace) || token.kind.is_symbol(Symbol::Assign);
+        is_head = is_head && !ends;
+        if let (true, TokenKind::Name(name)) = (is_head || gives, &token.kind) {
             names.push(name.as_str())?;
         }
         gives = gives_name(&token.kind);
     }
+    Ok(())
+}
+
+/// Adds the name that a `let` outside of programs gives.
+fn push_outer<'a>(names: &mut Vec<&'a str>, item: &'a [Token]) -> Result<(), AllocError> {
+    if let [first, second, ..] = item {
+        if let (true, TokenKind::Name(name)) = (first.kind.is_word(Word::Let), &second.kind) {
+            names.push(name.as_str())?;
+        }
+    }
+    Ok(())
+}
+
+/// The names that are given before a token in the item to which it belongs, and outside of programs in those before that.
+fn given_names<'a>(alloc: Global, spot: Spot<'a>) -> Result<Vec<&'a str>, AllocError> {
+    let items = items_of(alloc, spot.before)?;
+    let mut names = Vec::new(alloc);
+    let mut from = 0usize;
+    for begun in items.as_slice() {
+        push_outer(
+            &mut names,
+            spot.before.get(from..begun.place).unwrap_or(&[]),
+        )?;
+        from = begun.place;
+    }
+    push_inner(&mut names, spot.before.get(from..).unwrap_or(&[]))?;
     Ok(names)
 }
 

@@ -24,6 +24,7 @@ use stm_devices::Source;
 use stm_explain::{Input, explained_at};
 use stm_faulted_runs::{State, fault_on};
 use stm_file_disk::{FileDisk, open};
+use stm_lasting::Kept;
 use stm_storing::{
     HIGHEST_REVISION, InputFault, JobEnd, JobsAsked, Manner, Program, RecordFile, Scenario,
     StoreFault, Text, Watched, check_kept, read_input, read_jobs, read_program, run_anew, run_kept,
@@ -243,19 +244,16 @@ fn run_jobs<T: Threads + Wait + Sync>(
     }
 }
 
-/// The line of a run that has not committed.
-type Line = Vec<u8>;
-
 /// Runs a program over the store of a file that is not there, which is not made. Where it would not commit, its line was printed, and is given.
 fn tried(
     rt: &HostRuntime,
     store: &str,
     program: Program,
     manner: Manner,
-) -> Result<Option<Line>, u8> {
+) -> Result<Option<Vec<u8>>, u8> {
     let mut out = Std::new(Noting::new(Keeping::new(rt.alloc(), rt.stdout())));
     let would = run_anew(rt.alloc(), program, manner, &mut out);
-    say_unwritten(rt, out.device.failure);
+    say_unwritten(rt, out.device.failure.take());
     match would {
         Ok(true) => Ok(None),
         Ok(false) => Ok(Some(out.device.into_device().bytes)),
@@ -270,11 +268,11 @@ fn ran(
     text: &[u8],
     program: Program,
     manner: Manner,
-) -> Result<Option<Line>, u8> {
+) -> Result<Option<Vec<u8>>, u8> {
     let (mut records, bytes) = opened(rt, store)?;
     let mut out = Std::new(Noting::new(Keeping::new(rt.alloc(), rt.stdout())));
     let ran = run_kept(&mut records, bytes, text, program, manner, &mut out);
-    say_unwritten(rt, out.device.failure);
+    say_unwritten(rt, out.device.failure.take());
     match ran {
         Ok(true) => Ok(None),
         Ok(false) => Ok(Some(out.device.into_device().bytes)),
@@ -297,7 +295,7 @@ fn run_over(
     text: &[u8],
     program: &Program,
     manner: Manner,
-) -> Result<Option<Line>, u8> {
+) -> Result<Option<Vec<u8>>, u8> {
     if is_missing(rt, store) {
         let line = tried(rt, store, copy_of(rt, program)?, manner)?;
         if line.is_some() {
@@ -315,20 +313,27 @@ fn is_faulted(line: &[u8]) -> bool {
     }
 }
 
+/// The state of the store of a world.
+fn state_kept(kept: Kept) -> Option<State> {
+    let state = kept.world.state();
+    drop(kept);
+    state.ok()
+}
+
 /// The state of the store of a file, empty where that is not there; none, where it cannot be had.
 fn state_of(rt: &HostRuntime, store: &str) -> Option<State> {
     if is_missing(rt, store) {
         return Some(State::new(rt.alloc()));
     }
-    let Ok((mut records, bytes)) = opened(rt, store) else {
-        return None;
-    };
-    let Ok(kept) = stm_lasting::open(rt.alloc(), &mut records.disk, bytes) else {
-        return None;
-    };
-    let state = kept.world.state();
-    drop(kept);
-    state.ok()
+    match opened(rt, store) {
+        Ok((mut records, bytes)) => {
+            match stm_lasting::open(rt.alloc(), &mut records.disk, bytes) {
+                Ok(kept) => state_kept(kept),
+                Err(_) => None,
+            }
+        }
+        Err(_) => None,
+    }
 }
 
 /// The fault to which a program comes, run alone over the store of a file, its place, and why: `FAULT at POINTER: REASON`; nothing, where it comes to none now,

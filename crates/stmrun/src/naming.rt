@@ -3,6 +3,12 @@
 use std::alloc::{AllocError, Global};
 use stm_compiling::{NamedRunner, name_of_runner};
 
+/// What stands in a line before the key by which a final asks how a runner ended, and its `#`.
+const ASKED: &str = "the key \"#";
+
+/// What is said behind a key whose value is "".
+const EMPTY: &str = " is absent, or its value \"\"";
+
 /// How lines call runners.
 #[derive(Clone, Copy)]
 pub(crate) struct Called {
@@ -67,9 +73,63 @@ fn push_runner(
     }
 }
 
-/// A line with the names of the runners that it is about, where their source gives them some. Behind a quote stand words of others, in which nothing is
-/// the number of a runner.
+/// What a final asks for by a key that is laid over the state, of which this stands behind its `#`: `end(NAME)`, `why(NAME)` or `out(NAME, PLACE)`; nothing of
+/// another key.
+fn asked_by(
+    alloc: Global,
+    runners: &[NamedRunner],
+    key: &str,
+) -> Result<Option<String>, AllocError> {
+    let Some((word, rest)) = key.split_once('/') else {
+        return Ok(None);
+    };
+    let (digits, place) = digits_of(rest);
+    let name = name_in(runners, 1, digits).unwrap_or(digits);
+    let asked = match (word, place.strip_prefix('/')) {
+        ("end" | "why", None) => format!(in alloc; "{word}({name})")?,
+        ("out", Some(place)) => format!(in alloc; "out({name}, {place})")?,
+        _ => return Ok(None),
+    };
+    Ok(Some(asked))
+}
+
+/// A line of a final's fault with what its source has in the place of the key that it says; nothing of another line.
+fn with_asked(
+    alloc: Global,
+    runners: &[NamedRunner],
+    line: &str,
+) -> Result<Option<String>, AllocError> {
+    let Some((front, behind)) = line.split_once(ASKED) else {
+        return Ok(None);
+    };
+    let Some((key, rest)) = behind.split_once('"') else {
+        return Ok(None);
+    };
+    match asked_by(alloc, runners, key)? {
+        Some(asked) => {
+            let rest = if rest == EMPTY { " is \"\"" } else { rest };
+            let line = format!(in alloc; "{front}{asked}{rest}")?;
+            Ok(Some(line))
+        }
+        None => Ok(None),
+    }
+}
+
+/// A line with the names of the runners that it is about, where their source gives them some, and with what a final asks for.
 pub(crate) fn with_names(
+    alloc: Global,
+    called: Called,
+    runners: &[NamedRunner],
+    line: &str,
+) -> Result<String, AllocError> {
+    match with_asked(alloc, runners, line)? {
+        Some(line) => named_in(alloc, called, runners, line.as_str()),
+        None => named_in(alloc, called, runners, line),
+    }
+}
+
+/// A line with the names of the runners that it is about. Behind a quote stand words of others, in which nothing is the number of a runner.
+fn named_in(
     alloc: Global,
     called: Called,
     runners: &[NamedRunner],

@@ -488,10 +488,12 @@ pub(crate) fn program_at<'a>(
         say_unread(rt, name_of(path), input.source.device.failure);
     }
     let file = line_of(rt, path, printed?)?;
-    Ok(GivenProgram {
-        file,
-        text: String::from_utf8(input.bytes).ok(),
-    })
+    let text = if input.is_cut {
+        None
+    } else {
+        String::from_utf8(input.bytes).ok()
+    };
+    Ok(GivenProgram { file, text })
 }
 
 /// Says a line `FAULT at POINTER: REASON` of a run of a program of a path's source, with its place in the source and the line there.

@@ -93,6 +93,7 @@ fn said_of_word(word: &str) -> &'static str {
         "delete" => "a key is deleted by del(KEY)",
         "print" | "println" => "a value is put out by emit(VALUE)",
         "panic" | "error" | "throw" => "a run is broken off by abort(TEXT)",
+        "with" => "a lease is the last value of put(KEY, VALUE, LEASE)",
         _ => "",
     }
 }

@@ -266,6 +266,21 @@ fn no_such_word(
     format!(in alloc; "{found} is no {noun}: {list}")
 }
 
+/// Which line ends before a token that begins the next one, in parentheses that are still open; nothing elsewhere.
+fn line_without(alloc: Global, source: &[u8], spot: Spot<'_>) -> Result<String, AllocError> {
+    if let (Place::Parentheses, Some(before), Some(token)) = (
+        spot.place(),
+        spot.before.last(),
+        spot.from.first(),
+    ) {
+        let line = position_in(source, before.at).line;
+        if line < position_in(source, token.at).line {
+            return format!(in alloc; "; line {line} ends without it");
+        }
+    }
+    Ok(String::new(alloc))
+}
+
 /// What is said of a token in whose place another one is wanted.
 fn syntax_words(
     alloc: Global,
@@ -287,7 +302,8 @@ fn syntax_words(
         }
         Wanted::Said(wanted) => format!(in alloc; "found {found}, where {wanted} is wanted"),
         Wanted::OperatorOr(wanted) => {
-            format!(in alloc; "found {found}, where an operator, or {wanted} is wanted")
+            let line = line_without(alloc, source, spot)?;
+            format!(in alloc; "found {found}, where an operator, or {wanted} is wanted{line}")
         }
     }
 }

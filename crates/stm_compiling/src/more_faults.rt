@@ -128,10 +128,27 @@ fn begins_anew(text: &str) -> bool {
     }
 }
 
-/// Whether a line of a text has whole statements, and none goes on behind it.
-fn is_whole(text: &str, line: Part) -> bool {
+/// Whether a text closes all parentheses that it opens.
+fn closes_all(text: &str) -> bool {
+    let mut open = 0usize;
+    for byte in text.as_bytes() {
+        if *byte == b'(' {
+            open = open.saturating_add(1);
+        }
+        if *byte == b')' {
+            open = open.saturating_sub(1);
+        }
+    }
+    open == 0
+}
+
+/// Whether a line of a part of a text has whole statements: none goes on into it, and none behind it.
+fn is_whole(text: &str, part: Part, line: Part) -> bool {
     let words = between(text, line.from, line.to).trim();
-    is_balanced(words) && is_between_words(words) && begins_anew(between(text, line.to, text.len()))
+    is_balanced(words)
+        && is_between_words(words)
+        && closes_all(between(text, part.from, line.from))
+        && begins_anew(between(text, line.to, text.len()))
 }
 
 /// What stays of a part with a fault so many bytes behind its beginning, and what may have been named elsewhere of that which does not.
@@ -216,7 +233,7 @@ impl Rest {
         let text = self.text.as_str();
         let part = part_at(text, at);
         let line = line_at(text, at);
-        let (cut, head, sign, gone) = if part.from < line.from && is_whole(text, line) {
+        let (cut, head, sign, gone) = if part.from < line.from && is_whole(text, part, line) {
             (line, "", "", between(text, line.from, line.to))
         } else {
             let (head, sign, gone) = parted(

@@ -85,12 +85,22 @@ fn asked_by(
     };
     let (digits, place) = digits_of(rest);
     let name = name_in(runners, 1, digits).unwrap_or(digits);
-    let asked = match (word, place.strip_prefix('/')) {
-        ("end" | "why", None) => format!(in alloc; "{word}({name})")?,
-        ("out", Some(place)) => format!(in alloc; "out({name}, {place})")?,
-        _ => return Ok(None),
-    };
-    Ok(Some(asked))
+    match (word, place.strip_prefix('/')) {
+        ("end" | "why", None) => {
+            let asked = format!(in alloc; "{word}({name})")?;
+            Ok(Some(asked))
+        }
+        ("out", Some(place)) => {
+            let asked = format!(in alloc; "out({name}, {place})")?;
+            Ok(Some(asked))
+        }
+        _ => Ok(None),
+    }
+}
+
+/// What stands behind what a final asks for, where this stands behind its key.
+fn behind_asked(rest: &str) -> &str {
+    if rest == EMPTY { " is \"\"" } else { rest }
 }
 
 /// A line of a final's fault with what its source has in the place of the key that it says; nothing of another line.
@@ -107,7 +117,7 @@ fn with_asked(
     };
     match asked_by(alloc, runners, key)? {
         Some(asked) => {
-            let rest = if rest == EMPTY { " is \"\"" } else { rest };
+            let rest = behind_asked(rest);
             let line = format!(in alloc; "{front}{asked}{rest}")?;
             Ok(Some(line))
         }

@@ -458,6 +458,12 @@ fn say_part(
     status
 }
 
+/// A copy of a text, where there is one; none, where an allocation fails.
+fn copy_of(rt: &HostRuntime, text: Option<&str>) -> Option<String> {
+    let text = text?;
+    String::from_str(rt.alloc(), text).ok()
+}
+
 /// A program that is read as JSON, and the text of the source that has it, where one has.
 #[derive(Drop)]
 pub(crate) struct GivenProgram<'a> {
@@ -488,11 +494,7 @@ pub(crate) fn program_at<'a>(
         say_unread(rt, name_of(path), input.source.device.failure);
     }
     let file = line_of(rt, path, printed?)?;
-    let text = if input.is_cut {
-        None
-    } else {
-        String::from_utf8(input.bytes).ok()
-    };
+    let text = copy_of(rt, input.text());
     Ok(GivenProgram { file, text })
 }
 

@@ -163,6 +163,40 @@ fn parted(part: &str, fault: usize) -> (&str, &'static str, &str) {
     }
 }
 
+/// What is left out of a text.
+#[derive(Clone, Copy)]
+struct Cut<'a> {
+    /// Where it stands.
+    part: Part,
+    /// The front of it that stays, and what stands for the rest.
+    head: &'a str,
+    sign: &'static str,
+    /// What of it may have been named elsewhere.
+    gone: &'a str,
+}
+
+/// What is left out for a fault at a byte: its line, where that has whole statements and does not begin a part, else the part in which it stands.
+fn cut_at(text: &str, at: usize) -> Cut<'_> {
+    let part = part_at(text, at);
+    let line = line_at(text, at);
+    if part.from < line.from && is_whole(text, part, line) {
+        return Cut {
+            part: line,
+            head: "",
+            sign: "",
+            gone: between(text, line.from, line.to),
+        };
+    }
+    let within = at.saturating_sub(part.from);
+    let (head, sign, gone) = parted(between(text, part.from, part.to), within);
+    Cut {
+        part,
+        head,
+        sign,
+        gone,
+    }
+}
+
 /// Adds spaces in the place of bytes, and their line feeds.
 fn push_blank(out: &mut String, bytes: &[u8]) -> Result<(), AllocError> {
     for byte in bytes {
@@ -231,20 +265,10 @@ impl Rest {
     /// Leaves out the line of a byte, where it has whole statements and does not begin a part, else the part in which it stands.
     fn leave_out(&mut self, alloc: Global, at: usize) -> Result<(), AllocError> {
         let text = self.text.as_str();
-        let part = part_at(text, at);
-        let line = line_at(text, at);
-        let (cut, head, sign, gone) = if part.from < line.from && is_whole(text, part, line) {
-            (line, "", "", between(text, line.from, line.to))
-        } else {
-            let (head, sign, gone) = parted(
-                between(text, part.from, part.to),
-                at.saturating_sub(part.from),
-            );
-            (part, head, sign, gone)
-        };
+        let cut = cut_at(text, at);
         self.gone.push_str(" ")?;
-        self.gone.push_str(gone)?;
-        self.text = without(alloc, text, cut, head, sign)?;
+        self.gone.push_str(cut.gone)?;
+        self.text = without(alloc, text, cut.part, cut.head, cut.sign)?;
         Ok(())
     }
 

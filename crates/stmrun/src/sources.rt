@@ -490,11 +490,11 @@ pub(crate) fn program_at<'a>(
         Ok(printed) => Ok(printed.line),
         Err(status) => Err(say_part(rt, path, part, status, &err, input.text())),
     };
+    let text = copy_of(rt, input.text());
     if explain {
         say_unread(rt, name_of(path), input.source.device.failure);
     }
     let file = line_of(rt, path, printed?)?;
-    let text = copy_of(rt, input.text());
     Ok(GivenProgram { file, text })
 }
 

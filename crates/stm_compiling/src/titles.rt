@@ -1,5 +1,6 @@
 //! The names that a source gives to its programs, rules and runners.
 
+use crate::calls::is_asked;
 use crate::kept::items_of;
 use crate::naming::is_awaited;
 use crate::spots::{Event, Place, Spot};
@@ -173,16 +174,6 @@ pub fn unknown_in(alloc: Global, source: &[u8], name: &str) -> Result<Option<Str
     let titles = titles_of(alloc, tokens.as_slice())?;
     let words = others_of(alloc, titles.as_slice(), name)?;
     Ok(words)
-}
-
-/// Whether a place is that of a runner whose end is asked.
-fn is_asked(spot: Spot<'_>) -> bool {
-    match spot.call() {
-        Some(call) => {
-            call.word.is_named("end") || call.word.is_named("why") || call.word.is_named("out")
-        }
-        None => false,
-    }
 }
 
 /// Whether a place is that of a runner.

@@ -73,19 +73,14 @@ fn push_runner(
     }
 }
 
-/// What a final asks for by a key that is laid over the state, of which this stands behind its `#`: `end(NAME)`, `why(NAME)` or `out(NAME, PLACE)`; nothing of
-/// another key.
-fn asked_by(
+/// What a final asks for of a runner: `end(NAME)`, `why(NAME)` or `out(NAME, PLACE)`; nothing, where a word and what stands behind a number are none of it.
+fn asked_of(
     alloc: Global,
-    runners: &[NamedRunner],
-    key: &str,
+    word: &str,
+    name: &str,
+    behind: &str,
 ) -> Result<Option<String>, AllocError> {
-    let Some((word, rest)) = key.split_once('/') else {
-        return Ok(None);
-    };
-    let (digits, place) = digits_of(rest);
-    let name = name_in(runners, 1, digits).unwrap_or(digits);
-    match (word, place.strip_prefix('/')) {
+    match (word, behind.strip_prefix('/')) {
         ("end" | "why", None) => {
             let asked = format!(in alloc; "{word}({name})")?;
             Ok(Some(asked))
@@ -95,6 +90,22 @@ fn asked_by(
             Ok(Some(asked))
         }
         _ => Ok(None),
+    }
+}
+
+/// The same by a key that is laid over the state, of which this stands behind its `#`.
+fn asked_by(
+    alloc: Global,
+    runners: &[NamedRunner],
+    key: &str,
+) -> Result<Option<String>, AllocError> {
+    let Some((word, rest)) = key.split_once('/') else {
+        return Ok(None);
+    };
+    let (digits, behind) = digits_of(rest);
+    match name_in(runners, 1, digits) {
+        Some(name) => asked_of(alloc, word, name, behind),
+        None => asked_of(alloc, word, digits, behind),
     }
 }
 

@@ -10,9 +10,9 @@ use std::io::Input;
 use std::rt::Files;
 use stm_commands::{RunnerLabel, Std};
 use stm_compiling::{
-    Beside, CalledRunner, Compiled, NamedRunner, Part, PlacedLine, Refused, Rule, SourcePlaces,
-    Wait, called_runners, compile_to, compiled, compiled_part, named_runners, notes_of,
-    placed_program, refused_in,
+    Beside, CalledRunner, Compiled, NamedRunner, Part, PlacedLine, Printed, Refused, Rule,
+    SourcePlaces, Wait, called_runners, compile_to, compiled, compiled_part, named_runners,
+    notes_of, placed_program, refused_in,
 };
 use stm_devices::{ReadFault, read_all};
 use stm_history::{Sequence, Text};
@@ -487,7 +487,7 @@ pub(crate) fn program_at<'a>(
     let part = Part::Program { name, words };
     let explained = explained_name(path, explain);
     let printed = match compiled_part(rt.alloc(), part, explained, &mut input, &mut err) {
-        Ok(printed) => Ok(printed.line),
+        Ok(Printed { line, .. }) => Ok(line),
         Err(status) => Err(say_part(rt, path, part, status, &err, input.text())),
     };
     let text = copy_of(rt, input.text());

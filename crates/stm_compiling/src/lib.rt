@@ -10,6 +10,7 @@ mod command;
 mod elses;
 mod explaining;
 mod fault;
+mod habits;
 mod kept;
 mod labels;
 mod line;

@@ -49,6 +49,14 @@ pub(crate) struct Spot<'a> {
     pub(crate) from: &'a [Token],
 }
 
+/// The name in a place; an empty one where none stands there.
+pub(crate) fn name_in(spot: Spot<'_>) -> &str {
+    match spot.kind() {
+        Some(TokenKind::Name(name)) => name.as_str(),
+        _ => "",
+    }
+}
+
 /// How many of these tokens begin before a byte.
 fn count_before(tokens: &[Token], at: usize) -> usize {
     for (index, token) in tokens.iter().enumerate() {

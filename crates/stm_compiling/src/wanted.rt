@@ -1,6 +1,6 @@
 //! What is wanted in a place of a source.
 
-use crate::calls::{behind_value, is_parameter, value_in};
+use crate::calls::{behind_asked, behind_value, is_asked, is_parameter, value_in};
 use crate::spots::{Event, Place, Spot};
 use std::alloc::{AllocError, Global};
 use stm_program::Operator;
@@ -39,6 +39,11 @@ const LEVELS: [&str; 4] = [
     "Serializable",
     "SerializableSnapshot",
 ];
+
+/// Whether a word is a level.
+pub(crate) fn is_level(word: &str) -> bool {
+    LEVELS.iter().any(|level| *level == word)
+}
 
 /// What is wanted in a place.
 #[derive(Clone, Copy)]
@@ -267,6 +272,9 @@ fn in_parentheses(spot: Spot<'_>) -> Wanted {
     }
     if is_behind_operator(spot) {
         return Wanted::Said("a value");
+    }
+    if is_asked(spot) {
+        return Wanted::Said(behind_asked(spot));
     }
     if is_parameter(spot) {
         return Wanted::Said(

@@ -262,31 +262,27 @@ copy_at block scope name room item tokens = block (with_room (with_item scope na
 abbrev pub copies_room : ℕ → ℕ → ℕ
 copies_room room left = if nat_eq left room then 0 else left
 
--- the same; those with marks were read before without them
-abbrev pub copy_room : Around → ℕ → Sources → ℕ
-copy_room around room copy = if around.marks then room else copies_room room (parts_left room copy)
-
 -- behind these, those for each item, read of the same tokens, while there may be more nodes; those for the first in any case
-abbrev pub copies_from : (ℕ → Item → List Token → Read Sources) → Around → List Token → ℕ → List Sources → List Item → List Token → Read (List Sources)
-copies_from copy around tokens room done [] rest = Ok (done, rest)
-copies_from copy around tokens room done (i ∷ is) rest =
+abbrev pub copies_from : (ℕ → Item → List Token → Read Sources) → List Token → ℕ → List Sources → List Item → List Token → Read (List Sources)
+copies_from copy tokens room done [] rest = Ok (done, rest)
+copies_from copy tokens room done (i ∷ is) rest =
     if nat_eq room 0 && nat_lt 0 (length done) then Ok (done, rest)
-    else (copy room i tokens >>= λ c. copies_from copy around tokens (copy_room around room c.0) (done ++ c.0 ∷ []) is c.1)
+    else (copy room i tokens >>= λ c. copies_from copy tokens (copies_room room (parts_left room c.0)) (done ++ c.0 ∷ []) is c.1)
 
 -- where there is no item, the block is read and left out
-abbrev pub copies_at : Around → Blocks → Scope → List ℕ → List Item → List Token → Read (List Source)
-copies_at around block scope name [] tokens = copy_at block scope name scope.room unknown_item tokens >>= λ c. Ok ([], c.1)
-copies_at around block scope name (i ∷ is) tokens =
-    copies_from (copy_at block scope name) around tokens scope.room [] (i ∷ is) tokens >>= λ c. Ok (Items (copies_of c.0) ∷ [], c.1)
+abbrev pub copies_at : Blocks → Scope → List ℕ → List Item → List Token → Read (List Source)
+copies_at block scope name [] tokens = copy_at block scope name scope.room unknown_item tokens >>= λ c. Ok ([], c.1)
+copies_at block scope name (i ∷ is) tokens =
+    copies_from (copy_at block scope name) tokens scope.room [] (i ∷ is) tokens >>= λ c. Ok (Items (copies_of c.0) ∷ [], c.1)
 
 -- behind its `in`
-abbrev pub item_loop : Around → Blocks → ℕ → Scope → ℕ → List ℕ → List Token → Read (List Source)
-item_loop around block levels scope at name tokens =
-    items_of scope at name tokens >>= λ items. copies_at around block scope name items.0 items.1
+abbrev pub item_loop : Blocks → ℕ → Scope → ℕ → List ℕ → List Token → Read (List Source)
+item_loop block levels scope at name tokens =
+    items_of scope at name tokens >>= λ items. copies_at block scope name items.0 items.1
 
 abbrev pub loop_in : (Around → Blocks) → ℕ → Around → Scope → ℕ → List ℕ → List Token → Option (List Token) → Read (List Source)
 loop_in block levels around scope at name tokens (Some bound) = count_loop (block (in_turns around)) levels scope at name bound
-loop_in block levels around scope at name tokens None = item_loop around (block (in_items around)) levels scope at name tokens
+loop_in block levels around scope at name tokens None = item_loop (block (in_items around)) levels scope at name tokens
 
 -- behind its name, which begins at a byte
 abbrev pub loop_behind : (Around → Blocks) → ℕ → Around → Scope → ℕ → List ℕ → List Token → Read (List Source)

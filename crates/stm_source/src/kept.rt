@@ -1,7 +1,7 @@
 //! Which statements are kept: how many more nodes of a program are, behind what was read of it.
 ghost use Rattle.std.specs.Prelude.{◌≡◌, IfOk, OnOk};
 ghost use Rattle.stm_source.specs.Statements as spec;
-ghost use Rattle.stm_source.specs.Kept.{pushed_up};
+ghost use Rattle.stm_source.specs.Kept.{parts_left, pushed_up};
 ghost use Rattle.stm_leaving.specs.PartsView.{sources_of};
 
 use crate::leaving::Around;
@@ -76,18 +76,10 @@ pub(crate) fn behind_block(
 }
 
 /// How many nodes may follow a copy of a loop's block, of which there may be so many with its own: none behind one that has none, since others like it
-/// have none, too. Marks are not counted: all that were read before without them are read.
-pub(crate) fn copy_room(
-    alloc: Global,
-    around: Around,
-    copy: &Parts,
-    room: usize,
-) -> Result<usize, AllocError>
-    ensures { IfOk result (λ left. left ≡ spec.copy_room around room copy.now) }
+/// have none, too.
+pub(crate) fn copy_room(alloc: Global, copy: &Parts, room: usize) -> Result<usize, AllocError>
+    ensures { IfOk result (λ left. left ≡ spec.copies_room room (parts_left room copy.now)) }
 {
-    if around.marks {
-        return Ok(room);
-    }
     let left = parts_left(alloc, copy, room)?;
     if left == room { Ok(0) } else { Ok(left) }
 }

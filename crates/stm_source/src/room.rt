@@ -1,7 +1,9 @@
 //! How many nodes the statements of a source have as they are written: each where it stands, and in each copy of the loop that it stands in.
-ghost use Rattle.std.specs.Prelude.{◌≡◌, IfOk};
+ghost use Rattle.std.specs.Prelude.{◌≡◌, is_some, IfOk};
 ghost use Rattle.stm_program.specs.BlockView.{block_of};
 ghost use Rattle.stm_program.specs.Syntax as program;
+ghost use Rattle.stm_marks.specs.Marks.{marked};
+ghost use Rattle.stm_leaving.specs.Source as tree;
 ghost use Rattle.stm_leaving.specs.PartsView.{sources_of};
 ghost use Rattle.stm_source.specs.Kept as spec;
 
@@ -9,6 +11,7 @@ use std::alloc::{AllocError, Global};
 use std::slice;
 use std::sync::Arc;
 use stm_leaving::{Copies, Part, PartNode, Parts};
+use stm_marks::FIRST_MARK;
 use stm_program::{Block, Cond, Expr, Stmt, StmtNode, Variable};
 use stm_terms::{MOST_KEPT, condition_room, statements_room};
 
@@ -32,6 +35,26 @@ pub(crate) fn condition_left(condition: &Cond, room: usize) -> usize
     }
 }
 
+/// Whether a statement is a mark.
+fn is_mark(statement: &Stmt) -> bool
+    ensures { result ≡ is_some (marked statement.now) }
+{
+    match &statement.node {
+        StmtNode::Put(_, _, lease) => *lease >= FIRST_MARK,
+        _ => false,
+    }
+}
+
+/// A mark takes no room.
+fn statement_left(statement: &Stmt, room: usize) -> usize
+    ensures { result ≡ spec.part_left room (tree.Plain statement.now) }
+{
+    if is_mark(statement) {
+        return room;
+    }
+    room_left(slice::from_ref(statement), room)
+}
+
 /// A counted loop without the statements of its block.
 fn empty_loop(
     alloc: Global,
@@ -53,7 +76,7 @@ fn part_left(alloc: Global, part: &Part, room: usize) -> Result<usize, AllocErro
     ensures { IfOk result (λ left. left ≡ spec.part_left room part.now) }
 {
     match &part.node {
-        PartNode::Plain(statement) => Ok(room_left(slice::from_ref(statement), room)),
+        PartNode::Plain(statement) => Ok(statement_left(statement, room)),
         PartNode::Choice(condition, yes, no) => {
             let left = condition_left(condition, room.saturating_sub(1));
             let left = parts_left(alloc, yes, left)?;

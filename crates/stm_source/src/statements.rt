@@ -262,7 +262,7 @@ fn copies<'a>(
     tokens: &'a [Token],
 ) -> Result<(Vec<Parts>, &'a [Token]), SourceError>
     ensures { Returns (λ x. (x.0.items, x.1.now)) result
-        (spec.copies_from (spec.copy_at (spec.block_at levels (leaving.in_items around)) scope.now name.now) around tokens.now scope.now.room [] items.now tokens.now) }
+        (spec.copies_from (spec.copy_at (spec.block_at levels (leaving.in_items around)) scope.now name.now) tokens.now scope.now.room [] items.now tokens.now) }
 {
     let mut all = Vec::new(alloc);
     let mut room = scope.room;
@@ -272,7 +272,7 @@ fn copies<'a>(
             return Ok((all, rest));
         }
         let (parts, behind) = copy(alloc, scope, levels, around, room, name, item, tokens)?;
-        room = copy_room(alloc, around, &parts, room)?;
+        room = copy_room(alloc, &parts, room)?;
         all.push(parts)?;
         rest = behind;
     }
@@ -290,7 +290,7 @@ fn all_copies<'a>(
     items: &[Item],
     tokens: &'a [Token],
 ) -> Result<(Sequence<Part>, &'a [Token]), SourceError>
-    ensures { Returns (λ x. (x.0, x.1.now)) result (spec.copies_at around (spec.block_at levels (leaving.in_items around)) scope.now name.now items.now tokens.now) }
+    ensures { Returns (λ x. (x.0, x.1.now)) result (spec.copies_at (spec.block_at levels (leaving.in_items around)) scope.now name.now items.now tokens.now) }
 {
     if items.is_empty() {
         let item = unknown_item(alloc)?;
@@ -316,7 +316,7 @@ fn item_loop<'a>(
     name: &str,
     tokens: &'a [Token],
 ) -> Result<(Sequence<Part>, &'a [Token]), SourceError>
-    ensures { Returns (λ x. (x.0, x.1.now)) result (spec.item_loop around (spec.block_at levels (leaving.in_items around)) levels scope.now at name.now tokens.now) }
+    ensures { Returns (λ x. (x.0, x.1.now)) result (spec.item_loop (spec.block_at levels (leaving.in_items around)) levels scope.now at name.now tokens.now) }
 {
     let (items, rest) = items(alloc, scope, at, name, tokens)?;
     let name = shared_name(alloc, name)?;

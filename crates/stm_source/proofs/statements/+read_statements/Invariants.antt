@@ -73,5 +73,5 @@ invariant-statements-loop-turn l =
 -- the items that are left lead to all
 abbrev pub invariant-copies-loop-item : goal.invariant-copies-loop-item
 invariant-copies-loop-item l =
-    copies_from (copy_at (block_at l.fn.levels (in_items l.fn.around)) l.fn.scope l.fn.name) l.fn.around l.fn.tokens l.room l.all.items (drop l.item-index l.fn.items) l.rest
-    ≡ copies_from (copy_at (block_at l.fn.levels (in_items l.fn.around)) l.fn.scope l.fn.name) l.fn.around l.fn.tokens l.fn.scope.room [] l.fn.items l.fn.tokens
+    copies_from (copy_at (block_at l.fn.levels (in_items l.fn.around)) l.fn.scope l.fn.name) l.fn.tokens l.room l.all.items (drop l.item-index l.fn.items) l.rest
+    ≡ copies_from (copy_at (block_at l.fn.levels (in_items l.fn.around)) l.fn.scope l.fn.name) l.fn.tokens l.fn.scope.room [] l.fn.items l.fn.tokens

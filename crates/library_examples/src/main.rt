@@ -1,6 +1,7 @@
 //! Programs to begin with, over the library: each module is one, with a `run` of its own. Worked examples of single calls come after them.
 #![tactic(auto)]
 
+mod audit;
 mod queue;
 mod registry;
 mod search;
@@ -24,5 +25,8 @@ fn run<T: Threads + Wait + Sync>(rt: &impl Print, threads: &T, alloc: Global) ->
 }
 
 fn main(rt: HostRuntime) -> Result<()> {
-    run(&rt, &rt, rt.alloc())
+    run(&rt, &rt, rt.alloc())?;
+    let status = audit::run(&rt);
+    println!(rt; "audit: status {status}")?;
+    Ok(())
 }

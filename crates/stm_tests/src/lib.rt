@@ -1,6 +1,6 @@
 //! Tests of what has to be in memory, by the public calls of the crates: worked examples of programs and their meaning, of recipes, of the
-//! transactions of commits, of histories, watchers and leases; stores, halls and attempts that commit to them; jobs that threads run and that
-//! are held on their way; worlds that share a store; and the program's commands over readers and writers that fail, a reader without an
+//! transactions of commits, of watchers and leases; stores, halls and attempts that commit to them; jobs that threads run and that are held on
+//! their way; worlds that share a store; and the program's commands over readers and writers that fail, a reader without an
 //! end, lines of reports, texts that no file of `tests/` holds, and an observer of a search. Cases from text to text stand in `tests/`.
 //!
 //! This crate has no code but tests: one module for what is tested, and players that run rows of steps. They stand here, and not beside what
@@ -25,8 +25,6 @@ mod ends;
 mod gates;
 #[cfg(test)]
 mod halls;
-#[cfg(test)]
-mod history;
 #[cfg(test)]
 mod jobs;
 #[cfg(test)]

@@ -1,5 +1,5 @@
 -- What a command does to the file of a world, also where a crash comes at any moment of it, and what it prints.
-use Rattle.std.specs.Prelude.{◌≡◌, ◌⊎◌, ◌-◌, ℕ, List, [], length, slice_get, Option, Some, Result, Ok}
+use Rattle.std.specs.Prelude.{◌≡◌, ◌⊎◌, ◌<◌, ◌≤◌, ◌-◌, ℕ, List, [], length, slice_get, Option, Some, Result, Ok}
 use Rattle.std.specs.Io.KnownBytes.{Appends}
 use Rattle.stm_texts.specs.declared.scenario.Scenario.{Scenario}
 use Rattle.stm_texts.specs.Reading.{scenario_in}
@@ -13,7 +13,7 @@ use Rattle.stm_report_lines.specs.Text.{line_text}
 use Rattle.stm_report.specs.declared.format.Format.{Format}
 use Rattle.stm_report.specs.FormatScript.{IsTextSince, IsTextFrom}
 use Rattle.stm_watch.specs.declared.watched.Watched.{Watched}
-use Rattle.stm_txn.specs.Standing.{kept}
+use Rattle.stm_txn.specs.Standing.{Standing, kept}
 use Rattle.stm_storing.specs.Past.{text_since, IsTextAt}
 use Rattle.stm_lasting.specs.Kept.{IsKept, OpensTo, OpensAlike, IsReady, IsWorldBeforeOrAfter}
 
@@ -103,16 +103,32 @@ pub record HasShown (format : Format) (found : List ℕ) (before_it after_it : O
 abbrev pub OpensToAny : List ℕ → Type 0
 OpensToAny file = (world : World) × OpensTo file world
 
+-- the store of the world that a file opens to has P
+abbrev pub OpensToStore : List ℕ → (Standing → Type 0) → Type 0
+OpensToStore file P = (world : World) × OpensTo file world × P (kept world.standing)
+
+-- a revision of a store is yet to come, or was compacted; else it can be read
+abbrev pub IsToCome : ℕ → Standing → Type 0
+IsToCome revision s = now s.history < revision
+
+abbrev pub IsCompacted : ℕ → Standing → Type 0
+IsCompacted revision s = revision < s.floor
+
+abbrev pub CanBeRead : ℕ → Standing → Type 0
+CanBeRead revision s = (s.floor ≤ revision) × (revision ≤ now s.history)
+
 -- the events of the world of a file from a revision on were printed, those that are asked for
 pub record HasShownEvents (found : List ℕ) (wanted : Option Watched) (from : ℕ) (before_it after_it : Option (List ℕ)) : Type 0 where
   pub world : World
   pub opens : OpensTo found world
+  pub above_floor : (kept world.standing).floor ≤ from
   pub printed : Appends before_it after_it (text_since wanted (kept world.standing).history from)
 
 -- the keys that the store of a file had at a revision were printed
 pub record HasShownPast (found : List ℕ) (revision : ℕ) (before_it after_it : Option (List ℕ)) : Type 0 where
   pub world : World
   pub opens : OpensTo found world
+  pub readable : CanBeRead revision (kept world.standing)
   pub text : List ℕ
   pub shows : IsTextAt (kept world.standing).history revision text
   pub printed : Appends before_it after_it text

@@ -1,10 +1,13 @@
-use Rattle.stm_lasting.proofs.Compacted.{kept_alone, opens_either}
+use Rattle.stm_lasting.proofs.Compacted.{kept_alone, one_kept, opens_either}
 use Rattle.stm_lasting.proofs.Moments.{weaker}
 use Rattle.stm_lasting.proofs.compacting.compact.Goals as goal
 
 pub returns-in-Ok-clause-kept : goal.returns-in-Ok-clause-kept
 returns-in-Ok-clause-kept g c =
     kept_alone _ c.args.text.now c.args.after.now c.in-Ok.ensures.acknowledged.1 c.requires.leads
+
+pub returns-in-Ok-clause-count : goal.returns-in-Ok-clause-count
+returns-in-Ok-clause-count g c = one_kept _ c.args.text.now c.in-Ok.ensures.acknowledged.1
 
 pub returns-in-Ok-clause-any_moment : goal.returns-in-Ok-clause-any_moment
 returns-in-Ok-clause-any_moment g c =

@@ -18,6 +18,16 @@ returns-in-Ok-clause-kept g c =
     IfOk-weaker c.kept_of.result _ _ (λ kept leads. record { records = payloads_of c.in-Ok.opened; whole = c.in-Ok.ensures.kept; leads = leads })
     c.kept_of.ensures.world
 
+pub returns-in-Ok-clause-count : goal.returns-in-Ok-clause-count
+returns-in-Ok-clause-count g c =
+    IfOk-weaker c.kept_of.result _ _ (λ kept is. record { records = payloads_of c.in-Ok.opened; whole = c.in-Ok.ensures.kept; number = is })
+    c.kept_of.ensures.count
+
+pub returns-in-Ok-clause-nowhere : goal.returns-in-Ok-clause-nowhere
+returns-in-Ok-clause-nowhere g c =
+    IfErr-weaker c.kept_of.result _ _ (λ e none at is. record { records = payloads_of c.in-Ok.opened; opens = c.in-Ok.ensures.opens; nowhere = none at is })
+    c.kept_of.ensures.nowhere
+
 pub returns-in-Ok-clause-hurt : goal.returns-in-Ok-clause-hurt
 returns-in-Ok-clause-hurt g c = IfErr-weaker c.kept_of.result _ _ (λ e never at is. absurd (never at is)) c.kept_of.ensures.hurt
 
@@ -25,7 +35,10 @@ pub returns-in-Ok-clause-any_moment : goal.returns-in-Ok-clause-any_moment
 returns-in-Ok-clause-any_moment g c = weaker c.open.ensures.any_moment (λ f alike. worlds_alike (g.D.Disk.seen c.args.disk.now) f alike)
 
 pub returns-in-Err-clause-hurt : goal.returns-in-Err-clause-hurt
-returns-in-Err-clause-hurt g c = λ at is. c.in-Err.ensures.hurt at (c.fault_of.ensures at is)
+returns-in-Err-clause-hurt g c = λ at is. c.in-Err.ensures.hurt at (c.fault_of.ensures.damaged at is)
 
 pub returns-in-Err-clause-any_moment : goal.returns-in-Err-clause-any_moment
 returns-in-Err-clause-any_moment g c = weaker c.open.ensures.any_moment (λ f alike. worlds_alike (g.D.Disk.seen c.args.disk.now) f alike)
+
+pub returns-in-Err-clause-nowhere : goal.returns-in-Err-clause-nowhere
+returns-in-Err-clause-nowhere g c = λ at is. absurd (c.fault_of.ensures.spelled at is)

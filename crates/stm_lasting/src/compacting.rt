@@ -1,5 +1,5 @@
 //! Putting a checkpoint in the place of a file.
-ghost use Rattle.std.specs.Prelude.{◌≡◌, Some, [], ◌∷◌, IfOk, OnOk, length};
+ghost use Rattle.std.specs.Prelude.{◌≡◌, ◌<◌, ◌≤◌, ◌^◌, Some, [], ◌∷◌, IfOk, IfErr, OnOk, length};
 ghost use Rattle.stm_records.specs.Disk.{LeavesOnly};
 ghost use Rattle.stm_records.specs.RecordFiles.{IsSettled};
 ghost use Rattle.stm_lasting.specs.Kept.{world_in, IsKept, HasRecords, OpensToEither};
@@ -41,6 +41,9 @@ pub fn compact<D: Disk>(
 
     // A crash at any moment of the call leaves a file that opens to the world from before it, or to the other one.
     ensures any_moment { LeavesOnly D.moment D.left_since records.old.disk records.new.disk (OpensToEither before.now after.now) }
+
+    ensures failed { IfErr result (λ e. e ≡ KeepFault.Failed → D.faults records.old.disk < D.faults records.new.disk) }
+    ensures full { IfErr result (λ e. e ≡ KeepFault.Full → 2 ^ 60 ≤ length text.now) }
 {
     let _before = before;
     let _after = after;

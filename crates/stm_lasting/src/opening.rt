@@ -1,5 +1,5 @@
 //! Opening the file of a world.
-ghost use Rattle.std.specs.Prelude.{◌≡◌, ℕ, None, Some, length, IfOk, IfErr, OnOk, IsTrue};
+ghost use Rattle.std.specs.Prelude.{◌≡◌, ◌⊎◌, ◌<◌, ℕ, None, Some, length, IfOk, IfErr, OnOk, IsTrue};
 ghost use Rattle.stm_records.specs.Disk.{Only, LeavesOnly};
 ghost use Rattle.stm_records.specs.Head.{IsHurt};
 ghost use Rattle.stm_records.specs.RecordFiles.{payloads_of};
@@ -26,6 +26,7 @@ pub struct Kept {
 fn fault_of(fault: DiskFault) -> KeptFault
     ensures damaged { (at : ℕ) → result ≡ KeptFault.Damaged at → fault ≡ DiskFault.Damaged at }
     ensures spelled { (at : ℕ) → result ≡ KeptFault.NoScenario at → ⊥ }
+    ensures failed { result ≡ KeptFault.Failed → (fault ≡ DiskFault.Failed) ⊎ (fault ≡ DiskFault.Full) }
 {
     match fault {
         DiskFault::OutOfMemory => KeptFault::OutOfMemory,
@@ -41,6 +42,7 @@ fn kept_of(alloc: Global, opened: Opened) -> Result<Kept, KeptFault>
     ensures count { IfOk result (λ kept. kept.count ≡ length (payloads_of opened)) }
     ensures nowhere { IfErr result (λ e. (at : ℕ) → e ≡ KeptFault.NoScenario at → world_in (payloads_of opened) ≡ None) }
     ensures hurt { IfErr result (λ e. (at : ℕ) → e ≡ KeptFault.Damaged at → ⊥) }
+    ensures failed { IfErr result (λ e. e ≡ KeptFault.Failed → ⊥) }
 {
     match world_of(alloc, &opened.bytes, opened.places.as_slice()) {
         Ok(world) => Ok(Kept {
@@ -78,6 +80,7 @@ pub fn open<D: Disk>(alloc: Global, disk: &mut D, bytes: Vec<u8>) -> Result<Kept
     ensures hurt { IfErr result (λ e. (at : ℕ) → e ≡ KeptFault.Damaged at → IsHurt (D.seen disk.old) at
         × LeavesOnly D.moment D.left_since disk.old disk.new (λ c. c ≡ D.seen disk.old)) }
     ensures nowhere { IfErr result (λ e. (at : ℕ) → e ≡ KeptFault.NoScenario at → LeadsNowhere (D.seen disk.old)) }
+    ensures failed { IfErr result (λ e. e ≡ KeptFault.Failed → D.faults disk.old < D.faults disk.new) }
 
     // A crash at any moment leaves a file that opens to the same world.
     ensures any_moment { LeavesOnly D.moment D.left_since disk.old disk.new (OpensAlike (D.seen disk.old)) }

@@ -1,4 +1,5 @@
-use Rattle.std.proofs.Common.{◌∙◌}
+use Rattle.std.proofs.Common.{⊎_elim, ap, ◌∙◌}
+use Rattle.std.specs.Prelude.{Err}
 use Rattle.std.proofs.lemmas.Result.{IfOk-weaker, IfErr-weaker}
 use Rattle.stm_records.specs.RecordFiles.{payloads_of}
 use Rattle.stm_lasting.proofs.Moments.{weaker}
@@ -42,3 +43,10 @@ returns-in-Err-clause-any_moment g c = weaker c.open.ensures.any_moment (λ f al
 
 pub returns-in-Err-clause-nowhere : goal.returns-in-Err-clause-nowhere
 returns-in-Err-clause-nowhere g c = λ at is. absurd (c.fault_of.ensures.spelled at is)
+
+pub returns-in-Ok-clause-failed : goal.returns-in-Ok-clause-failed
+returns-in-Ok-clause-failed g c = IfErr-weaker c.kept_of.result _ _ (λ e never is. absurd (never is)) c.kept_of.ensures.failed
+
+pub returns-in-Err-clause-failed : goal.returns-in-Err-clause-failed
+returns-in-Err-clause-failed g c = λ is.
+    ⊎_elim (λ failed. c.in-Err.ensures.failed (ap Err failed)) (λ full. absurd (c.in-Err.ensures.full (ap Err full))) (c.fault_of.ensures.failed is)

@@ -88,6 +88,7 @@ fn ended(stage: Stage) -> Option<Stage>
 }
 
 /// Takes one more line: what has come of them then, and none where the line is out of place.
+#[tactic(auto, using(crate::proofs::Staging::no_event))]
 fn take_line(held: &mut Held, stage: Stage, line: ReportLine) -> Result<Option<Stage>, AllocError>
     ensures { IfOk result (λ next. (lines : List ALine)
         → option_map (joined held.old) (left_in stage (line ∷ lines)) ≡ option_map (joined held.new) (left_of next lines)) }

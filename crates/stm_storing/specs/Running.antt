@@ -24,9 +24,11 @@ abbrev pub is_commit : Result Reply Denied → Bool
 is_commit (Ok (Committed runner revision attempts output trace answers)) = true
 is_commit reply = false
 
--- the first of these replies names a runner, and the last one says that a run has committed
+-- the last of these replies says that a run has committed
+abbrev pub LastCommits : List (Result Reply Denied) → Type 0
+LastCommits replies = (last : Result Reply Denied) × (slice_get replies (length replies - 1) ≡ Some last) × (is_commit last ≡ true)
+
+-- and the first one names the runner
 pub record EndInCommit (runner : ℕ) (replies : List (Result Reply Denied)) : Type 0 where
   pub started : slice_get replies 0 ≡ Some (Ok (Started runner))
-  pub last : Result Reply Denied
-  pub is_last : slice_get replies (length replies - 1) ≡ Some last
-  pub commits : is_commit last ≡ true
+  pub commits : LastCommits replies

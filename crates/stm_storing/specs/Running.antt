@@ -24,11 +24,9 @@ abbrev pub is_commit : Result Reply Denied → Bool
 is_commit (Ok (Committed runner revision attempts output trace answers)) = true
 is_commit reply = false
 
--- the last of these replies says that a run has committed
-abbrev pub LastCommits : List (Result Reply Denied) → Type 0
-LastCommits replies = (last : Result Reply Denied) × (slice_get replies (length replies - 1) ≡ Some last) × (is_commit last ≡ true)
-
--- and the first one names the runner
+-- the first of these replies names a runner, and the last one says that a run has committed
 pub record EndInCommit (runner : ℕ) (replies : List (Result Reply Denied)) : Type 0 where
   pub started : slice_get replies 0 ≡ Some (Ok (Started runner))
-  pub commits : LastCommits replies
+  pub last : Result Reply Denied
+  pub is_last : slice_get replies (length replies - 1) ≡ Some last
+  pub commits : is_commit last ≡ true

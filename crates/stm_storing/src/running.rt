@@ -1,5 +1,5 @@
 //! Running one program over the world of a file.
-ghost use Rattle.std.specs.Prelude.{◌≡◌, Some, Ok as OkOf, length, slice_get, string_bytes, IfOk, IfErr, OnOk, IsTrue, true, false};
+ghost use Rattle.std.specs.Prelude.{◌≡◌, ◌×◌, ℕ, Some, Ok as OkOf, length, slice_get, string_bytes, IfOk, IfErr, OnOk, IsTrue, true, false};
 ghost use Rattle.stm_records.specs.Disk.{Only, LeavesOnly};
 ghost use Rattle.stm_records.specs.RecordFiles.{IsSettled};
 ghost use Rattle.stm_lasting.specs.Kept.{IsKept, IsReady, IsWorldBeforeOrAfter};
@@ -9,7 +9,7 @@ ghost use Rattle.stm_world.specs.World.{World as WorldOf, replies_to, world_afte
 ghost use Rattle.std.specs.Io.KnownBytes.{Appends};
 ghost use Rattle.stm_report_lines.specs.LineData.{event_data_of};
 ghost use Rattle.stm_report_lines.specs.Text.{line_text};
-ghost use Rattle.stm_storing.specs.Running.{start_of, AreStepsOf, IsRunOf, is_commit, LastCommits, EndInCommit};
+ghost use Rattle.stm_storing.specs.Running.{start_of, AreStepsOf, IsRunOf, is_commit, EndInCommit};
 ghost use Rattle.stm_storing.specs.Storing.{IsOpened, HasCommitted, HasPrintedLast, HasRunAlone, LeadsPast, LeavesAroundRun, LeavesFoundOrRun};
 ghost use Rattle.stm_texts.specs.Opens.{IsOpening};
 ghost use Rattle.stm_texts.specs.Reading.{scenario_in};
@@ -99,7 +99,7 @@ fn is_committed(reply: &Result<Reply, Denied>) -> bool
 
 /// Whether the last of these replies says that a run has committed.
 fn ends_in_commit(replies: &[Result<Reply, Denied>]) -> bool
-    ensures { result ≡ true → LastCommits replies.now }
+    ensures { result ≡ true → (last : _) × (slice_get replies.now (length replies.now - 1) ≡ Some last) × (is_commit last ≡ true) }
 {
     match replies.last() {
         Some(reply) => is_committed(reply),

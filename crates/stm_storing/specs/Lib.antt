@@ -2,5 +2,4 @@ pub mod Compacting
 pub mod Faults
 pub mod Jobs
 pub mod Past
-pub mod Running
 pub mod Storing

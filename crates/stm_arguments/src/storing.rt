@@ -14,7 +14,7 @@ const EXAMPLE: &str =
 --format json as objects, with --format text for people to read.
 With --at its keys as they were at a revision are printed, and with --since what has happened from a revision on, an event a line:
 [\"PUT\",KEY,VALUE,CREATE,MOD,VERSION,LEASE] or [\"DELETE\",KEY,REVISION]; of one key with --key, of the keys from FIRST to
-before END, by bytes, with --range. A revision that was compacted, or is yet to come, is refused with status 2.
+before END, by bytes, with --range. A revision that was compacted is refused with status 2, with --at also one that is yet to come.
 With --check the file is read whole: yes RECORDS BYTES says that it is as it was written, and no OFFSET Damaged or
 no OFFSET NoScenario that the record at that byte is not. Nothing behind such a record is served, and nothing is changed.
 With --compact the file is written anew, as one record without what is below the store's revision, or that of --since, and

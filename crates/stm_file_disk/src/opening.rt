@@ -72,10 +72,27 @@ fn lock(rt: &HostRuntime, path: &str) -> Result<File, OpenError> {
     }
 }
 
-/// Gives the name of a file to a copy of it with these bytes, which then are on the disk.
+/// Gives the name of a file to a copy of it with these bytes, which then are on the disk. A copy that could not be made is removed: the disk may be full.
 ///
 /// Where a sync has failed, in an earlier process, the system may take the pages for written that are not, and would not write them at another sync.
 fn write_again(
+    rt: &HostRuntime,
+    old: &File,
+    next_path: &str,
+    path: &str,
+    bytes: &[u8],
+) -> io::Result<File> {
+    match copied(rt, old, next_path, path, bytes) {
+        Ok(file) => Ok(file),
+        Err(error) => {
+            let _ = fs::remove_file(rt, next_path);
+            Err(error)
+        }
+    }
+}
+
+/// Gives the name of a file to a copy of it with these bytes, which was made at another path and is on the disk.
+fn copied(
     rt: &HostRuntime,
     old: &File,
     next_path: &str,

@@ -115,6 +115,14 @@ taken_on bytes places i other from to begun within step so_far =
     sym (next_led (at_places bytes (drop (i + 1) places)) (take (get_or places i other).1 (drop (get_or places i other).0 bytes)) from to step)
     ∙ ap (λ (texts : List (List ℕ)). led texts from) (sym (next_place bytes places i other within)) ∙ so_far
 
+-- a record that spells no scenario
+pub taken_nowhere : (bytes : List ℕ) (places : List (ℕ × ℕ)) (i : ℕ) (other : ℕ × ℕ) (from begun : World) → i < length places
+    → taken from (scenario_in (take (get_or places i other).1 (drop (get_or places i other).0 bytes))) ≡ None
+    → led (at_places bytes (drop i places)) from ≡ led (at_places bytes places) begun → led (at_places bytes places) begun ≡ None
+taken_nowhere bytes places i other from begun within step so_far =
+    sym so_far ∙ ap (λ (texts : List (List ℕ)). led texts from) (next_place bytes places i other within)
+    ∙ ap (λ (o : Option World). option_and_then (led (at_places bytes (drop (i + 1) places))) o) step
+
 -- once none is left
 pub all_taken : (bytes : List ℕ) (places : List (ℕ × ℕ)) (i : ℕ) (to begun : World) → length places ≤ i
     → led (at_places bytes (drop i places)) to ≡ led (at_places bytes places) begun → led (at_places bytes places) begun ≡ Some to

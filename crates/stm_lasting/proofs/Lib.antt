@@ -3,3 +3,4 @@ pub mod Moments
 pub mod Restarts
 pub mod Resuming
 pub mod Compacted
+pub mod Staging

@@ -1,5 +1,5 @@
 -- What a checkpoint leads to.
-use Rattle.std.proofs.Common.{◌≡◌, true, cond, ap, sym, ◌∙◌}
+use Rattle.std.proofs.Common.{◌≡◌, true, false, cond, ap, ◌∙◌}
 use Rattle.std.specs.Prelude.{None, Some}
 use Rattle.stm_texts.specs.declared.scenario.Scenario.{Scenario}
 use Rattle.stm_txn.specs.Restored.{can_restore}
@@ -10,8 +10,12 @@ use Rattle.stm_lasting.specs.Kept.{resumed}
 
 -- a checkpoint with which a store can open
 pub resumes : (c : Checkpoint) (scenario : Scenario) (opened now : World) → true ≡ can_restore c → opened ≡ restored_world c
-    → now ≡ world_after scenario.events opened → resumed (Some (c, scenario)) ≡ Some now
+    → now ≡ world_after scenario.events opened → Some now ≡ resumed (Some (c, scenario))
 resumes c scenario opened now can is after =
-    ap (λ b. cond b (Some (world_after scenario.events (restored_world c))) None) (sym can)
-    ∙ ap (λ (w : World). Some (world_after scenario.events w)) (sym is)
-    ∙ ap (λ (w : World). Some w) (sym after)
+    ap (λ (w : World). Some w) after
+    ∙ ap (λ (w : World). Some (world_after scenario.events w)) is
+    ∙ ap (λ b. cond b (Some (world_after scenario.events (restored_world c))) None) can
+
+-- and one with which none can
+pub resumes_nowhere : (c : Checkpoint) (scenario : Scenario) → false ≡ can_restore c → None ≡ resumed (Some (c, scenario))
+resumes_nowhere c scenario cannot = ap (λ b. cond b (Some (world_after scenario.events (restored_world c))) None) cannot

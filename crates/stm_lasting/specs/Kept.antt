@@ -2,7 +2,7 @@
 --
 -- A world that lasts is kept as what it was asked: each record of its file is the text of a scenario, in their order. That the events of a log are
 -- taken again, in order, is how a store comes back from its log ("command logging"); which texts are scenarios is `stm_texts`.
-use Rattle.std.specs.Prelude.{◌≡◌, ◌⊎◌, ℕ, if◌then◌else◌, List, [], ◌∷◌, ◌++◌, Option, None, Some, option_and_then, Ok, Err}
+use Rattle.std.specs.Prelude.{◌≡◌, ◌⊎◌, ◌≤◌, ◌^◌, ℕ, if◌then◌else◌, List, [], ◌∷◌, ◌++◌, length, Option, None, Some, option_and_then, Ok, Err}
 use Rattle.stm_txn.specs.Standing.{at_revision}
 use Rattle.stm_json.specs.Outcome.{Outcome}
 use Rattle.stm_texts.specs.declared.scenario.Scenario.{Scenario}
@@ -59,6 +59,18 @@ pub record OpensTo (file : List ℕ) (world : World) : Type 0 where
   pub opens : Opens file records
   pub leads : world_in records ≡ Some world
 
+-- opening the file comes to no world: a record spells no scenario
+pub record LeadsNowhere (file : List ℕ) : Type 0 where
+  pub records : List (List ℕ)
+  pub opens : Opens file records
+  pub nowhere : world_in records ≡ None
+
+-- the file has so many records and nothing else
+pub record HasRecords (file : List ℕ) (count : ℕ) : Type 0 where
+  pub records : List (List ℕ)
+  pub whole : file ≡ log 0 records
+  pub number : count ≡ length records
+
 -- Whatever this file opens to, that one opens to.
 abbrev pub OpensAlike : List ℕ → List ℕ → Type 0
 OpensAlike file c = (world : World) → OpensTo file world → OpensTo c world
@@ -68,6 +80,10 @@ pub record LeadsTo (file text : List ℕ) (world : World) : Type 0 where
   pub records : List (List ℕ)
   pub whole : file ≡ log 0 records
   pub leads : world_in (records ++ text ∷ []) ≡ Some world
+
+-- a file, or the text that is to be its next record, has 2^60 bytes or more
+abbrev pub IsTooLong : List ℕ → List ℕ → Type 0
+IsTooLong file text = (2 ^ 60 ≤ length file) ⊎ (2 ^ 60 ≤ length text)
 
 -- What may be run over this world: the first scenario of a file, over the empty store that it opens with, or a further one, over the world that the file
 -- leads to.

@@ -18,6 +18,15 @@ left_in Leases lines = option_map with_leases (leases_in lines)
 left_in Ended [] = Some (with_leases [])
 left_in Ended (line ∷ lines) = None
 
+-- the same, where one of the lines may have been out of place
+abbrev pub left_of : Option Stage → List ReportLine → Option Held
+left_of None lines = None
+left_of (Some stage) lines = left_in stage lines
+
 -- what was taken, and behind it what is left
 abbrev pub joined : Taken → Held → Held
 joined taken left = record { states = taken.states.items ++ left.states; leases = taken.leases.items ++ left.leases }
+
+-- what was taken, where nothing is left
+abbrev pub said : Taken → Held
+said taken = record { states = taken.states.items; leases = taken.leases.items }

@@ -1,11 +1,10 @@
 //! Checkpoints as texts: a scenario, and behind it the lines with which a report ends.
-ghost use Rattle.std.specs.Prelude.{◌≡◌, ℕ, ◌∷◌, List, Some, Ok as OkOf, IfOk, IfSome, option_map};
+ghost use Rattle.std.specs.Prelude.{◌≡◌, ℕ, ◌∷◌, List, Ok as OkOf, IfOk, option_map};
 ghost use Rattle.stm_events.specs.declared.line.ReportLine.{ReportLine as ALine};
 ghost use Rattle.stm_events.specs.declared.line.ReportLine.TheVariants as kinds;
-ghost use Rattle.stm_texts.specs.Reading.{scenario_in};
 ghost use Rattle.stm_report_lines.specs.Reading.{report_in};
-ghost use Rattle.stm_lasting.specs.CheckpointText.{first_line, behind_line, held_in, held_of, checkpoint_in};
-ghost use Rattle.stm_lasting.specs.Stages.{left_in, joined};
+ghost use Rattle.stm_lasting.specs.CheckpointText.{first_line, behind_line, held_in, held_of, checkpoint_of, checkpoint_in};
+ghost use Rattle.stm_lasting.specs.Stages.{left_in, left_of, joined, said};
 
 use std::alloc::{AllocError, Global};
 use stm_events::ReportLine;
@@ -51,8 +50,8 @@ fn take_key(
     key: Text,
     state: KeyState,
 ) -> Result<Option<Stage>, AllocError>
-    ensures { IfOk result (λ o. IfSome o (λ next. (lines : List ALine)
-        → option_map (joined held.old) (left_in stage (kinds.Key key state ∷ lines)) ≡ option_map (joined held.new) (left_in next lines))) }
+    ensures { IfOk result (λ next. (lines : List ALine)
+        → option_map (joined held.old) (left_in stage (kinds.Key key state ∷ lines)) ≡ option_map (joined held.new) (left_of next lines)) }
 {
     match stage {
         Stage::Keys => {
@@ -63,11 +62,11 @@ fn take_key(
     }
 }
 
-/// Takes a lease, which stands before the end.
+/// Takes a lease, which stands before the end: what has come then, and none where it is out of place.
 fn take_lease(held: &mut Held, stage: Stage, lease: KeptLease) -> Result<Option<Stage>, AllocError>
-    ensures { IfOk result (λ o. IfSome o (λ next. (lines : List ALine)
+    ensures { IfOk result (λ next. (lines : List ALine)
         → option_map (joined held.old) (left_in stage (kinds.Lease lease.id lease.ttl lease.renewed ∷ lines))
-        ≡ option_map (joined held.new) (left_in next lines))) }
+        ≡ option_map (joined held.new) (left_of next lines)) }
 {
     match stage {
         Stage::Keys | Stage::Leases => {
@@ -80,8 +79,7 @@ fn take_lease(held: &mut Held, stage: Stage, lease: KeptLease) -> Result<Option<
 
 /// What has come with an end, and none where it is the second one.
 fn ended(stage: Stage) -> Option<Stage>
-    ensures { IfSome result (λ next. (revision entries : ℕ) (lines : List ALine)
-        → left_in stage (kinds.End revision entries ∷ lines) ≡ left_in next lines) }
+    ensures { (revision entries : ℕ) (lines : List ALine) → left_in stage (kinds.End revision entries ∷ lines) ≡ left_of result lines }
 {
     match stage {
         Stage::Keys | Stage::Leases => Some(Stage::Ended),
@@ -90,9 +88,10 @@ fn ended(stage: Stage) -> Option<Stage>
 }
 
 /// Takes one more line: what has come of them then, and none where the line is out of place.
+#[tactic(auto, using(crate::proofs::Staging::no_event))]
 fn take_line(held: &mut Held, stage: Stage, line: ReportLine) -> Result<Option<Stage>, AllocError>
-    ensures { IfOk result (λ o. IfSome o (λ next. (lines : List ALine)
-        → option_map (joined held.old) (left_in stage (line ∷ lines)) ≡ option_map (joined held.new) (left_in next lines))) }
+    ensures { IfOk result (λ next. (lines : List ALine)
+        → option_map (joined held.old) (left_in stage (line ∷ lines)) ≡ option_map (joined held.new) (left_of next lines)) }
 {
     match line {
         ReportLine::Key { key, state } => take_key(held, stage, key, state),
@@ -106,9 +105,9 @@ fn take_line(held: &mut Held, stage: Stage, line: ReportLine) -> Result<Option<S
     }
 }
 
-/// What the lines of a report say, where they are those of a checkpoint.
+/// What the lines of a report say: none where they are not those of a checkpoint.
 fn held_of(alloc: Global, report: Report) -> Result<Option<Held>, AllocError>
-    ensures { IfOk result (λ o. IfSome o (λ held. held_in report.lines ≡ Some record { states = held.states.items; leases = held.leases.items })) }
+    ensures { IfOk result (λ o. held_in report.lines ≡ option_map said o) }
 {
     let mut held = Held {
         states: Vec::new(alloc),
@@ -123,13 +122,13 @@ fn held_of(alloc: Global, report: Report) -> Result<Option<Held>, AllocError>
     }
     match stage {
         Stage::Ended => Ok(Some(held)),
-        _ => Ok(None),
+        Stage::Keys | Stage::Leases => Ok(None),
     }
 }
 
-/// The lines behind the scenario of a checkpoint.
+/// What the lines behind the scenario of a checkpoint say: none where they are no report, or not those of a checkpoint.
 fn read_held(alloc: Global, lines: &[u8]) -> Result<Option<Held>, AllocError>
-    ensures { IfOk result (λ o. IfSome o (λ held. held_of (report_in lines.now) ≡ Some record { states = held.states.items; leases = held.leases.items })) }
+    ensures { IfOk result (λ o. held_of (report_in lines.now) ≡ option_map said o) }
 {
     match read_report(alloc, lines) {
         Ok(report) => held_of(alloc, report),
@@ -138,28 +137,15 @@ fn read_held(alloc: Global, lines: &[u8]) -> Result<Option<Held>, AllocError>
     }
 }
 
-/// The scenario on the first line of a checkpoint.
-fn read_first(alloc: Global, line: &[u8]) -> Result<Option<Scenario>, AllocError>
-    ensures { IfOk result (λ o. IfSome o (λ s. scenario_in line.now ≡ OkOf s)) }
-{
-    match read_scenario(alloc, line) {
-        Ok(scenario) => Ok(Some(scenario)),
-        Err(ReadError::OutOfMemory) => Err(AllocError),
-        Err(ReadError::Bad(_)) => Ok(None),
-    }
-}
-
-/// The checkpoint that a text is, and the scenario that goes on from it; none where it is no checkpoint.
-pub(crate) fn read_checkpoint(
+/// The checkpoint of a scenario and the lines behind it, with the scenario: none where the scenario says no revision at which its store opens, or the lines
+/// are not those of a checkpoint.
+fn checkpoint_of(
     alloc: Global,
-    text: &[u8],
+    scenario: Scenario,
+    lines: &[u8],
 ) -> Result<Option<(Checkpoint, Scenario)>, AllocError>
-    ensures { IfOk result (λ o. IfSome o (λ read. checkpoint_in text.now ≡ Some read)) }
+    ensures { IfOk result (λ o. o ≡ checkpoint_of (OkOf scenario) lines.now) }
 {
-    let (first, lines) = cut_line(text);
-    let Some(scenario) = read_first(alloc, first)? else {
-        return Ok(None);
-    };
     let Some(opening) = scenario.opening else {
         return Ok(None);
     };
@@ -173,4 +159,19 @@ pub(crate) fn read_checkpoint(
         operations: opening.operations(),
     };
     Ok(Some((checkpoint, scenario)))
+}
+
+/// The checkpoint that a text is, and the scenario that goes on from it; none where it is no checkpoint.
+pub(crate) fn read_checkpoint(
+    alloc: Global,
+    text: &[u8],
+) -> Result<Option<(Checkpoint, Scenario)>, AllocError>
+    ensures { IfOk result (λ o. o ≡ checkpoint_in text.now) }
+{
+    let (first, lines) = cut_line(text);
+    match read_scenario(alloc, first) {
+        Ok(scenario) => checkpoint_of(alloc, scenario, lines),
+        Err(ReadError::OutOfMemory) => Err(AllocError),
+        Err(ReadError::Bad(_)) => Ok(None),
+    }
 }

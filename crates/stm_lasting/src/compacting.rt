@@ -1,25 +1,23 @@
 //! Putting a checkpoint in the place of a file.
-ghost use Rattle.std.specs.Prelude.{◌≡◌, Some, [], ◌∷◌, IfOk, IfSome, OnOk, length};
+ghost use Rattle.std.specs.Prelude.{◌≡◌, ◌<◌, ◌≤◌, ◌^◌, Some, [], ◌∷◌, IfOk, IfErr, OnOk, length};
 ghost use Rattle.stm_records.specs.Disk.{LeavesOnly};
 ghost use Rattle.stm_records.specs.RecordFiles.{IsSettled};
-ghost use Rattle.stm_lasting.specs.Kept.{world_in, IsKept, OpensToEither};
+ghost use Rattle.stm_lasting.specs.Kept.{world_in, IsKept, HasRecords, OpensToEither};
 
 use crate::fault::KeepFault;
 use crate::keeping::fault_of;
-use crate::replay::{ReplayFault, world_begun};
+use crate::replay::world_begun;
 use std::alloc::{AllocError, Global};
 use stm_records::{Disk, RecordFile};
 use stm_retry::World;
 
-/// The world that a file leads to which has this text as its only record; none where it spells neither a scenario nor a checkpoint.
+/// The world that a file leads to which has this text as its only record: none exactly where the text is neither a scenario, nor a checkpoint with which a
+/// store can open. Out of memory is the only refusal.
 pub fn world_of_checkpoint(alloc: Global, text: &[u8]) -> Result<Option<World>, AllocError>
-    ensures { IfOk result (λ o. IfSome o (λ w. world_in (text.now ∷ []) ≡ Some w)) }
+    ensures { IfOk result (λ o. o ≡ world_in (text.now ∷ [])) }
 {
-    match world_begun(alloc, text, 0) {
-        Ok(world) => Ok(Some(world)),
-        Err(ReplayFault::OutOfMemory) => Err(AllocError),
-        Err(ReplayFault::NoScenario(_)) => Ok(None),
-    }
+    let world = world_begun(alloc, text)?;
+    Ok(world)
 }
 
 /// Puts a file with this text as its only record in the place of the file of a world. The text leads to the other world.
@@ -39,9 +37,13 @@ pub fn compact<D: Disk>(
     ensures settled { OnOk result (IsSettled D.is_usable D.seen D.may_leave records.new) }
     ensures kept { OnOk result (IsKept (D.seen records.new.disk) after.now) }
     ensures end { OnOk result (records.new.end ≡ length (D.seen records.new.disk)) }
+    ensures count { OnOk result (HasRecords (D.seen records.new.disk) 1) }
 
     // A crash at any moment of the call leaves a file that opens to the world from before it, or to the other one.
     ensures any_moment { LeavesOnly D.moment D.left_since records.old.disk records.new.disk (OpensToEither before.now after.now) }
+
+    ensures failed { IfErr result (λ e. e ≡ KeepFault.Failed → D.faults records.old.disk < D.faults records.new.disk) }
+    ensures full { IfErr result (λ e. e ≡ KeepFault.Full → 2 ^ 60 ≤ length text.now) }
 {
     let _before = before;
     let _after = after;

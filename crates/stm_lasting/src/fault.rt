@@ -19,7 +19,7 @@ pub enum KeptFault {
 /// Why a world could not be kept.
 #[derive(Clone, Copy, Debug, PartialEq, Eq)]
 pub enum KeepFault {
-    /// An allocation failed. The file is as it was.
+    /// An allocation failed. The file has the text or not.
     OutOfMemory,
     /// The disk failed. The file has the text or not.
     Failed,

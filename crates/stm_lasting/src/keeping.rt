@@ -1,11 +1,11 @@
 //! Running a scenario, and making it last.
-ghost use Rattle.std.specs.Prelude.{◌≡◌, ◌++◌, Ok as OkOf, length, IfOk, OnOk};
+ghost use Rattle.std.specs.Prelude.{◌≡◌, ◌⊎◌, ◌<◌, ◌≤◌, ◌^◌, ◌++◌, ℕ, Ok as OkOf, length, IfOk, IfErr, OnOk, IsErrOf};
 ghost use Rattle.stm_frames.specs.Frame.{frame};
 ghost use Rattle.stm_records.specs.Disk.{LeavesOnly};
 ghost use Rattle.stm_records.specs.RecordFiles.{IsSettled, IsBeforeOrAfter};
 ghost use Rattle.stm_texts.specs.Reading.{scenario_in};
 ghost use Rattle.stm_world.specs.World.{replies_to, world_after};
-ghost use Rattle.stm_lasting.specs.Kept.{IsKept, IsReady, LeadsTo, IsWorldBeforeOrAfter};
+ghost use Rattle.stm_lasting.specs.Kept.{IsKept, IsReady, IsTooLong, LeadsTo, IsWorldBeforeOrAfter};
 
 use crate::fault::KeepFault;
 use stm_events::{Denied, Reply};
@@ -36,7 +36,10 @@ fn run<D: Disk>(
 }
 
 /// What a fault of the records is called here.
-pub(crate) fn fault_of(fault: DiskFault) -> KeepFault {
+pub(crate) fn fault_of(fault: DiskFault) -> KeepFault
+    ensures failed { result ≡ KeepFault.Failed → (fault ≡ DiskFault.Failed) ⊎ ((at : ℕ) × (fault ≡ DiskFault.Damaged at)) }
+    ensures full { result ≡ KeepFault.Full → fault ≡ DiskFault.Full }
+{
     match fault {
         DiskFault::OutOfMemory => KeepFault::OutOfMemory,
         DiskFault::Failed | DiskFault::Damaged(_) => KeepFault::Failed,
@@ -53,6 +56,10 @@ fn add_record<D: Disk>(records: &mut RecordFile<D>, text: &[u8]) -> Result<(), D
 
     ensures any_moment { LeavesOnly D.moment D.left_since records.old.disk records.new.disk
         (IsBeforeOrAfter (D.seen records.old.disk) text.now) }
+
+    ensures failed { IsErrOf result DiskFault.Failed → D.faults records.old.disk < D.faults records.new.disk }
+    ensures full { IsErrOf result DiskFault.Full → (2 ^ 60 ≤ records.old.end) ⊎ (2 ^ 60 ≤ length text.now) }
+    ensures undamaged { (at : ℕ) → IsErrOf result (DiskFault.Damaged at) → ⊥ }
 {
     if records.end == 0 {
         records.checkpoint(text)
@@ -80,6 +87,9 @@ fn keep<D: Disk>(records: &mut RecordFile<D>, world: &World, text: &[u8]) -> Res
     // A crash at any moment of the call leaves a file that opens to the world from before it, or to this one.
     ensures any_moment { LeavesOnly D.moment D.left_since records.old.disk records.new.disk
         (IsWorldBeforeOrAfter (D.seen records.old.disk) text.now world.now) }
+
+    ensures failed { IfErr result (λ e. e ≡ KeepFault.Failed → D.faults records.old.disk < D.faults records.new.disk) }
+    ensures full { IfErr result (λ e. e ≡ KeepFault.Full → IsTooLong (D.seen records.old.disk) text.now) }
 {
     let _runners = world;
     let _length = length_of(records);
@@ -112,6 +122,10 @@ pub fn go_on<D: Disk>(
     // A crash at any moment of the call leaves a file that opens to the world from before it, or to the one after the scenario.
     ensures any_moment { LeavesOnly D.moment D.left_since records.old.disk records.new.disk
         (IsWorldBeforeOrAfter (D.seen records.old.disk) text.now (world_after scenario.now.events world.old)) }
+
+    // It doesn't give up by itself.
+    ensures failed { IfErr result (λ e. e ≡ KeepFault.Failed → D.faults records.old.disk < D.faults records.new.disk) }
+    ensures full { IfErr result (λ e. e ≡ KeepFault.Full → IsTooLong (D.seen records.old.disk) text.now) }
 {
     let Ok(replies) = run(records, world, text, scenario) else {
         return Err(KeepFault::OutOfMemory);

@@ -1,9 +1,9 @@
 //! The world that records lead to.
-ghost use Rattle.std.specs.Prelude.{◌≡◌, Some, Ok as OkOf, take, drop, IfOk, OnOk};
+ghost use Rattle.std.specs.Prelude.{◌≡◌, ℕ, None, Some, Ok as OkOf, take, drop, IfOk, IfErr, OnOk};
 ghost use Rattle.stm_frames.specs.Frame.{at_places};
 ghost use Rattle.stm_texts.specs.Opens.{setup_of, IsOpening};
 ghost use Rattle.stm_texts.specs.Reading.{scenario_in};
-ghost use Rattle.stm_world.specs.World.{opened, world_after};
+ghost use Rattle.stm_world.specs.World.{World as WorldOf, opened, world_after};
 ghost use Rattle.stm_lasting.specs.CheckpointText.{checkpoint_in};
 ghost use Rattle.stm_lasting.specs.Kept.{taken, led, begun, begun_with, resumed, world_in};
 
@@ -70,10 +70,10 @@ pub fn empty_world(alloc: Global, scenario: &Scenario) -> Result<World, AllocErr
     Ok(world)
 }
 
-/// The scenario of the record that stands at an offset.
+/// The scenario of the record that stands at an offset. `NoScenario`: it spells none.
 fn read(alloc: Global, text: &[u8], at: usize) -> Result<Scenario, ReplayFault>
     ensures read { IfOk result (λ s. scenario_in text.now ≡ OkOf s) }
-    ensures opening { IfOk result (λ s. IsOpening s.opening) }
+    ensures none { IfErr result (λ e. (offset : ℕ) → e ≡ ReplayFault.NoScenario offset → (w : WorldOf) → taken w (scenario_in text.now) ≡ None) }
 {
     match read_scenario(alloc, text) {
         Ok(scenario) => Ok(scenario),
@@ -83,23 +83,25 @@ fn read(alloc: Global, text: &[u8], at: usize) -> Result<Scenario, ReplayFault>
 }
 
 /// Runs a scenario, whose replies are of no use any more.
-fn run_again(world: &mut World, scenario: &Scenario) -> Result<(), ReplayFault>
+fn run_again(world: &mut World, scenario: &Scenario) -> Result<(), AllocError>
     ensures { OnOk result (world.new ≡ world_after scenario.now.events world.old) }
 {
     match world.run(scenario.events.as_slice()) {
         Ok(_) => Ok(()),
-        Err(_) => Err(ReplayFault::OutOfMemory),
+        Err(_) => Err(AllocError),
     }
 }
 
-/// Takes the record of a place.
+/// Takes the record of a place. `NoScenario`: it spells none.
 fn take_record(
     alloc: Global,
     world: &mut World,
     bytes: &[u8],
     place: &(usize, usize),
 ) -> Result<(), ReplayFault>
-    ensures { OnOk result (taken world.old (scenario_in (take place.now.1 (drop place.now.0 bytes.now))) ≡ Some world.new) }
+    ensures taken { OnOk result (taken world.old (scenario_in (take place.now.1 (drop place.now.0 bytes.now))) ≡ Some world.new) }
+    ensures none { IfErr result (λ e. (at : ℕ) → e ≡ ReplayFault.NoScenario at
+        → taken world.old (scenario_in (take place.now.1 (drop place.now.0 bytes.now))) ≡ None) }
 {
     let scenario = read(alloc, record_at(bytes, place), place.0)?;
     run_again(world, &scenario)?;
@@ -107,79 +109,81 @@ fn take_record(
 }
 
 /// The world after a scenario with which a file begins.
-fn begun_world(alloc: Global, scenario: &Scenario) -> Result<World, ReplayFault>
+fn begun_world(alloc: Global, scenario: &Scenario) -> Result<World, AllocError>
     requires { IsOpening scenario.now.opening }
     ensures { IfOk result (λ w. begun (OkOf scenario.now) ≡ Some w) }
 {
-    let Ok(mut world) = empty_world(alloc, scenario) else {
-        return Err(ReplayFault::OutOfMemory);
-    };
+    let mut world = empty_world(alloc, scenario)?;
     run_again(&mut world, scenario)?;
     Ok(world)
 }
 
-/// The world that a checkpoint leads to, and then its scenario.
-#[tactic(auto, using(crate::proofs::Resuming::resumes))]
+/// The world that a checkpoint leads to, and then its scenario; none where no store can open with it.
+#[tactic(auto, using(crate::proofs::Resuming::resumes, crate::proofs::Resuming::resumes_nowhere))]
 fn restored_world(
     alloc: Global,
     checkpoint: Checkpoint,
     scenario: &Scenario,
-    at: usize,
-) -> Result<World, ReplayFault>
-    ensures { IfOk result (λ w. resumed (Some (checkpoint, scenario.now)) ≡ Some w) }
+) -> Result<Option<World>, AllocError>
+    ensures { IfOk result (λ o. o ≡ resumed (Some (checkpoint, scenario.now))) }
 {
     let Some(mut world) = World::restored(alloc, checkpoint)? else {
-        return Err(ReplayFault::NoScenario(at));
+        return Ok(None);
     };
     run_again(&mut world, scenario)?;
-    Ok(world)
+    Ok(Some(world))
 }
 
-/// The world that the text of a checkpoint leads to.
-fn resumed_world(alloc: Global, text: &[u8], at: usize) -> Result<World, ReplayFault>
-    ensures { IfOk result (λ w. resumed (checkpoint_in text.now) ≡ Some w) }
+/// The world that the text of a checkpoint leads to; none where it is no checkpoint, or no store can open with it.
+fn resumed_world(alloc: Global, text: &[u8]) -> Result<Option<World>, AllocError>
+    ensures { IfOk result (λ o. o ≡ resumed (checkpoint_in text.now)) }
 {
     let Some((checkpoint, scenario)) = read_checkpoint(alloc, text)? else {
-        return Err(ReplayFault::NoScenario(at));
+        return Ok(None);
     };
-    let world = restored_world(alloc, checkpoint, &scenario, at)?;
+    let world = restored_world(alloc, checkpoint, &scenario)?;
     Ok(world)
 }
 
-/// The world that a text leads to with which a file begins, at this offset: a scenario, or a checkpoint.
-pub(crate) fn world_begun(alloc: Global, text: &[u8], at: usize) -> Result<World, ReplayFault>
-    ensures { IfOk result (λ w. begun_with (scenario_in text.now) text.now ≡ Some w) }
+/// The world that a text leads to with which a file begins: a scenario, or a checkpoint. None where it is neither.
+pub(crate) fn world_begun(alloc: Global, text: &[u8]) -> Result<Option<World>, AllocError>
+    ensures { IfOk result (λ o. o ≡ begun_with (scenario_in text.now) text.now) }
 {
     match read_scenario(alloc, text) {
         Ok(scenario) => {
             let world = begun_world(alloc, &scenario)?;
-            Ok(world)
+            Ok(Some(world))
         }
-        Err(ReadError::OutOfMemory) => Err(ReplayFault::OutOfMemory),
+        Err(ReadError::OutOfMemory) => Err(AllocError),
         Err(ReadError::Bad(_)) => {
-            let world = resumed_world(alloc, text, at)?;
+            let world = resumed_world(alloc, text)?;
             Ok(world)
         }
     }
 }
 
-/// The world after the first record, which stands at this place.
+/// The world after the first record, which stands at this place. `NoScenario`: it spells neither a scenario nor a checkpoint.
 fn first_world(alloc: Global, bytes: &[u8], place: &(usize, usize)) -> Result<World, ReplayFault>
-    ensures { IfOk result (λ w. begun_with (scenario_in (take place.now.1 (drop place.now.0 bytes.now))) (take place.now.1 (drop place.now.0 bytes.now))
+    ensures world { IfOk result (λ w. begun_with (scenario_in (take place.now.1 (drop place.now.0 bytes.now))) (take place.now.1 (drop place.now.0 bytes.now))
         ≡ Some w) }
+    ensures none { IfErr result (λ e. (at : ℕ) → e ≡ ReplayFault.NoScenario at
+        → begun_with (scenario_in (take place.now.1 (drop place.now.0 bytes.now))) (take place.now.1 (drop place.now.0 bytes.now)) ≡ None) }
 {
-    let world = world_begun(alloc, record_at(bytes, place), place.0)?;
-    Ok(world)
+    match world_begun(alloc, record_at(bytes, place))? {
+        Some(world) => Ok(world),
+        None => Err(ReplayFault::NoScenario(place.0)),
+    }
 }
 
-/// Takes the records of these places, one after another.
+/// Takes the records of these places, one after another. `NoScenario`: one of them spells none.
 fn take_records(
     alloc: Global,
     world: &mut World,
     bytes: &[u8],
     places: &[(usize, usize)],
 ) -> Result<(), ReplayFault>
-    ensures { OnOk result (led (at_places bytes.now places.now) world.old ≡ Some world.new) }
+    ensures taken { OnOk result (led (at_places bytes.now places.now) world.old ≡ Some world.new) }
+    ensures none { IfErr result (λ e. (at : ℕ) → e ≡ ReplayFault.NoScenario at → led (at_places bytes.now places.now) world.old ≡ None) }
 {
     for place in places {
         take_record(alloc, world, bytes, place)?;
@@ -187,19 +191,18 @@ fn take_records(
     Ok(())
 }
 
-/// The world that the records of these places lead to.
+/// The world that the records of these places lead to. `NoScenario`: one of them spells no scenario, so they lead to none.
 pub(crate) fn world_of(
     alloc: Global,
     bytes: &[u8],
     places: &[(usize, usize)],
 ) -> Result<World, ReplayFault>
-    ensures { IfOk result (λ w. world_in (at_places bytes.now places.now) ≡ Some w) }
+    ensures world { IfOk result (λ w. world_in (at_places bytes.now places.now) ≡ Some w) }
+    ensures none { IfErr result (λ e. (at : ℕ) → e ≡ ReplayFault.NoScenario at → world_in (at_places bytes.now places.now) ≡ None) }
 {
     let Some((first, rest)) = places.split_first() else {
-        return match World::new(alloc) {
-            Ok(world) => Ok(world),
-            Err(AllocError) => Err(ReplayFault::OutOfMemory),
-        };
+        let world = World::new(alloc)?;
+        return Ok(world);
     };
     let mut world = first_world(alloc, bytes, first)?;
     take_records(alloc, &mut world, bytes, rest)?;

@@ -104,6 +104,9 @@ pub fn open<D: Disk>(alloc: Global, disk: &mut D, bytes: Vec<u8>) -> Result<Open
 
     // A crash at any moment leaves a file that opens to the same records.
     ensures any_moment { LeavesOnly D.moment D.left_since disk.old disk.new (OpensAlike (D.seen disk.old)) }
+
+    ensures failed { IsErrOf result DiskFault.Failed → D.faults disk.old < D.faults disk.new }
+    ensures full { IsErrOf result DiskFault.Full → ⊥ }
 {
     if is_headless(&bytes) {
         return Err(DiskFault::Damaged(0));

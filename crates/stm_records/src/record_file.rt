@@ -1,5 +1,5 @@
 //! Files of records, each of which lasts before it is acknowledged.
-ghost use Rattle.std.specs.Prelude.{◌≡◌, ◌⊎◌, ◌<◌, ◌≤◌, ◌^◌, ◌++◌, length, OnOk, IsErrOf};
+ghost use Rattle.std.specs.Prelude.{◌≡◌, ◌⊎◌, ◌<◌, ◌≤◌, ◌^◌, ◌++◌, ℕ, length, OnOk, IsErrOf};
 ghost use Rattle.stm_frames.specs.Frame.{frame};
 ghost use Rattle.stm_records.specs.Disk.{LeavesOnly};
 ghost use Rattle.stm_records.specs.RecordFiles.{IsSettled, IsBeforeOrAfter};
@@ -27,7 +27,7 @@ impl<D: Disk> RecordFile<D> {
     /// Adds a record. At `Ok` it is acknowledged: from then on each crash leaves a file that has it.
     ///
     /// At `Err` the file may have it or not, also after a crash: this value is of no more use, and the file has to be opened again. `Failed`: the disk
-    /// failed. `Full`: the record or the file would be longer than 2^60 bytes. `OutOfMemory`: nothing was written.
+    /// failed. `Full`: the record or the file would be longer than 2^60 bytes; nothing was written. `OutOfMemory`: an allocation failed, maybe behind the write.
     pub fn append(&mut self, payload: &[u8]) -> Result<(), DiskFault>
         requires { IsSettled D.is_usable D.seen D.may_leave self.old }
 
@@ -41,6 +41,7 @@ impl<D: Disk> RecordFile<D> {
         // It doesn't give up by itself.
         ensures failed { IsErrOf result DiskFault.Failed → D.faults self.old.disk < D.faults self.new.disk }
         ensures full { IsErrOf result DiskFault.Full → (2 ^ 60 ≤ self.old.end) ⊎ (2 ^ 60 ≤ length payload.now) }
+        ensures undamaged { (at : ℕ) → IsErrOf result (DiskFault.Damaged at) → ⊥ }
     {
         if self.end >= MOST_BYTES || payload.len() >= MOST_BYTES {
             return Err(DiskFault::Full);
@@ -68,6 +69,7 @@ impl<D: Disk> RecordFile<D> {
 
         ensures failed { IsErrOf result DiskFault.Failed → D.faults self.old.disk < D.faults self.new.disk }
         ensures full { IsErrOf result DiskFault.Full → 2 ^ 60 ≤ length payload.now }
+        ensures undamaged { (at : ℕ) → IsErrOf result (DiskFault.Damaged at) → ⊥ }
     {
         if payload.len() >= MOST_BYTES {
             return Err(DiskFault::Full);

@@ -12,7 +12,7 @@ use Rattle.stm_lasting.proofs.Moments.{nothing}
 use Rattle.stm_report.specs.declared.format.Format.{Format}
 use Rattle.stm_report.specs.FormatScript.{IsTextSince}
 use Rattle.stm_report.proofs.FormatRowLemmas.{one_reply}
-use Rattle.stm_storing.specs.Storing.{IsOpened, HasRun, HasPrinted, HasGoneOn, LeadsPast, LeavesAround}
+use Rattle.stm_storing.specs.Storing.{IsOpened, HasRun, HasPrinted, HasGoneOn, LeavesAround}
 
 -- the opening of a file, and then what leaves a file that has Q
 pub then : {D : Type 0} {moment : D → ℕ} {left_since : D → ℕ → List ℕ → Type 0} {old mid new : D} {found mended : List ℕ} {world : World}
@@ -55,10 +55,6 @@ module _ (mended : List ℕ) (scenario : Scenario) (since : ℕ) (after_it : Wor
 
   kept_past : (file : List ℕ) → IsKept file after_it → IsKept file (world_after scenario.events run.0)
   kept_past file kept = subst (λ (w : World). IsKept file w) run.2 kept
-
-  -- the file leads to the world after it
-  pub leads_past : (file : List ℕ) → IsKept file after_it → LeadsPast mended file replies
-  leads_past file kept = record { scenario = scenario; before = run.0; ready = run.1; kept = kept_past file kept; replied = run.3 }
 
   -- and its report was printed
   pub gone_on : (format : Format) (found file : List ℕ) (world : World) (before_it held : Option (List ℕ)) → IsOpened found mended world → IsKept file after_it

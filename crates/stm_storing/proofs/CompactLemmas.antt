@@ -1,19 +1,21 @@
 -- What worlds show that are compared, and what a crash leaves of a compaction.
-use Rattle.std.proofs.Common.{◌≡◌, ◌⊎◌, inl, inr, ⊎_elim, ℕ, ◌-◌, ◌≤◌, Bool, rules, List, Option, None, Some, option_map, Decides, refl, sym, ap, ◌∙◌, subst, arith}
+use Rattle.std.proofs.Common.{◌≡◌, ◌⊎◌, inl, inr, ⊎_elim, ℕ, zero, suc, ◌+◌, ◌-◌, ◌<◌, ◌≤◌, Bool, false, is_some, rules, List, slice_get, length, Option, None, Some, option_map, Decides, refl, sym, ap, ◌∙◌, subst, arith}
 use Rattle.std.specs.Prelude.{unwrap_or}
 use Rattle.std.specs.BTreeMap.{BTreeMap}
 use Rattle.std.specs.Cmp.{nat_cmp_total}
 use Rattle.std.specs.FinMap.{same_map, nat_cmp-IsAntisymmetric}
 use Rattle.std.specs.Map.{lookup}
 use Rattle.std.specs.Ordering.{nat_cmp, is_eq}
+use Rattle.std.proofs.lemmas.Bool.{cases_lt}
 use Rattle.std.proofs.lemmas.Bool.Decides.{Decides-eqb}
+use Rattle.std.proofs.lemmas.Option.{slice_get_past}
 use Rattle.stm_history.specs.History.{now, key_at}
 use Rattle.stm_leases.specs.Live.{Live}
 use Rattle.stm_entries.specs.declared.live_leases.LiveLease.{LiveLease}
 use Rattle.stm_entries.specs.contracts.live_leases.LiveLeasePartialEq.TheImpl.{eq-value}
 use Rattle.stm_entries.specs.LiveLeases.{term_of, HasLeases}
 use Rattle.stm_txn.specs.Standing.{Standing, kept}
-use Rattle.stm_world.specs.World.{World}
+use Rattle.stm_world.specs.World.{World, Slot, live_in, runner_at}
 use Rattle.stm_frames.proofs.Unique.{opens_log}
 use Rattle.stm_records.specs.Disk.{LeavesOnly}
 use Rattle.stm_lasting.proofs.Moments.{weaker}
@@ -21,7 +23,7 @@ use Rattle.stm_lasting.specs.Kept.{IsKept, OpensTo, OpensAlike}
 use Rattle.stm_storing.specs.Storing.{IsOpened}
 use Rattle.stm_storing.proofs.Around.{then}
 use Rattle.stm_storing.specs.Jobs.{AreAlikeSince}
-use Rattle.stm_storing.specs.Compacting.{ShowsTheSame, ShowTheSame, asked_floor, ShowsTheKept, HasDropped, HasCompacted, OpensCompacted, LeavesFoundOrCompacted}
+use Rattle.stm_storing.specs.Compacting.{ShowsTheSame, ShowTheSame, asked_floor, ShowsTheKept, HasDropped, CanBeAsked, IsRewritten, HasCompacted, OpensCompacted, LeavesFoundOrCompacted}
 
 -- what `==` says of two live leases
 pub lease_decides : (a b : LiveLease) → Decides (eq-value.it a b) (a ≡ b)
@@ -51,6 +53,17 @@ pub worlds_show : (floor : ℕ) (s t : Standing) (u v : Standing) → u ≡ kept
 worlds_show floor s t u v is are live then =
     let same : u.live ≡ v.live = ap (λ (w : Standing). w.live) is ∙ live ∙ sym (ap (λ (w : Standing). w.live) are) in
     subst (λ (w : Standing). ShowsTheSame floor w (kept t)) is (subst (λ (w : Standing). ShowsTheSame floor u w) are (then same))
+
+-- no runner runs, where none of those that were started does
+pub none_runs : (slots : List Slot) → ((k : ℕ) → k < length slots → is_some (runner_at (k + 1) slots) ≡ false) → (id : ℕ) → is_some (runner_at id slots) ≡ false
+none_runs slots none zero = refl
+none_runs slots none (suc n) =
+    let next : n + 1 ≡ suc n = omega arith in
+    let before : suc n - 1 ≡ n = omega arith in
+    ⊎_elim
+    (λ within. subst (λ (id : ℕ). is_some (runner_at id slots) ≡ false) next (none n within))
+    (λ past. ap (λ (o : Option Slot). is_some (live_in o)) (ap (λ (k : ℕ). slice_get slots k) before ∙ slice_get_past slots n past))
+    (cases_lt n (length slots))
 
 -- the revision that is asked for
 pub floor_asked : (asked : Option ℕ) (s : Standing) (revision : ℕ) → revision ≡ now s.history → unwrap_or asked revision ≡ asked_floor asked s
@@ -82,12 +95,15 @@ as_compacted asked found before floor c opens is (inr new) =
 
 -- the file that was written, in the same words
 pub has_compacted : (asked : Option ℕ) (found file : List ℕ) (before : World) (floor : ℕ) → OpensTo found before → floor ≡ asked_floor asked (kept before.standing)
+    → CanBeAsked asked (kept before.standing) → IsRewritten before file ⊎ HasDropped floor before
     → ((after : World) × IsKept file after × ShowTheSame floor before after × HasDropped floor after) → HasCompacted asked found file
-has_compacted asked found file before floor opens is new = record {
+has_compacted asked found file before floor opens is readable written new = record {
   before = before;
   after = new.0;
   opens = opens;
+  readable = readable;
   kept = new.1;
+  written = ⊎_elim (λ anew. inl anew) (λ lowest. inr (subst (λ (n : ℕ). HasDropped n before) is lowest)) written;
   shows = subst (λ (n : ℕ). ShowTheSame n before new.0) is new.2;
   dropped = subst (λ (n : ℕ). HasDropped n new.0) is new.3;
 }

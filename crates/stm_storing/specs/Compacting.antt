@@ -1,12 +1,14 @@
 -- What the file of a world is once it was written anew as a checkpoint, also where a crash comes at any moment of that.
 --
 -- etcd's API reference, "Compaction": what a store shows from the compacted revision on stays. That it is looked at before the file is written is our own.
-use Rattle.std.specs.Prelude.{◌≡◌, ◌⊎◌, ◌≤◌, ◌+◌, ℕ, List, Option, None, Some}
+use Rattle.std.specs.Prelude.{◌≡◌, ◌⊎◌, ◌≤◌, ◌+◌, ℕ, false, is_some, List, Option, None, Some}
+use Rattle.std.specs.List.{list_any}
 use Rattle.stm_history.specs.History.{now, key_at}
 use Rattle.stm_keys.specs.Events.{events_of}
 use Rattle.stm_txn.specs.Standing.{Standing, kept}
-use Rattle.stm_world.specs.World.{World}
-use Rattle.stm_lasting.specs.Kept.{IsKept, OpensTo, OpensAlike}
+use Rattle.stm_world.specs.World.{World, runner_at}
+use Rattle.stm_lasting.specs.Kept.{IsKept, OpensTo, OpensAlike, HasRecords}
+use Rattle.stm_storing.specs.Storing.{IsToCome, IsCompacted, CanBeRead}
 
 -- Two stores show the same at a revision, and above it have had the same events; they have the same leases, moment and limit of operations.
 pub record ShowsTheSame (floor : ℕ) (s t : Standing) : Type 0 where
@@ -38,12 +40,34 @@ ShowsTheKept asked before after = ShowTheSame (asked_floor asked (kept before.st
 abbrev pub HasDroppedTheRest : Option ℕ → World → World → Type 0
 HasDroppedTheRest asked before after = HasDropped (asked_floor asked (kept before.standing)) after
 
--- the file of a world leads to one that shows the same from a revision on, and has nothing below it
+-- why a store is not to be kept from a revision on: it is yet to come, or was compacted; or it can be read, and no checkpoint was found
+abbrev pub IsAskedToCome : Option ℕ → Standing → Type 0
+IsAskedToCome asked s = IsToCome (asked_floor asked s) s
+
+abbrev pub IsAskedCompacted : Option ℕ → Standing → Type 0
+IsAskedCompacted asked s = IsCompacted (asked_floor asked s) s
+
+abbrev pub CanBeAsked : Option ℕ → Standing → Type 0
+CanBeAsked asked s = CanBeRead (asked_floor asked s) s
+
+-- No runner of a world runs, and no watcher of its store is open: a checkpoint has neither.
+pub record IsQuiet (world : World) : Type 0 where
+  pub runners : (id : ℕ) → is_some (runner_at id world.runners) ≡ false
+  pub watchers : list_any is_some (kept world.standing).watchers ≡ false
+
+-- a file was written anew as one record
+pub record IsRewritten (before : World) (file : List ℕ) : Type 0 where
+  pub quiet : IsQuiet before
+  pub one : HasRecords file 1
+
+-- The file of a world leads to one that shows the same from a revision on, and has nothing below it: it was written anew, or there was nothing below.
 pub record HasCompacted (asked : Option ℕ) (found file : List ℕ) : Type 0 where
   pub before : World
   pub after : World
   pub opens : OpensTo found before
+  pub readable : CanBeAsked asked (kept before.standing)
   pub kept : IsKept file after
+  pub written : IsRewritten before file ⊎ HasDroppedTheRest asked before before
   pub shows : ShowsTheKept asked before after
   pub dropped : HasDroppedTheRest asked before after
 

@@ -2,4 +2,5 @@ pub mod Compacting
 pub mod Faults
 pub mod Jobs
 pub mod Past
+pub mod Running
 pub mod Storing

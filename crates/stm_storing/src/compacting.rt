@@ -1,12 +1,15 @@
 //! Writing the file of a world anew, without what is below a revision.
-ghost use Rattle.std.specs.Prelude.{◌≡◌, ◌≤◌, ◌⊎◌, ◌∷◌, ℕ, [], List, true, false, Some, IfOk, OnOk, IsTrue, length, string_bytes};
+ghost use Rattle.std.specs.Prelude.{◌≡◌, ◌≤◌, ◌⊎◌, ◌∷◌, ℕ, [], List, true, false, is_some, Some, IfOk, IfErr, OnOk, IsTrue, length, string_bytes};
 ghost use Rattle.stm_history.specs.History.{now, key_at};
 ghost use Rattle.stm_txn.specs.Standing.{kept};
-ghost use Rattle.stm_world.specs.World.{World as WorldOf};
+ghost use Rattle.stm_world.specs.World.{World as WorldOf, runner_at};
+ghost use Rattle.std.specs.List.{list_any};
 ghost use Rattle.stm_records.specs.Disk.{Only, LeavesOnly};
 ghost use Rattle.stm_records.specs.RecordFiles.{IsSettled};
-ghost use Rattle.stm_lasting.specs.Kept.{world_in, IsKept, OpensTo};
-ghost use Rattle.stm_storing.specs.Compacting.{asked_floor, ShowsTheSame, ShowTheSame, HasDropped, HasCompacted, LeavesFoundOrCompacted};
+ghost use Rattle.stm_lasting.specs.Kept.{world_in, IsKept, OpensTo, HasRecords};
+ghost use Rattle.stm_storing.specs.Compacting.{asked_floor, ShowsTheSame, ShowTheSame, HasDropped, HasCompacted, LeavesFoundOrCompacted, IsQuiet, IsAskedToCome, IsAskedCompacted, CanBeAsked};
+ghost use Rattle.stm_storing.specs.Faults.{IsOfRewriting};
+ghost use Rattle.stm_storing.specs.Storing.{OpensToStore};
 
 use crate::checkpoint_text::checkpoint_text;
 use crate::fault::StoreFault;
@@ -22,7 +25,9 @@ use stm_report::{LiveLease, live_leases};
 use stm_txn::Store;
 
 /// Whether a runner of a world runs.
-fn has_running(world: &World) -> bool {
+fn has_running(world: &World) -> bool
+    ensures { result ≡ false → (id : ℕ) → is_some (runner_at id world.now.runners) ≡ false }
+{
     for runner in 0..world.runner_count() as u64 {
         if world.is_running(runner + 1) {
             return true;
@@ -116,6 +121,10 @@ fn show_the_same(alloc: Global, left: &World, right: &World, floor: u64) -> Resu
 fn floor_of(store: &Store, asked: Option<u64>) -> Result<u64, StoreFault>
     ensures asked { IfOk result (λ floor. floor ≡ asked_floor asked store.now.standing) }
     ensures within { IfOk result (λ floor. floor ≤ now store.now.standing.history) }
+    ensures readable { OnOk result (CanBeAsked asked store.now.standing) }
+    ensures future { IfErr result (λ e. e ≡ StoreFault.FutureRevision → IsAskedToCome asked store.now.standing) }
+    ensures compacted { IfErr result (λ e. e ≡ StoreFault.Compacted → IsAskedCompacted asked store.now.standing) }
+    ensures found { IfErr result (λ e. e ≡ StoreFault.CannotCompact → ⊥) }
 {
     let revision = store.keys().revision();
     let floor = asked.unwrap_or(revision);
@@ -157,6 +166,7 @@ fn compare(alloc: Global, world: &World, after: &World, floor: u64) -> Result<()
     requires reached { floor ≤ now (kept world.now.standing).history }
     ensures same { OnOk result (ShowTheSame floor world.now after.now) }
     ensures dropped { OnOk result (HasDropped floor after.now) }
+    ensures rewriting { IfErr result IsOfRewriting }
 {
     let same = show_the_same(alloc, world, after, floor)?;
     if same && has_dropped(after, floor) {
@@ -182,6 +192,7 @@ fn checkpoint_of(alloc: Global, world: &World, floor: u64) -> Result<Made, Store
     ensures leads { IfOk result (λ made. world_in (string_bytes made.text ∷ []) ≡ Some made.world) }
     ensures same { IfOk result (λ made. ShowTheSame floor world.now made.world) }
     ensures dropped { IfOk result (λ made. HasDropped floor made.world) }
+    ensures rewriting { IfErr result IsOfRewriting }
 {
     let text = checkpoint_text(alloc, world, floor)?;
     let Some(after) = world_of_checkpoint(alloc, text.as_str().as_bytes())? else {
@@ -204,6 +215,8 @@ fn compact_at<D: Disk>(
     ensures settled { OnOk result (IsSettled D.is_usable D.seen D.may_leave records.new) }
     ensures same { OnOk result ((after : WorldOf) × IsKept (D.seen records.new.disk) after × ShowTheSame floor world.now after
         × HasDropped floor after) }
+    ensures count { OnOk result (HasRecords (D.seen records.new.disk) 1) }
+    ensures rewriting { IfErr result IsOfRewriting }
     ensures any_moment { LeavesOnly D.moment D.left_since records.old.disk records.new.disk
         (λ c. OpensTo c world.now ⊎ ((after : WorldOf) × OpensTo c after × ShowTheSame floor world.now after)) }
 {
@@ -214,9 +227,21 @@ fn compact_at<D: Disk>(
     }
 }
 
+/// Whether a watcher of a world's store is open.
+fn has_watchers(world: &World) -> bool
+    ensures { result ≡ list_any is_some (kept world.now.standing).watchers }
+{
+    world.store().has_watchers()
+}
+
 /// Whether a runner of a world runs, or a watcher is open.
-fn is_busy(world: &World) -> bool {
-    has_running(world) || world.store().has_watchers()
+fn is_busy(world: &World) -> bool
+    ensures { result ≡ false → IsQuiet world.now }
+{
+    if has_running(world) {
+        return true;
+    }
+    has_watchers(world)
 }
 
 /// Writes the file of a world anew, which was opened with these bytes, as one record without what is below a revision: the named one, or else the store's.
@@ -235,6 +260,10 @@ pub fn compact_kept<D: Disk>(
     ensures settled { OnOk result (IsSettled D.is_usable D.seen D.may_leave records.new) }
     ensures compacted { OnOk result (HasCompacted asked (D.seen records.old.disk) (D.seen records.new.disk)) }
     ensures end { IfOk result (λ checked. checked.bytes ≡ length (D.seen records.new.disk)) }
+    ensures count { IfOk result (λ checked. HasRecords (D.seen records.new.disk) checked.records) }
+    ensures future { IfErr result (λ e. e ≡ StoreFault.FutureRevision → OpensToStore (D.seen records.old.disk) (IsAskedToCome asked)) }
+    ensures old { IfErr result (λ e. e ≡ StoreFault.Compacted → OpensToStore (D.seen records.old.disk) (IsAskedCompacted asked)) }
+    ensures cannot { IfErr result (λ e. e ≡ StoreFault.CannotCompact → OpensToStore (D.seen records.old.disk) (CanBeAsked asked)) }
 
     // A crash at any moment leaves a file that opens to what it was found to open to, or to a world that shows the same.
     ensures any_moment { LeavesOnly D.moment D.left_since records.old.disk records.new.disk (LeavesFoundOrCompacted asked (D.seen records.old.disk)) }

@@ -1,6 +1,6 @@
 //! Why the program could not do what it was asked for with a world that lasts.
 ghost use Rattle.std.specs.Prelude.{◌≡◌, ℕ};
-ghost use Rattle.stm_storing.specs.Faults.{opening_fault, keeping_fault};
+ghost use Rattle.stm_storing.specs.Faults.{opening_fault, keeping_fault, IsOfOpening, IsOfRewriting};
 
 use std::alloc::AllocError;
 use std::fmt;
@@ -43,6 +43,8 @@ impl StoreFault {
     pub fn of_opening(fault: KeptFault) -> StoreFault
         ensures value { result ≡ opening_fault fault }
         ensures damaged { (at : ℕ) → result ≡ StoreFault.Damaged at → fault ≡ KeptFault.Damaged at }
+        ensures spelled { (at : ℕ) → result ≡ StoreFault.NoScenario at → fault ≡ KeptFault.NoScenario at }
+        ensures opening { IsOfOpening result }
     {
         match fault {
             KeptFault::OutOfMemory => StoreFault::OutOfMemory,
@@ -54,7 +56,8 @@ impl StoreFault {
 
     /// Why a world could not be kept.
     pub fn of_keeping(fault: KeepFault) -> StoreFault
-        ensures { result ≡ keeping_fault fault }
+        ensures value { result ≡ keeping_fault fault }
+        ensures rewriting { IsOfRewriting result }
     {
         match fault {
             KeepFault::OutOfMemory => StoreFault::OutOfMemory,

@@ -7,7 +7,7 @@ ghost use Rattle.stm_lasting.specs.Kept.{OpensAlike};
 ghost use Rattle.stm_records.specs.Disk.{Only, LeavesOnly};
 ghost use Rattle.stm_report_lines.specs.LineData.{event_data};
 ghost use Rattle.stm_report_lines.specs.Text.{line_text};
-ghost use Rattle.stm_storing.specs.Storing.{HasShownEvents, HasShownPast};
+ghost use Rattle.stm_storing.specs.Storing.{HasShownEvents, HasShownPast, OpensToStore, IsToCome, IsCompacted, CanBeRead};
 ghost use Rattle.stm_storing.specs.Past.{is_wanted, event_text, text_since, state_text, Adds, IsChangedIn, IsPast, IsTextAt};
 
 use crate::fault::StoreFault;
@@ -212,6 +212,9 @@ fn text_of_past(alloc: Global, store: &Store, revision: u64) -> Result<String, S
     ensures text { IfOk result (λ text. IsTextAt store.now.standing.history revision (string_bytes text)) }
     ensures future { now store.now.standing.history < revision → result ≡ Err StoreFault.FutureRevision }
     ensures compacted { revision ≤ now store.now.standing.history → revision < store.now.standing.floor → result ≡ Err StoreFault.Compacted }
+    ensures readable { OnOk result (CanBeRead revision store.now.standing) }
+    ensures is_to_come { IfErr result (λ e. e ≡ StoreFault.FutureRevision → IsToCome revision store.now.standing) }
+    ensures is_compacted { IfErr result (λ e. e ≡ StoreFault.Compacted → IsCompacted revision store.now.standing) }
 {
     let keys = store.keys();
     if revision > keys.revision() {
@@ -233,6 +236,8 @@ fn text_of_events(
 ) -> Result<String, StoreFault>
     ensures text { IfOk result (λ text. string_bytes text ≡ text_since wanted.now store.now.standing.history from) }
     ensures compacted { from < store.now.standing.floor → result ≡ Err StoreFault.Compacted }
+    ensures above_floor { OnOk result (store.now.standing.floor ≤ from) }
+    ensures is_compacted { IfErr result (λ e. e ≡ StoreFault.Compacted → IsCompacted from store.now.standing) }
 {
     if from < store.floor() {
         return Err(StoreFault::Compacted);
@@ -256,6 +261,8 @@ pub fn show_at<D: Disk, W: Sink>(
     requires usable { IsTrue (D.is_usable records.old.disk) }
     requires out_works { W.failed out.old ≡ false }
     ensures shown { OnOk result (HasShownPast (D.seen records.old.disk) revision (W.held out.old) (W.held out.new)) }
+    ensures future { IfErr result (λ e. e ≡ StoreFault.FutureRevision → OpensToStore (D.seen records.old.disk) (IsToCome revision)) }
+    ensures compacted { IfErr result (λ e. e ≡ StoreFault.Compacted → OpensToStore (D.seen records.old.disk) (IsCompacted revision)) }
     ensures silent { IfErr result (λ e. (e ≡ StoreFault.Output → ⊥) → W.held out.new ≡ W.held out.old) }
     ensures any_moment { LeavesOnly D.moment D.left_since records.old.disk records.new.disk (OpensAlike (D.seen records.old.disk)) }
 {
@@ -281,6 +288,7 @@ pub fn show_since<D: Disk, W: Sink>(
     requires usable { IsTrue (D.is_usable records.old.disk) }
     requires out_works { W.failed out.old ≡ false }
     ensures shown { OnOk result (HasShownEvents (D.seen records.old.disk) wanted.now from (W.held out.old) (W.held out.new)) }
+    ensures compacted { IfErr result (λ e. e ≡ StoreFault.Compacted → OpensToStore (D.seen records.old.disk) (IsCompacted from)) }
     ensures silent { IfErr result (λ e. (e ≡ StoreFault.Output → ⊥) → W.held out.new ≡ W.held out.old) }
     ensures any_moment { LeavesOnly D.moment D.left_since records.old.disk records.new.disk (OpensAlike (D.seen records.old.disk)) }
 {

@@ -1,17 +1,21 @@
 //! Running one program over the world of a file.
-ghost use Rattle.std.specs.Prelude.{◌≡◌, Ok as OkOf, length, string_bytes, IfOk, IfErr, OnOk, IsTrue, true, false};
+ghost use Rattle.std.specs.Prelude.{◌≡◌, Some, Ok as OkOf, length, slice_get, string_bytes, IfOk, IfErr, OnOk, IsTrue, true, false};
 ghost use Rattle.stm_records.specs.Disk.{Only, LeavesOnly};
 ghost use Rattle.stm_records.specs.RecordFiles.{IsSettled};
-ghost use Rattle.stm_lasting.specs.Kept.{IsKept};
+ghost use Rattle.stm_lasting.specs.Kept.{IsKept, IsReady, IsWorldBeforeOrAfter};
+ghost use Rattle.stm_events.specs.declared.event.WorldEvent.TheVariants as kinds;
+ghost use Rattle.stm_events.specs.declared.reply.Reply.TheVariants as told;
+ghost use Rattle.stm_world.specs.World.{World as WorldOf, replies_to, world_after};
 ghost use Rattle.std.specs.Io.KnownBytes.{Appends};
 ghost use Rattle.stm_report_lines.specs.LineData.{event_data_of};
 ghost use Rattle.stm_report_lines.specs.Text.{line_text};
-ghost use Rattle.stm_storing.specs.Storing.{HasCommitted, HasPrintedLast, HasRunAlone, LeadsPast, LeavesAroundRun, LeavesFoundOrRun};
+ghost use Rattle.stm_storing.specs.Running.{start_of, AreStepsOf, IsRunOf, is_commit, LastCommits, EndInCommit};
+ghost use Rattle.stm_storing.specs.Storing.{IsOpened, HasCommitted, HasPrintedLast, HasRunAlone, LeadsPast, LeavesAroundRun, LeavesFoundOrRun};
 ghost use Rattle.stm_texts.specs.Opens.{IsOpening};
 ghost use Rattle.stm_texts.specs.Reading.{scenario_in};
 
 use crate::fault::StoreFault;
-use crate::scripting::{go_on_with, opened, print_text};
+use crate::scripting::{go_on_over, opened, print_text, ready_world};
 use std::alloc::{AllocError, Global};
 use stm_devices::Sink;
 use stm_events::{Denied, Reply, WorldEvent};
@@ -84,8 +88,102 @@ fn is_over(reply: &Result<Reply, Denied>) -> bool {
 }
 
 /// Whether a run has committed with this reply.
-fn is_committed(reply: &Result<Reply, Denied>) -> bool {
-    matches!(reply, Ok(Reply::Committed { .. }))
+fn is_committed(reply: &Result<Reply, Denied>) -> bool
+    ensures { result ≡ true → is_commit reply.now ≡ true }
+{
+    match reply {
+        Ok(Reply::Committed { .. }) => true,
+        _ => false,
+    }
+}
+
+/// Whether the last of these replies says that a run has committed.
+fn ends_in_commit(replies: &[Result<Reply, Denied>]) -> bool
+    ensures { result ≡ true → LastCommits replies.now }
+{
+    match replies.last() {
+        Some(reply) => is_committed(reply),
+        None => false,
+    }
+}
+
+/// Whether a reply says that the runner with this number was started.
+fn names(reply: &Result<Reply, Denied>, number: u64) -> bool
+    ensures { result ≡ true → reply.now ≡ OkOf (told.Started number) }
+{
+    match reply {
+        Ok(Reply::Started { runner }) => *runner == number,
+        _ => false,
+    }
+}
+
+/// Whether the first of these replies says that the runner with this number was started.
+fn begins_with(replies: &[Result<Reply, Denied>], number: u64) -> bool
+    ensures { result ≡ true → slice_get replies.now 0 ≡ Some (OkOf (told.Started number)) }
+{
+    match replies.first() {
+        Some(reply) => names(reply, number),
+        None => false,
+    }
+}
+
+/// Whether these replies are those to a run that has started as this runner and has committed.
+fn is_commit_of(replies: &[Result<Reply, Denied>], runner: u64) -> bool
+    ensures { result ≡ true → EndInCommit runner replies.now }
+{
+    if !begins_with(replies, runner) {
+        return false;
+    }
+    ends_in_commit(replies)
+}
+
+/// Whether an event starts this program in this manner.
+fn is_start_of(event: &WorldEvent, program: &Program, manner: Manner) -> bool
+    ensures { result ≡ true → event.now ≡ start_of program.now manner }
+{
+    match event {
+        WorldEvent::Start {
+            program: started,
+            level,
+            limit,
+        } => started.is_same(program) && level.is_same(manner.level) && *limit == manner.attempts,
+        _ => false,
+    }
+}
+
+/// Whether an event is a step of this runner.
+fn is_step_of(event: &WorldEvent, number: u64) -> bool
+    ensures { result ≡ true → event.now ≡ kinds.Step number }
+{
+    match event {
+        WorldEvent::Step { runner } => *runner == number,
+        _ => false,
+    }
+}
+
+/// Whether each of these events is a step of this runner.
+fn are_steps_of(events: &[WorldEvent], runner: u64) -> bool
+    ensures { result ≡ true → AreStepsOf runner events.now }
+{
+    for event in events {
+        if !is_step_of(event, runner) {
+            return false;
+        }
+    }
+    true
+}
+
+/// Whether these events are the start of this program, and steps of this runner.
+fn is_run_of(events: &[WorldEvent], program: &Program, manner: Manner, runner: u64) -> bool
+    ensures { result ≡ true → IsRunOf program.now manner runner events.now }
+{
+    let Some((first, steps)) = events.split_first() else {
+        return false;
+    };
+    if !is_start_of(first, program, manner) {
+        return false;
+    }
+    are_steps_of(steps, runner)
 }
 
 /// Whether a step was refused because an allocation failed.
@@ -175,29 +273,79 @@ fn write_last<W: Sink>(
     }
 }
 
-/// Keeps the scenario that a text spells, over the world of a file that was opened. At `Ok` it lasts, and its events had these replies.
+/// Whether a scenario over a world is a run that has started as this runner and commits. The world stays as it is.
+fn commits_over(world: &World, scenario: &Scenario, runner: u64) -> Result<bool, AllocError>
+    ensures { IfOk result (λ is. is ≡ true → EndInCommit runner (replies_to scenario.now.events world.now)) }
+{
+    let mut copy = world.copy()?;
+    let replies = copy.run(scenario.events.as_slice());
+    drop(copy);
+    match replies {
+        Ok(replies) => Ok(is_commit_of(&replies, runner)),
+        Err(_) => Err(AllocError),
+    }
+}
+
+/// Keeps the scenario that a text spells, over a world that is ready for it, where it is a run that commits as this runner. At `Ok` it lasts, and its events
+/// had these replies. `Disagrees`: it does not commit; then nothing is kept.
+fn keep_commit<D: Disk>(
+    records: &mut RecordFile<D>,
+    world: World,
+    text: &[u8],
+    scenario: &Scenario,
+    runner: u64,
+) -> Result<Vec<Result<Reply, Denied>>, StoreFault>
+    requires spelled { scenario_in text.now ≡ OkOf scenario.now }
+    requires settled { IsSettled D.is_usable D.seen D.may_leave records.old }
+    requires ready { IsReady (D.seen records.old.disk) world scenario.now }
+    ensures settled { OnOk result (IsSettled D.is_usable D.seen D.may_leave records.new) }
+    ensures kept { OnOk result (IsKept (D.seen records.new.disk) (world_after scenario.now.events world)) }
+    ensures replies { IfOk result (λ replies. replies.items ≡ replies_to scenario.now.events world) }
+    ensures ended { IfOk result (λ replies. EndInCommit runner replies.items) }
+    ensures any_moment { LeavesOnly D.moment D.left_since records.old.disk records.new.disk
+        (IsWorldBeforeOrAfter (D.seen records.old.disk) text.now (world_after scenario.now.events world)) }
+{
+    let commits = commits_over(&world, scenario, runner)?;
+    if !commits {
+        return Err(StoreFault::Disagrees);
+    }
+    let gone = go_on_over(records, world, text, scenario)?;
+    Ok(gone.replies)
+}
+
+/// Keeps the scenario that a text spells, over the world of a file that was opened, where it is a run of this program, as this runner, that commits. At `Ok`
+/// it lasts, and its events had these replies. `Disagrees`: it is none; then nothing is kept.
 fn keep_text<D: Disk>(
     records: &mut RecordFile<D>,
     kept: Kept,
     text: &[u8],
+    program: &Program,
+    manner: Manner,
+    runner: u64,
 ) -> Result<Vec<Result<Reply, Denied>>, StoreFault>
     requires settled { IsSettled D.is_usable D.seen D.may_leave records.old }
     requires end { kept.end ≡ length (D.seen records.old.disk) }
     requires kept { IsKept (D.seen records.old.disk) kept.world }
     ensures settled { OnOk result (IsSettled D.is_usable D.seen D.may_leave records.new) }
-    ensures past { IfOk result (λ replies. LeadsPast (D.seen records.old.disk) (D.seen records.new.disk) replies.items) }
+    ensures past { IfOk result (λ replies. LeadsPast program.now manner (D.seen records.old.disk) (D.seen records.new.disk) replies.items) }
     ensures any_moment { LeavesOnly D.moment D.left_since records.old.disk records.new.disk (LeavesAroundRun (D.seen records.old.disk)) }
 {
     let scenario = read(records.alloc, text)?;
-    let gone = go_on_with(records, kept, text, &scenario)?;
-    Ok(gone.replies)
+    if !is_run_of(scenario.events.as_slice(), program, manner, runner) {
+        return Err(StoreFault::Disagrees);
+    }
+    let world = ready_world(records.alloc, kept, &scenario)?;
+    let replies = keep_commit(records, world, text, &scenario, runner)?;
+    Ok(replies)
 }
 
-/// Keeps a run that was tried, of the program of this text, over the world of a file that was opened. At `Ok` it lasts, and its events had these replies.
+/// Keeps a run that was tried and has committed, of the program that this text spells, over the world of a file that was opened. At `Ok` it lasts, and its
+/// events had these replies.
 fn keep_run<D: Disk>(
     records: &mut RecordFile<D>,
     kept: Kept,
-    program: &[u8],
+    text: &[u8],
+    program: &Program,
     manner: Manner,
     tried: &Tried,
 ) -> Result<Vec<Result<Reply, Denied>>, StoreFault>
@@ -205,19 +353,20 @@ fn keep_run<D: Disk>(
     requires end { kept.end ≡ length (D.seen records.old.disk) }
     requires kept { IsKept (D.seen records.old.disk) kept.world }
     ensures settled { OnOk result (IsSettled D.is_usable D.seen D.may_leave records.new) }
-    ensures past { IfOk result (λ replies. LeadsPast (D.seen records.old.disk) (D.seen records.new.disk) replies.items) }
+    ensures past { IfOk result (λ replies. LeadsPast program.now manner (D.seen records.old.disk) (D.seen records.new.disk) replies.items) }
     ensures any_moment { LeavesOnly D.moment D.left_since records.old.disk records.new.disk (LeavesAroundRun (D.seen records.old.disk)) }
 {
-    let text = text_of(records.alloc, program, manner, tried)?;
-    let replies = keep_text(records, kept, &text)?;
+    let text = text_of(records.alloc, text, manner, tried)?;
+    let replies = keep_text(records, kept, &text, program, manner, tried.runner)?;
     Ok(replies)
 }
 
-/// Keeps a run that has committed, of the program of this text, and writes the line of its last event once it lasts.
+/// Keeps a run that has committed, of the program that this text spells, and writes the line of its last event once it lasts.
 fn keep_and_write<D: Disk, W: Sink>(
     records: &mut RecordFile<D>,
     kept: Kept,
-    program: &[u8],
+    text: &[u8],
+    program: &Program,
     manner: Manner,
     tried: &Tried,
     out: &mut W,
@@ -227,11 +376,11 @@ fn keep_and_write<D: Disk, W: Sink>(
     requires kept { IsKept (D.seen records.old.disk) kept.world }
     requires out_works { W.failed out.old ≡ false }
     ensures settled { OnOk result (IsSettled D.is_usable D.seen D.may_leave records.new) }
-    ensures ran { OnOk result (HasRunAlone (D.seen records.old.disk) (D.seen records.new.disk) (W.held out.old) (W.held out.new)) }
+    ensures ran { OnOk result (HasRunAlone program.now manner (D.seen records.old.disk) (D.seen records.new.disk) (W.held out.old) (W.held out.new)) }
     ensures silent { IfErr result (λ e. (e ≡ StoreFault.Output → ⊥) → W.held out.new ≡ W.held out.old) }
     ensures any_moment { LeavesOnly D.moment D.left_since records.old.disk records.new.disk (LeavesAroundRun (D.seen records.old.disk)) }
 {
-    let replies = keep_run(records, kept, program, manner, tried)?;
+    let replies = keep_run(records, kept, text, program, manner, tried)?;
     write_last(records.alloc, replies.as_slice(), out)?;
     Ok(())
 }
@@ -241,7 +390,8 @@ fn keep_and_write<D: Disk, W: Sink>(
 fn answer<D: Disk, W: Sink>(
     records: &mut RecordFile<D>,
     kept: Kept,
-    program: &[u8],
+    text: &[u8],
+    program: &Program,
     manner: Manner,
     tried: &Tried,
     out: &mut W,
@@ -251,22 +401,23 @@ fn answer<D: Disk, W: Sink>(
     requires kept { IsKept (D.seen records.old.disk) kept.world }
     requires out_works { W.failed out.old ≡ false }
     ensures settled { OnOk result (IsSettled D.is_usable D.seen D.may_leave records.new) }
-    ensures ran { IfOk result (λ is_committed. is_committed ≡ true → HasRunAlone (D.seen records.old.disk) (D.seen records.new.disk) (W.held out.old) (W.held out.new)) }
+    ensures same { IfOk result (λ is_committed. is_committed ≡ false → D.seen records.new.disk ≡ D.seen records.old.disk) }
+    ensures ran { IfOk result (λ is_committed. is_committed ≡ true → HasRunAlone program.now manner (D.seen records.old.disk) (D.seen records.new.disk) (W.held out.old) (W.held out.new)) }
     ensures silent { IfErr result (λ e. (e ≡ StoreFault.Output → ⊥) → W.held out.new ≡ W.held out.old) }
     ensures any_moment { LeavesOnly D.moment D.left_since records.old.disk records.new.disk (LeavesAroundRun (D.seen records.old.disk)) }
 {
     if is_committed(&tried.end) {
-        keep_and_write(records, kept, program, manner, tried, out)?;
+        keep_and_write(records, kept, text, program, manner, tried, out)?;
         return Ok(true);
     }
     write_line(records.alloc, tried.events, &tried.end, out)?;
     Ok(false)
 }
 
-/// Runs a program alone over the world of a file, which was opened with these bytes, and writes the line of its last event to a sink, as a report has it:
-/// `true` where it has committed. A commit is written once it lasts; where nothing was committed, nothing is kept.
+/// Runs a program alone, which this text spells, over the world of a file, which was opened with these bytes, and writes the line of its last event to a
+/// sink, as a report has it: `true` where it has committed. A commit is written once it lasts; where nothing was committed, nothing is kept.
 ///
-/// At a refusal other than `Output` nothing was written. The file has to be opened again after each.
+/// `Disagrees`: the text spells another program. At a refusal other than `Output` nothing was written. The file has to be opened again after each.
 pub fn run_kept<D: Disk, W: Sink>(
     records: &mut RecordFile<D>,
     bytes: Vec<u8>,
@@ -279,7 +430,8 @@ pub fn run_kept<D: Disk, W: Sink>(
     requires durable { Only (D.seen records.old.disk) (D.may_leave records.old.disk) }
     requires usable { IsTrue (D.is_usable records.old.disk) }
     requires out_works { W.failed out.old ≡ false }
-    ensures lasts { IfOk result (λ is_committed. is_committed ≡ true → HasCommitted (D.seen records.old.disk) (D.seen records.new.disk) (W.held out.old) (W.held out.new)) }
+    ensures nothing { IfOk result (λ is_committed. is_committed ≡ false → (w : WorldOf) × IsOpened (D.seen records.old.disk) (D.seen records.new.disk) w) }
+    ensures lasts { IfOk result (λ is_committed. is_committed ≡ true → HasCommitted program manner (D.seen records.old.disk) (D.seen records.new.disk) (W.held out.old) (W.held out.new)) }
     ensures settled { OnOk result (IsSettled D.is_usable D.seen D.may_leave records.new) }
     ensures silent { IfErr result (λ e. (e ≡ StoreFault.Output → ⊥) → W.held out.new ≡ W.held out.old) }
 
@@ -287,8 +439,8 @@ pub fn run_kept<D: Disk, W: Sink>(
     ensures any_moment { LeavesOnly D.moment D.left_since records.old.disk records.new.disk (LeavesFoundOrRun (D.seen records.old.disk)) }
 {
     let kept = opened(records, bytes)?;
-    let tried = try_out(kept.world.copy()?, program, manner)?;
-    let is_committed = answer(records, kept, text, manner, &tried, out)?;
+    let tried = try_out(kept.world.copy()?, program.clone()?, manner)?;
+    let is_committed = answer(records, kept, text, &program, manner, &tried, out)?;
     Ok(is_committed)
 }
 

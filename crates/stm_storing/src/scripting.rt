@@ -8,7 +8,8 @@ ghost use Rattle.stm_texts.specs.Opens.{setup_of, IsOpening};
 ghost use Rattle.stm_texts.specs.Reading.{scenario_in};
 ghost use Rattle.stm_history.specs.History.{now};
 ghost use Rattle.stm_world.specs.World.{opened as opened_world, replies_to, world_after};
-ghost use Rattle.stm_lasting.specs.Kept.{IsKept, IsReady, OpensAlike, IsWorldBeforeOrAfter};
+ghost use Rattle.stm_lasting.specs.Kept.{IsKept, IsReady, OpensAlike, IsWorldBeforeOrAfter, LeadsNowhere, HasRecords};
+ghost use Rattle.stm_storing.specs.Faults.{IsOfOpening};
 ghost use Rattle.stm_storing.specs.Storing.{IsOpened, HasRun, HasPrinted, HasGoneOn, LeavesAround, LeavesFoundOrAfter};
 
 use crate::fault::StoreFault;
@@ -38,9 +39,12 @@ pub(crate) fn opened<D: Disk>(
     requires usable { IsTrue (D.is_usable records.old.disk) }
     ensures settled { OnOk result (IsSettled D.is_usable D.seen D.may_leave records.new) }
     ensures end { IfOk result (λ kept. kept.end ≡ length (D.seen records.new.disk)) }
+    ensures count { IfOk result (λ kept. HasRecords (D.seen records.new.disk) kept.count) }
     ensures opens { IfOk result (λ kept. IsOpened (D.seen records.old.disk) (D.seen records.new.disk) kept.world) }
     ensures hurt { IfErr result (λ e. (at : ℕ) → e ≡ StoreFault.Damaged at → IsHurt (D.seen records.old.disk) at
         × LeavesOnly D.moment D.left_since records.old.disk records.new.disk (λ c. c ≡ D.seen records.old.disk)) }
+    ensures nowhere { IfErr result (λ e. (at : ℕ) → e ≡ StoreFault.NoScenario at → LeadsNowhere (D.seen records.old.disk)) }
+    ensures opening { IfErr result IsOfOpening }
     ensures any_moment { LeavesOnly D.moment D.left_since records.old.disk records.new.disk (OpensAlike (D.seen records.old.disk)) }
 {
     match open(records.alloc, &mut records.disk, bytes) {
@@ -135,6 +139,7 @@ pub(crate) fn print_text<W: Sink>(text: &str, out: &mut W) -> Result<(), StoreFa
     requires { W.failed out.old ≡ false }
     ensures printed { OnOk result (Appends (W.held out.old) (W.held out.new) text.now) }
     ensures silent { IfErr result (λ e. (e ≡ StoreFault.Output → ⊥) → W.held out.new ≡ W.held out.old) }
+    ensures output { IfErr result (λ e. e ≡ StoreFault.Output) }
 {
     write_all(out, text.as_bytes())?;
     Ok(())

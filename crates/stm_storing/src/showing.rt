@@ -2,7 +2,7 @@
 ghost use Rattle.std.specs.Prelude.{◌≡◌, ℕ, length, IfOk, IfErr, OnOk, IsTrue, false};
 ghost use Rattle.stm_records.specs.Disk.{Only, LeavesOnly};
 ghost use Rattle.stm_records.specs.Head.{IsHurt};
-ghost use Rattle.stm_lasting.specs.Kept.{OpensAlike};
+ghost use Rattle.stm_lasting.specs.Kept.{OpensAlike, LeadsNowhere, HasRecords};
 ghost use Rattle.stm_storing.specs.Storing.{HasShown, OpensToAny};
 
 use crate::fault::StoreFault;
@@ -46,7 +46,7 @@ pub fn show_kept<D: Disk, W: Sink>(
 
 /// Reads all of a file, which was opened with these bytes, and says how many records it has, where it is whole but for a torn end, which is cut off.
 ///
-/// `Damaged`: the record at this offset is not as it was written; then nothing was changed.
+/// `Damaged`: the record at this offset is not as it was written; then nothing was changed. `NoScenario`: the one at this offset spells no scenario.
 pub fn check_kept<D: Disk>(
     records: &mut RecordFile<D>,
     bytes: Vec<u8>,
@@ -56,8 +56,10 @@ pub fn check_kept<D: Disk>(
     requires usable { IsTrue (D.is_usable records.old.disk) }
     ensures whole { OnOk result (OpensToAny (D.seen records.old.disk)) }
     ensures end { IfOk result (λ checked. checked.bytes ≡ length (D.seen records.new.disk)) }
+    ensures count { IfOk result (λ checked. HasRecords (D.seen records.new.disk) checked.records) }
     ensures hurt { IfErr result (λ e. (at : ℕ) → e ≡ StoreFault.Damaged at → IsHurt (D.seen records.old.disk) at
         × LeavesOnly D.moment D.left_since records.old.disk records.new.disk (λ c. c ≡ D.seen records.old.disk)) }
+    ensures nowhere { IfErr result (λ e. (at : ℕ) → e ≡ StoreFault.NoScenario at → LeadsNowhere (D.seen records.old.disk)) }
     ensures any_moment { LeavesOnly D.moment D.left_since records.old.disk records.new.disk (OpensAlike (D.seen records.old.disk)) }
 {
     let kept = opened(records, bytes)?;

@@ -14,9 +14,9 @@ use crate::sources::{
     Given, GivenProgram, JsonFile, given_at, is_source, out_of_memory, program_at, say_in_program,
     say_of_runs, scenario_at,
 };
-use std::fs;
 use std::sync::Wait;
 use std::thread::Threads;
+use std::{fs, io};
 use stm_arguments::{RunWords, ScriptWords, Shown, StoreWords, ThreadsWords, Which};
 use stm_commands::{Format, KeptSource, Std};
 use stm_compiling::indices_in;
@@ -32,9 +32,16 @@ use stm_storing::{
 };
 use stm_threading::report_ends;
 
-/// Says of the file of a store why a command failed, and gives the status.
-fn say_fault(rt: &HostRuntime, path: &str, fault: &StoreFault) -> u8 {
-    let _ = eprintln!(rt; "stmrun: {path}: {fault}");
+/// Says of the file of a store why a command failed, of a disk also what the system said, and gives the status.
+fn say_fault(rt: &HostRuntime, path: &str, fault: &StoreFault, refusal: Option<io::Error>) -> u8 {
+    match (fault, refusal) {
+        (StoreFault::Disk, Some(error)) => {
+            let _ = eprintln!(rt; "stmrun: {path}: {fault}: {error}");
+        }
+        _ => {
+            let _ = eprintln!(rt; "stmrun: {path}: {fault}");
+        }
+    }
     match fault {
         StoreFault::OpenAlready
         | StoreFault::FutureRevision
@@ -171,7 +178,7 @@ fn run_script(
     say_unwritten(rt, out.device.failure);
     match kept {
         Ok(()) => Ok(()),
-        Err(fault) => Err(say_fault(rt, store, &fault)),
+        Err(fault) => Err(say_fault(rt, store, &fault, records.disk.failure())),
     }
 }
 
@@ -243,7 +250,7 @@ fn run_jobs<T: Threads + Wait + Sync>(
             say_ends(rt, &given, &input, ends.as_slice(), explain);
             Ok(())
         }
-        Err(fault) => Err(say_fault(rt, store, &fault)),
+        Err(fault) => Err(say_fault(rt, store, &fault, records.disk.failure())),
     }
 }
 
@@ -260,7 +267,7 @@ fn tried(
     match would {
         Ok(true) => Ok(None),
         Ok(false) => Ok(Some(out.device.into_device().into_bytes())),
-        Err(fault) => Err(say_fault(rt, store, &fault)),
+        Err(fault) => Err(say_fault(rt, store, &fault, None)),
     }
 }
 
@@ -279,7 +286,7 @@ fn ran(
     match ran {
         Ok(true) => Ok(None),
         Ok(false) => Ok(Some(out.device.into_device().into_bytes())),
-        Err(fault) => Err(say_fault(rt, store, &fault)),
+        Err(fault) => Err(say_fault(rt, store, &fault, records.disk.failure())),
     }
 }
 
@@ -458,7 +465,7 @@ fn show(rt: &HostRuntime, store: &str, word: Option<&str>) -> Result<(), u8> {
     say_unwritten(rt, out.device.failure);
     match shown {
         Ok(()) => Ok(()),
-        Err(fault) => Err(say_fault(rt, store, &fault)),
+        Err(fault) => Err(say_fault(rt, store, &fault, records.disk.failure())),
     }
 }
 
@@ -481,7 +488,7 @@ fn show_past(rt: &HostRuntime, store: &str, word: &str) -> Result<(), u8> {
     say_unwritten(rt, out.device.failure);
     match shown {
         Ok(()) => Ok(()),
-        Err(fault) => Err(say_fault(rt, store, &fault)),
+        Err(fault) => Err(say_fault(rt, store, &fault, records.disk.failure())),
     }
 }
 
@@ -516,7 +523,7 @@ fn show_events(rt: &HostRuntime, store: &str, word: &str, which: Which<'_>) -> R
     say_unwritten(rt, out.device.failure);
     match shown {
         Ok(()) => Ok(()),
-        Err(fault) => Err(say_fault(rt, store, &fault)),
+        Err(fault) => Err(say_fault(rt, store, &fault, records.disk.failure())),
     }
 }
 
@@ -536,7 +543,7 @@ fn check(rt: &HostRuntime, store: &str) -> Result<(), u8> {
             let _ = println!(rt; "no {at} NoScenario");
             return Err(1);
         }
-        Err(fault) => return Err(say_fault(rt, store, &fault)),
+        Err(fault) => return Err(say_fault(rt, store, &fault, records.disk.failure())),
     };
     if said { Ok(()) } else { Err(3) }
 }
@@ -553,7 +560,7 @@ fn compact(rt: &HostRuntime, store: &str, word: Option<&str>) -> Result<(), u8> 
             let said = println!(rt; "yes {} {}", checked.records, checked.bytes);
             if said.is_ok() { Ok(()) } else { Err(3) }
         }
-        Err(fault) => Err(say_fault(rt, store, &fault)),
+        Err(fault) => Err(say_fault(rt, store, &fault, records.disk.failure())),
     }
 }
 

@@ -1,5 +1,5 @@
 use Rattle.std.proofs.Common.{refl, arith}
-use Rattle.stm_lasting.proofs.Leading.{taken_on, all_taken}
+use Rattle.stm_lasting.proofs.Leading.{taken_on, taken_nowhere, all_taken}
 use Rattle.stm_lasting.proofs.replay.take_records.Goals as goal
 
 pub loop-place-init : goal.loop-place-init
@@ -10,6 +10,11 @@ loop-place-preserved c =
     taken_on c.args.bytes.now c.args.places.now c.loop-place.place-index _ c.loop-place.world c.take_record.new.world c.args.world.now (omega arith)
     c.in_ok-take_record.ensures c.loop-place.invariant
 
-pub returns : goal.returns
-returns c =
+pub returns-clause-taken : goal.returns-clause-taken
+returns-clause-taken c =
     all_taken c.args.bytes.now c.args.places.now c.loop-place.place-index c.loop-place.world c.args.world.now (omega arith) c.loop-place.invariant
+
+pub returns-in_err-take_record-clause-none : goal.returns-in_err-take_record-clause-none
+returns-in_err-take_record-clause-none c = λ at is.
+    taken_nowhere c.args.bytes.now c.args.places.now c.loop-place.place-index _ c.loop-place.world c.args.world.now (omega arith)
+    (c.in_err-take_record.ensures at is) c.loop-place.invariant

@@ -1,8 +1,9 @@
-use Rattle.std.proofs.Common.{◌≤◌, inl, ap, subst, sym, ◌∙◌}
+use Rattle.std.proofs.Common.{◌≤◌, inl, inr, ap, subst, ◌∙◌}
 use Rattle.stm_history.specs.History.{now}
 use Rattle.stm_txn.specs.Standing.{Standing}
 use Rattle.stm_lasting.proofs.Moments.{weaker}
-use Rattle.stm_storing.specs.Compacting.{asked_floor}
+use Rattle.stm_storing.specs.Compacting.{asked_floor, IsAskedToCome, IsAskedCompacted, CanBeAsked}
+use Rattle.stm_storing.specs.Faults.{IsOfOpening, IsOfRewriting}
 use Rattle.stm_storing.proofs.CompactLemmas.{shows_itself, has_compacted, then_compacted}
 use Rattle.stm_storing.proofs.compacting.compact_kept.Goals as goal
 
@@ -17,6 +18,7 @@ returns-then-is_lowest-clause-compacted g c =
     let before = c.in_ok-kept.kept.world in
     has_compacted c.args.asked (g.D.Disk.seen c.args.records.now.disk) (g.D.Disk.seen c.opened.new.records.disk) before c.in_ok-floor.floor
     c.in_ok-kept.ensures.opens.opens (c.in_ok-floor.ensures.asked ∙ ap (asked_floor c.args.asked) c.store.ensures.standing)
+    (subst (CanBeAsked c.args.asked) c.store.ensures.standing c.in_ok-floor.ensures.readable) (inr (c.is_lowest.ensures.lowest c.if-is_lowest.true))
     (before, c.in_ok-kept.ensures.opens.kept, shows_itself c.in_ok-floor.floor before, c.is_lowest.ensures.lowest c.if-is_lowest.true)
 
 pub returns-then-is_lowest-clause-any_moment : goal.returns-then-is_lowest-clause-any_moment
@@ -43,9 +45,41 @@ returns-in_err-compact_at-clause-any_moment g c =
 pub returns-clause-compacted : goal.returns-clause-compacted
 returns-clause-compacted g c =
     has_compacted c.args.asked (g.D.Disk.seen c.args.records.now.disk) (g.D.Disk.seen c.compact_at.new.records.disk) c.in_ok-kept.kept.world c.in_ok-floor.floor
-    c.in_ok-kept.ensures.opens.opens (c.in_ok-floor.ensures.asked ∙ ap (asked_floor c.args.asked) c.store.ensures.standing) c.in_ok-compact_at.ensures.same
+    c.in_ok-kept.ensures.opens.opens (c.in_ok-floor.ensures.asked ∙ ap (asked_floor c.args.asked) c.store.ensures.standing)
+    (subst (CanBeAsked c.args.asked) c.store.ensures.standing c.in_ok-floor.ensures.readable) (inl record { quiet = c.is_busy.ensures c.if-is_busy.false; one = c.in_ok-compact_at.ensures.count }) c.in_ok-compact_at.ensures.same
 
 pub returns-clause-any_moment : goal.returns-clause-any_moment
 returns-clause-any_moment g c =
     then_compacted c.args.asked c.in_ok-kept.kept.world c.in_ok-floor.floor c.in_ok-kept.ensures.opens
     (c.in_ok-floor.ensures.asked ∙ ap (asked_floor c.args.asked) c.store.ensures.standing) c.opened.ensures.any_moment c.compact_at.ensures.any_moment
+
+pub returns-in_err-kept-clause-future : goal.returns-in_err-kept-clause-future
+returns-in_err-kept-clause-future g c = λ is. absurd (subst IsOfOpening is c.in_err-kept.ensures.opening)
+
+pub returns-in_err-kept-clause-old : goal.returns-in_err-kept-clause-old
+returns-in_err-kept-clause-old g c = λ is. absurd (subst IsOfOpening is c.in_err-kept.ensures.opening)
+
+pub returns-in_err-kept-clause-cannot : goal.returns-in_err-kept-clause-cannot
+returns-in_err-kept-clause-cannot g c = λ is. absurd (subst IsOfOpening is c.in_err-kept.ensures.opening)
+
+pub returns-in_err-floor-clause-future : goal.returns-in_err-floor-clause-future
+returns-in_err-floor-clause-future g c = λ is.
+    (c.in_ok-kept.kept.world, c.in_ok-kept.ensures.opens.opens, subst (IsAskedToCome c.args.asked) c.store.ensures.standing (c.in_err-floor.ensures.future is))
+
+pub returns-in_err-floor-clause-old : goal.returns-in_err-floor-clause-old
+returns-in_err-floor-clause-old g c = λ is.
+    (c.in_ok-kept.kept.world, c.in_ok-kept.ensures.opens.opens, subst (IsAskedCompacted c.args.asked) c.store.ensures.standing (c.in_err-floor.ensures.compacted is))
+
+pub returns-in_err-compact_at-clause-future : goal.returns-in_err-compact_at-clause-future
+returns-in_err-compact_at-clause-future g c = λ is. absurd (subst IsOfRewriting is c.in_err-compact_at.ensures.rewriting)
+
+pub returns-in_err-compact_at-clause-old : goal.returns-in_err-compact_at-clause-old
+returns-in_err-compact_at-clause-old g c = λ is. absurd (subst IsOfRewriting is c.in_err-compact_at.ensures.rewriting)
+
+pub returns-then-is_busy-clause-cannot : goal.returns-then-is_busy-clause-cannot
+returns-then-is_busy-clause-cannot g c = λ is.
+    (c.in_ok-kept.kept.world, c.in_ok-kept.ensures.opens.opens, subst (CanBeAsked c.args.asked) c.store.ensures.standing c.in_ok-floor.ensures.readable)
+
+pub returns-in_err-compact_at-clause-cannot : goal.returns-in_err-compact_at-clause-cannot
+returns-in_err-compact_at-clause-cannot g c = λ is.
+    (c.in_ok-kept.kept.world, c.in_ok-kept.ensures.opens.opens, subst (CanBeAsked c.args.asked) c.store.ensures.standing c.in_ok-floor.ensures.readable)

@@ -1,4 +1,5 @@
 use Rattle.std.proofs.Common.{◌≤◌, inl, inr, ap, subst, ◌∙◌}
+use Rattle.std.proofs.lemmas.Result.{err_from_is_err_and}
 use Rattle.stm_history.specs.History.{now}
 use Rattle.stm_txn.specs.Standing.{Standing}
 use Rattle.stm_lasting.proofs.Moments.{weaker}
@@ -54,32 +55,48 @@ returns-clause-any_moment g c =
     (c.in_ok-floor.ensures.asked ∙ ap (asked_floor c.args.asked) c.store.ensures.standing) c.opened.ensures.any_moment c.compact_at.ensures.any_moment
 
 pub returns-in_err-kept-clause-future : goal.returns-in_err-kept-clause-future
-returns-in_err-kept-clause-future g c = λ is. absurd (subst IsOfOpening is c.in_err-kept.ensures.opening)
+returns-in_err-kept-clause-future g c =
+    let p = err_from_is_err_and c.from_residual.result c.from_residual.ensures.1 in
+    rw (p.1, p.2) (λ is. absurd (subst IsOfOpening is c.in_err-kept.ensures.opening))
 
 pub returns-in_err-kept-clause-old : goal.returns-in_err-kept-clause-old
-returns-in_err-kept-clause-old g c = λ is. absurd (subst IsOfOpening is c.in_err-kept.ensures.opening)
+returns-in_err-kept-clause-old g c =
+    let p = err_from_is_err_and c.from_residual.result c.from_residual.ensures.1 in
+    rw (p.1, p.2) (λ is. absurd (subst IsOfOpening is c.in_err-kept.ensures.opening))
 
 pub returns-in_err-kept-clause-cannot : goal.returns-in_err-kept-clause-cannot
-returns-in_err-kept-clause-cannot g c = λ is. absurd (subst IsOfOpening is c.in_err-kept.ensures.opening)
+returns-in_err-kept-clause-cannot g c =
+    let p = err_from_is_err_and c.from_residual.result c.from_residual.ensures.1 in
+    rw (p.1, p.2) (λ is. absurd (subst IsOfOpening is c.in_err-kept.ensures.opening))
 
 pub returns-in_err-floor-clause-future : goal.returns-in_err-floor-clause-future
-returns-in_err-floor-clause-future g c = λ is.
-    (c.in_ok-kept.kept.world, c.in_ok-kept.ensures.opens.opens, subst (IsAskedToCome c.args.asked) c.store.ensures.standing (c.in_err-floor.ensures.future is))
+returns-in_err-floor-clause-future g c =
+    let p = err_from_is_err_and c.from_residual-in_err-floor.result c.from_residual-in_err-floor.ensures.1 in
+    rw (p.1, p.2) (λ is.
+    (c.in_ok-kept.kept.world, c.in_ok-kept.ensures.opens.opens, subst (IsAskedToCome c.args.asked) c.store.ensures.standing (c.in_err-floor.ensures.future is)))
 
 pub returns-in_err-floor-clause-old : goal.returns-in_err-floor-clause-old
-returns-in_err-floor-clause-old g c = λ is.
-    (c.in_ok-kept.kept.world, c.in_ok-kept.ensures.opens.opens, subst (IsAskedCompacted c.args.asked) c.store.ensures.standing (c.in_err-floor.ensures.compacted is))
+returns-in_err-floor-clause-old g c =
+    let p = err_from_is_err_and c.from_residual-in_err-floor.result c.from_residual-in_err-floor.ensures.1 in
+    rw (p.1, p.2) (λ is.
+    (c.in_ok-kept.kept.world, c.in_ok-kept.ensures.opens.opens, subst (IsAskedCompacted c.args.asked) c.store.ensures.standing (c.in_err-floor.ensures.compacted is)))
 
 pub returns-in_err-compact_at-clause-future : goal.returns-in_err-compact_at-clause-future
-returns-in_err-compact_at-clause-future g c = λ is. absurd (subst IsOfRewriting is c.in_err-compact_at.ensures.rewriting)
+returns-in_err-compact_at-clause-future g c =
+    let p = err_from_is_err_and c.from_residual-in_err-compact_at.result c.from_residual-in_err-compact_at.ensures.1 in
+    rw (p.1, p.2) (λ is. absurd (subst IsOfRewriting is c.in_err-compact_at.ensures.rewriting))
 
 pub returns-in_err-compact_at-clause-old : goal.returns-in_err-compact_at-clause-old
-returns-in_err-compact_at-clause-old g c = λ is. absurd (subst IsOfRewriting is c.in_err-compact_at.ensures.rewriting)
+returns-in_err-compact_at-clause-old g c =
+    let p = err_from_is_err_and c.from_residual-in_err-compact_at.result c.from_residual-in_err-compact_at.ensures.1 in
+    rw (p.1, p.2) (λ is. absurd (subst IsOfRewriting is c.in_err-compact_at.ensures.rewriting))
 
 pub returns-then-is_busy-clause-cannot : goal.returns-then-is_busy-clause-cannot
 returns-then-is_busy-clause-cannot g c = λ is.
     (c.in_ok-kept.kept.world, c.in_ok-kept.ensures.opens.opens, subst (CanBeAsked c.args.asked) c.store.ensures.standing c.in_ok-floor.ensures.readable)
 
 pub returns-in_err-compact_at-clause-cannot : goal.returns-in_err-compact_at-clause-cannot
-returns-in_err-compact_at-clause-cannot g c = λ is.
-    (c.in_ok-kept.kept.world, c.in_ok-kept.ensures.opens.opens, subst (CanBeAsked c.args.asked) c.store.ensures.standing c.in_ok-floor.ensures.readable)
+returns-in_err-compact_at-clause-cannot g c =
+    let p = err_from_is_err_and c.from_residual-in_err-compact_at.result c.from_residual-in_err-compact_at.ensures.1 in
+    rw (p.1, p.2) (λ is.
+    (c.in_ok-kept.kept.world, c.in_ok-kept.ensures.opens.opens, subst (CanBeAsked c.args.asked) c.store.ensures.standing c.in_ok-floor.ensures.readable))

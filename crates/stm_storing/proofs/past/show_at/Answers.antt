@@ -1,5 +1,6 @@
 use Rattle.std.proofs.Common.{ℕ, List, string_bytes, subst}
 use Rattle.std.specs.Io.KnownBytes.{Appends}
+use Rattle.std.proofs.lemmas.Result.{err_from_is_err_and}
 use Rattle.stm_txn.specs.Standing.{Standing}
 use Rattle.stm_storing.specs.Past.{IsTextAt}
 use Rattle.stm_storing.specs.Faults.{IsOfOpening}
@@ -17,15 +18,23 @@ returns-clause-shown g c = record {
 }
 
 pub returns-in_err-kept-clause-future : goal.returns-in_err-kept-clause-future
-returns-in_err-kept-clause-future g c = λ is. absurd (subst IsOfOpening is c.in_err-kept.ensures.opening)
+returns-in_err-kept-clause-future g c =
+    let p = err_from_is_err_and c.from_residual.result c.from_residual.ensures.1 in
+    rw (p.1, p.2) (λ is. absurd (subst IsOfOpening is c.in_err-kept.ensures.opening))
 
 pub returns-in_err-text-clause-future : goal.returns-in_err-text-clause-future
-returns-in_err-text-clause-future g c = λ is.
-    (c.in_ok-kept.kept.world, c.in_ok-kept.ensures.opens.opens, subst (IsToCome c.args.revision) c.store.ensures.standing (c.in_err-text.ensures.is_to_come is))
+returns-in_err-text-clause-future g c =
+    let p = err_from_is_err_and c.from_residual-in_err-text.result c.from_residual-in_err-text.ensures.1 in
+    rw (p.1, p.2) (λ is.
+    (c.in_ok-kept.kept.world, c.in_ok-kept.ensures.opens.opens, subst (IsToCome c.args.revision) c.store.ensures.standing (c.in_err-text.ensures.is_to_come is)))
 
 pub returns-in_err-kept-clause-compacted : goal.returns-in_err-kept-clause-compacted
-returns-in_err-kept-clause-compacted g c = λ is. absurd (subst IsOfOpening is c.in_err-kept.ensures.opening)
+returns-in_err-kept-clause-compacted g c =
+    let p = err_from_is_err_and c.from_residual.result c.from_residual.ensures.1 in
+    rw (p.1, p.2) (λ is. absurd (subst IsOfOpening is c.in_err-kept.ensures.opening))
 
 pub returns-in_err-text-clause-compacted : goal.returns-in_err-text-clause-compacted
-returns-in_err-text-clause-compacted g c = λ is.
-    (c.in_ok-kept.kept.world, c.in_ok-kept.ensures.opens.opens, subst (IsCompacted c.args.revision) c.store.ensures.standing (c.in_err-text.ensures.is_compacted is))
+returns-in_err-text-clause-compacted g c =
+    let p = err_from_is_err_and c.from_residual-in_err-text.result c.from_residual-in_err-text.ensures.1 in
+    rw (p.1, p.2) (λ is.
+    (c.in_ok-kept.kept.world, c.in_ok-kept.ensures.opens.opens, subst (IsCompacted c.args.revision) c.store.ensures.standing (c.in_err-text.ensures.is_compacted is)))

@@ -1,5 +1,6 @@
 use Rattle.std.proofs.Common.{◌≡◌, ◌≤◌, ℕ, List, string_bytes, ap, subst, ◌∙◌}
 use Rattle.std.specs.Io.KnownBytes.{Appends}
+use Rattle.std.proofs.lemmas.Result.{err_from_is_err_and}
 use Rattle.stm_txn.specs.Standing.{Standing, kept}
 use Rattle.stm_storing.specs.Past.{text_since}
 use Rattle.stm_storing.specs.Faults.{IsOfOpening}
@@ -19,8 +20,12 @@ returns-clause-shown g c =
     }
 
 pub returns-in_err-kept-clause-compacted : goal.returns-in_err-kept-clause-compacted
-returns-in_err-kept-clause-compacted g c = λ is. absurd (subst IsOfOpening is c.in_err-kept.ensures.opening)
+returns-in_err-kept-clause-compacted g c =
+    let p = err_from_is_err_and c.from_residual.result c.from_residual.ensures.1 in
+    rw (p.1, p.2) (λ is. absurd (subst IsOfOpening is c.in_err-kept.ensures.opening))
 
 pub returns-in_err-text-clause-compacted : goal.returns-in_err-text-clause-compacted
-returns-in_err-text-clause-compacted g c = λ is.
-    (c.in_ok-kept.kept.world, c.in_ok-kept.ensures.opens.opens, subst (IsCompacted c.args.from) c.store.ensures.standing (c.in_err-text.ensures.is_compacted is))
+returns-in_err-text-clause-compacted g c =
+    let p = err_from_is_err_and c.from_residual-in_err-text.result c.from_residual-in_err-text.ensures.1 in
+    rw (p.1, p.2) (λ is.
+    (c.in_ok-kept.kept.world, c.in_ok-kept.ensures.opens.opens, subst (IsCompacted c.args.from) c.store.ensures.standing (c.in_err-text.ensures.is_compacted is)))

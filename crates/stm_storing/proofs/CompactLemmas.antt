@@ -54,6 +54,12 @@ worlds_show floor s t u v is are live then =
     let same : u.live ≡ v.live = ap (λ (w : Standing). w.live) is ∙ live ∙ sym (ap (λ (w : Standing). w.live) are) in
     subst (λ (w : Standing). ShowsTheSame floor w (kept t)) is (subst (λ (w : Standing). ShowsTheSame floor u w) are (then same))
 
+-- one runner more that doesn't run
+pub one_more_idle : (slots : List Slot) (runner : ℕ) → ((k : ℕ) → k < runner → is_some (runner_at (k + 1) slots) ≡ false)
+    → is_some (runner_at (runner + 1) slots) ≡ false → (k : ℕ) → k < runner + 1 → is_some (runner_at (k + 1) slots) ≡ false
+one_more_idle slots runner before this k within =
+    ⊎_elim (λ less. before k less) (λ past. subst (λ (n : ℕ). is_some (runner_at (n + 1) slots) ≡ false) (omega (arith, within, past)) this) (cases_lt k runner)
+
 -- no runner runs, where none of those that were started does
 pub none_runs : (slots : List Slot) → ((k : ℕ) → k < length slots → is_some (runner_at (k + 1) slots) ≡ false) → (id : ℕ) → is_some (runner_at id slots) ≡ false
 none_runs slots none zero = refl

@@ -4,3 +4,4 @@ pub mod PastKeys
 pub mod Ready
 pub mod Texts
 pub mod CompactLemmas
+pub mod RunLemmas

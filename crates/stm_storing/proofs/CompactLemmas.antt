@@ -1,21 +1,21 @@
 -- What worlds show that are compared, and what a crash leaves of a compaction.
-use Rattle.std.proofs.Common.{◌≡◌, ◌⊎◌, inl, inr, ⊎_elim, ℕ, zero, suc, ◌+◌, ◌-◌, ◌<◌, ◌≤◌, Bool, false, is_some, rules, List, slice_get, length, Option, None, Some, option_map, Decides, refl, sym, ap, ◌∙◌, subst, arith}
+use Rattle.std.proofs.Common.{◌≡◌, ◌⊎◌, inl, inr, ⊎_elim, ℕ, ◌+◌, ◌-◌, ◌<◌, ◌≤◌, Bool, false, is_some, rules, List, length, Option, None, Some, option_map, Decides, refl, sym, ap, ◌∙◌, subst, arith}
 use Rattle.std.specs.Prelude.{unwrap_or}
 use Rattle.std.specs.BTreeMap.{BTreeMap}
 use Rattle.std.specs.Cmp.{nat_cmp_total}
 use Rattle.std.specs.FinMap.{same_map, nat_cmp-IsAntisymmetric}
 use Rattle.std.specs.Map.{lookup}
 use Rattle.std.specs.Ordering.{nat_cmp, is_eq}
-use Rattle.std.proofs.lemmas.Bool.{cases_lt}
+use Rattle.std.proofs.lemmas.Bool.{cases_lt, false≢true}
 use Rattle.std.proofs.lemmas.Bool.Decides.{Decides-eqb}
-use Rattle.std.proofs.lemmas.Option.{slice_get_past}
 use Rattle.stm_history.specs.History.{now, key_at}
 use Rattle.stm_leases.specs.Live.{Live}
 use Rattle.stm_entries.specs.declared.live_leases.LiveLease.{LiveLease}
 use Rattle.stm_entries.specs.contracts.live_leases.LiveLeasePartialEq.TheImpl.{eq-value}
 use Rattle.stm_entries.specs.LiveLeases.{term_of, HasLeases}
 use Rattle.stm_txn.specs.Standing.{Standing, kept}
-use Rattle.stm_world.specs.World.{World, Slot, live_in, runner_at}
+use Rattle.stm_world.specs.World.{World, Runner, Slot, runner_at}
+use Rattle.stm_world.proofs.Slots.{runner_there}
 use Rattle.stm_frames.proofs.Unique.{opens_log}
 use Rattle.stm_records.specs.Disk.{LeavesOnly}
 use Rattle.stm_lasting.proofs.Moments.{weaker}
@@ -62,14 +62,16 @@ one_more_idle slots runner before this k within =
 
 -- no runner runs, where none of those that were started does
 pub none_runs : (slots : List Slot) → ((k : ℕ) → k < length slots → is_some (runner_at (k + 1) slots) ≡ false) → (id : ℕ) → is_some (runner_at id slots) ≡ false
-none_runs slots none zero = refl
-none_runs slots none (suc n) =
-    let next : n + 1 ≡ suc n = omega arith in
-    let before : suc n - 1 ≡ n = omega arith in
-    ⊎_elim
-    (λ within. subst (λ (id : ℕ). is_some (runner_at id slots) ≡ false) next (none n within))
-    (λ past. ap (λ (o : Option Slot). is_some (live_in o)) (ap (λ (k : ℕ). slice_get slots k) before ∙ slice_get_past slots n past))
-    (cases_lt n (length slots))
+none_runs slots none id = idle (runner_at id slots) refl
+  where
+    idle : (o : Option Runner) → runner_at id slots ≡ o → is_some o ≡ false
+    idle None is = refl
+    idle (Some r) is =
+        let there = runner_there id slots r is in
+        let same : id - 1 + 1 ≡ id = omega (arith, there.0) in
+        let this : is_some (runner_at id slots) ≡ false =
+        subst (λ (n : ℕ). is_some (runner_at n slots) ≡ false) same (none (id - 1) (omega (arith, there.0, there.1))) in
+        absurd (false≢true (sym this ∙ ap (λ (o : Option Runner). is_some o) is))
 
 -- the revision that is asked for
 pub floor_asked : (asked : Option ℕ) (s : Standing) (revision : ℕ) → revision ≡ now s.history → unwrap_or asked revision ≡ asked_floor asked s

@@ -8,4 +8,4 @@ loop-runner-preserved c =
 
 pub returns : goal.returns
 returns c = λ is.
-    none_runs c.args.world.now.runners (λ k within. c.loop-runner.invariant k (omega (arith, within, c.runner_count.ensures, c.loop-runner-test.false)))
+    none_runs c.args.world.now.runners (λ k within. c.loop-runner.invariant k (omega (arith, within, c.runner_count-runner-end.ensures, c.loop-runner-test.false)))

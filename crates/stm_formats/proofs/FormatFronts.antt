@@ -9,6 +9,13 @@ front_from zero bs within = refl
 front_from (suc n) [] within = absurd (omega arith)
 front_from (suc n) (b ∷ bs) within = ap (λ (xs : List ℕ). b ∷ xs) (front_from n bs (omega arith))
 
+-- a text of no more bytes
+pub front_short : (n : ℕ) (bs : List ℕ) → length bs ≤ n → bs ≡ front n bs
+front_short zero [] short = refl
+front_short zero (b ∷ bs) short = absurd (omega arith)
+front_short (suc n) [] short = refl
+front_short (suc n) (b ∷ bs) short = ap (λ (xs : List ℕ). b ∷ xs) (front_short n bs (omega arith))
+
 by_next : (b : Bool) (x : ℕ) (rest : List ℕ) → b ≡ true → cond b (x ∷ rest) [] ≡ x ∷ rest
 by_next true x rest is = refl
 by_next false x rest is = cc

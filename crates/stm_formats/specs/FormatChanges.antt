@@ -7,7 +7,9 @@ use Rattle.stm_keys.specs.declared.event.Event.TheVariants.{Put, Delete}
 use Rattle.stm_keys.specs.Events.{events_of}
 use Rattle.stm_reasons.specs.Causes.{state_by}
 use Rattle.stm_formats.specs.declared.format_changes.TheConstants.{MOST_CHANGES}
-use Rattle.stm_formats.specs.FormatShown.{plain, shown}
+use Rattle.stm_formats.specs.declared.format_keys.Cuts.{Cuts}
+use Rattle.stm_formats.specs.FormatShown.{shown}
+use Rattle.stm_formats.specs.FormatKeys.{key_words}
 use Rattle.stm_formats.specs.FormatPieces.{joined}
 
 -- ---- a key
@@ -25,32 +27,32 @@ known_words most h key mod_rev revision =
 
 -- ---- what a revision changed
 
-abbrev pub change_words : ℕ → Event → List ℕ
-change_words most (Put key state) = joined (plain key ∷ codes " = \"" ∷ shown most state.value ∷ codes "\"" ∷ [])
-change_words most (Delete key revision) = joined (plain key ∷ codes " deleted" ∷ [])
+abbrev pub change_words : Cuts → Event → List ℕ
+change_words cuts (Put key state) = joined (key_words cuts key ∷ codes " = \"" ∷ shown cuts.value state.value ∷ codes "\"" ∷ [])
+change_words cuts (Delete key revision) = joined (key_words cuts key ∷ codes " deleted" ∷ [])
 
 -- what stands before a change after that many
 abbrev pub between : ℕ → List ℕ
 between count = if nat_eq count 0 then codes "  " else codes ", "
 
 -- a change after that many: of more than are shown only that there are more
-abbrev pub counted_change : ℕ → ℕ → Event → List ℕ
-counted_change most count event =
-    if nat_lt count MOST_CHANGES then joined (between count ∷ change_words most event ∷ [])
+abbrev pub counted_change : Cuts → ℕ → Event → List ℕ
+counted_change cuts count event =
+    if nat_lt count MOST_CHANGES then joined (between count ∷ change_words cuts event ∷ [])
     else (if nat_eq count MOST_CHANGES then codes ", .." else [])
 
 -- the changes after that many
-abbrev pub changes_after : ℕ → ℕ → List Event → List ℕ
-changes_after most count [] = []
-changes_after most count (event ∷ events) = counted_change most count event ++ changes_after most (suc count) events
+abbrev pub changes_after : Cuts → ℕ → List Event → List ℕ
+changes_after cuts count [] = []
+changes_after cuts count (event ∷ events) = counted_change cuts count event ++ changes_after cuts (suc count) events
 
 -- those of a revision that has come
-abbrev pub revision_words : ℕ → History → ℕ → List ℕ
-revision_words most h revision = if nat_lt (now h) revision then [] else changes_after most 0 (events_of h revision)
+abbrev pub revision_words : Cuts → History → ℕ → List ℕ
+revision_words cuts h revision = if nat_lt (now h) revision then [] else changes_after cuts 0 (events_of h revision)
 
 -- Those of the revisions above one and up to another: of the first two. More than one an event makes only where it ends several leases.
-abbrev pub changed_since : ℕ → History → ℕ → ℕ → List ℕ
-changed_since most h before after =
+abbrev pub changed_since : Cuts → History → ℕ → ℕ → List ℕ
+changed_since cuts h before after =
     if nat_le after before then []
-    else (if nat_eq after (before + 1) then revision_words most h (before + 1)
-    else joined (revision_words most h (before + 1) ∷ revision_words most h (before + 2) ∷ (if nat_eq after (before + 2) then [] else codes "  ..") ∷ []))
+    else (if nat_eq after (before + 1) then revision_words cuts h (before + 1)
+    else joined (revision_words cuts h (before + 1) ∷ revision_words cuts h (before + 2) ∷ (if nat_eq after (before + 2) then [] else codes "  ..") ∷ []))

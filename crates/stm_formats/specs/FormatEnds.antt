@@ -8,6 +8,7 @@ use Rattle.stm_events.specs.declared.reply.Reply.TheVariants.{Started, Prefetche
 use Rattle.stm_events.specs.declared.reply.KeyRead.{KeyRead}
 use Rattle.stm_events.specs.declared.refusal.Denied.{Denied}
 use Rattle.stm_formats.specs.declared.format_label.RunnerLabel.{RunnerLabel}
+use Rattle.stm_formats.specs.declared.format_keys.Cuts.{Cuts}
 use Rattle.stm_formats.specs.FormatPieces.{joined}
 use Rattle.stm_formats.specs.FormatLabels.{runner_words}
 use Rattle.stm_formats.specs.FormatWords.{seen_words, reads_after}
@@ -23,30 +24,30 @@ abbrev pub read_at : ℕ → List ℕ → List ℕ
 read_at number words = joined (codes ", " ∷ words ∷ codes " (event " ∷ decimal number ∷ codes ")" ∷ [])
 
 -- a key that was read at an event
-abbrev pub fetched_at : ℕ → History → ℕ → List ℕ → ℕ → ℕ → List ℕ
-fetched_at most h number key mod_rev of_rev = read_at number (seen_words most h key mod_rev of_rev)
+abbrev pub fetched_at : Cuts → History → ℕ → List ℕ → ℕ → ℕ → List ℕ
+fetched_at cuts h number key mod_rev of_rev = read_at number (seen_words cuts h key mod_rev of_rev)
 
 -- a list that was read at an event
-abbrev pub listed_at : ℕ → History → ℕ → ℕ → List KeyRead → List ℕ
-listed_at most h number revision reads = read_at number (joined (codes "the list" ∷ reads_after most h revision 0 reads ∷ []))
+abbrev pub listed_at : Cuts → History → ℕ → ℕ → List KeyRead → List ℕ
+listed_at cuts h number revision reads = read_at number (joined (codes "the list" ∷ reads_after cuts h revision 0 reads ∷ []))
 
 -- what the runner read by this reply to an event
-abbrev pub own_read : ℕ → History → ℕ → ℕ → Result Reply Denied → List ℕ
-own_read most h runner number (Ok (Fetched reader key mod_rev of_rev revision)) =
-    if nat_eq reader runner then fetched_at most h number key mod_rev of_rev else []
-own_read most h runner number (Ok (Prefetched reader revision reads)) =
-    if nat_eq reader runner then listed_at most h number revision reads else []
-own_read most h runner number other = []
+abbrev pub own_read : Cuts → History → ℕ → ℕ → Result Reply Denied → List ℕ
+own_read cuts h runner number (Ok (Fetched reader key mod_rev of_rev revision)) =
+    if nat_eq reader runner then fetched_at cuts h number key mod_rev of_rev else []
+own_read cuts h runner number (Ok (Prefetched reader revision reads)) =
+    if nat_eq reader runner then listed_at cuts h number revision reads else []
+own_read cuts h runner number other = []
 
 -- of an event that has a reply, unless an attempt begins with it what was read before it and at it
-abbrev pub reads_to : ℕ → History → ℕ → ℕ → Option (Result Reply Denied) → List ℕ → List ℕ
-reads_to most h runner number None earlier = []
-reads_to most h runner number (Some reply) earlier = if begins runner reply then [] else earlier ++ own_read most h runner number reply
+abbrev pub reads_to : Cuts → History → ℕ → ℕ → Option (Result Reply Denied) → List ℕ → List ℕ
+reads_to cuts h runner number None earlier = []
+reads_to cuts h runner number (Some reply) earlier = if begins runner reply then [] else earlier ++ own_read cuts h runner number reply
 
 -- what the runner's attempt had read before that event, of these replies
-abbrev pub attempt_reads : ℕ → History → ℕ → List (Result Reply Denied) → ℕ → List ℕ
-attempt_reads most h runner replies zero = []
-attempt_reads most h runner replies (suc before) = reads_to most h runner (suc before) (slice_get replies before) (attempt_reads most h runner replies before)
+abbrev pub attempt_reads : Cuts → History → ℕ → List (Result Reply Denied) → ℕ → List ℕ
+attempt_reads cuts h runner replies zero = []
+attempt_reads cuts h runner replies (suc before) = reads_to cuts h runner (suc before) (slice_get replies before) (attempt_reads cuts h runner replies before)
 
 -- a note, where something was read: of the first read without the comma before it
 abbrev pub noted : List ℕ → List ℕ → List (List ℕ)
@@ -56,19 +57,19 @@ abbrev pub end_words : List RunnerLabel → List ℕ → ℕ → ℕ → List �
 end_words labels word runner number = joined (runner_words labels runner ∷ word ∷ decimal number ∷ [])
 
 -- the note of the event after that many, which was taken
-abbrev pub taken_note : ℕ → List RunnerLabel → History → List (Result Reply Denied) → ℕ → Reply → List (List ℕ)
-taken_note most labels h replies before (Aborted runner text) =
-    noted (end_words labels (codes " aborts at event ") runner (before + 1)) (attempt_reads most h runner replies before)
-taken_note most labels h replies before (Faulted runner fault) =
-    noted (end_words labels (codes " faults at event ") runner (before + 1)) (attempt_reads most h runner replies before)
-taken_note most labels h replies before other = []
+abbrev pub taken_note : Cuts → List RunnerLabel → History → List (Result Reply Denied) → ℕ → Reply → List (List ℕ)
+taken_note cuts labels h replies before (Aborted runner text) =
+    noted (end_words labels (codes " aborts at event ") runner (before + 1)) (attempt_reads cuts h runner replies before)
+taken_note cuts labels h replies before (Faulted runner fault) =
+    noted (end_words labels (codes " faults at event ") runner (before + 1)) (attempt_reads cuts h runner replies before)
+taken_note cuts labels h replies before other = []
 
 -- that of one that was taken, or refused
-abbrev pub end_note : ℕ → List RunnerLabel → History → List (Result Reply Denied) → ℕ → Result Reply Denied → List (List ℕ)
-end_note most labels h replies before (Ok reply) = taken_note most labels h replies before reply
-end_note most labels h replies before (Err denied) = []
+abbrev pub end_note : Cuts → List RunnerLabel → History → List (Result Reply Denied) → ℕ → Result Reply Denied → List (List ℕ)
+end_note cuts labels h replies before (Ok reply) = taken_note cuts labels h replies before reply
+end_note cuts labels h replies before (Err denied) = []
 
 -- those of these replies, the first of them to the event after that many
-abbrev pub end_notes : ℕ → List RunnerLabel → History → List (Result Reply Denied) → ℕ → List (Result Reply Denied) → List (List ℕ)
-end_notes most labels h replies before [] = []
-end_notes most labels h replies before (reply ∷ later) = end_note most labels h replies before reply ++ end_notes most labels h replies (suc before) later
+abbrev pub end_notes : Cuts → List RunnerLabel → History → List (Result Reply Denied) → ℕ → List (Result Reply Denied) → List (List ℕ)
+end_notes cuts labels h replies before [] = []
+end_notes cuts labels h replies before (reply ∷ later) = end_note cuts labels h replies before reply ++ end_notes cuts labels h replies (suc before) later

@@ -7,6 +7,7 @@ use Rattle.stm_events.specs.declared.reply.Reply.{Reply}
 use Rattle.stm_events.specs.declared.reply.Reply.TheVariants as reply
 use Rattle.stm_events.specs.declared.refusal.Denied.{Denied}
 use Rattle.stm_formats.specs.declared.format_label.RunnerLabel.{RunnerLabel}
+use Rattle.stm_formats.specs.declared.format_keys.Cuts.{Cuts}
 use Rattle.stm_formats.specs.declared.format_row.Lane.{Lane}
 use Rattle.stm_formats.specs.declared.format_row.Lane.TheVariants.{Store, Runner}
 use Rattle.stm_formats.specs.declared.format_row.Mark.{Mark}
@@ -49,16 +50,16 @@ mark_of (Ok other) = Plain
 mark_of (Err denied) = Failed
 
 -- the row of an event before which the store was at a revision, with its reply
-abbrev pub row_of : ℕ → List RunnerLabel → History → ℕ → ℕ → WorldEvent → Result Reply Denied → Row
-row_of most labels h before n event reply =
-    record { number = n; lane = lane_of event reply; mark = mark_of reply; words = words_of most labels h before event reply }
+abbrev pub row_of : Cuts → List RunnerLabel → History → ℕ → ℕ → WorldEvent → Result Reply Denied → Row
+row_of cuts labels h before n event reply =
+    record { number = n; lane = lane_of event reply; mark = mark_of reply; words = words_of cuts labels h before event reply }
 
 -- a row for each event, numbered from n, where the store was at a revision before them and has this history since
-abbrev pub rows_of : ℕ → List RunnerLabel → History → ℕ → ℕ → List WorldEvent → List (Result Reply Denied) → List Row
-rows_of most labels h before n [] replies = []
-rows_of most labels h before n (event ∷ events) [] = []
-rows_of most labels h before n (event ∷ events) (reply ∷ replies) =
-    row_of most labels h before n event reply ∷ rows_of most labels h (counter_after before reply) (suc n) events replies
+abbrev pub rows_of : Cuts → List RunnerLabel → History → ℕ → ℕ → List WorldEvent → List (Result Reply Denied) → List Row
+rows_of cuts labels h before n [] replies = []
+rows_of cuts labels h before n (event ∷ events) [] = []
+rows_of cuts labels h before n (event ∷ events) (reply ∷ replies) =
+    row_of cuts labels h before n event reply ∷ rows_of cuts labels h (counter_after before reply) (suc n) events replies
 
 -- the rows are numbered from n
 abbrev pub AreNumbered : ℕ → List Row → Type 0

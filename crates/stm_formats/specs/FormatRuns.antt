@@ -9,9 +9,11 @@ use Rattle.stm_world.specs.World.{World}
 use Rattle.stm_reasons.specs.Counters.{counters}
 use Rattle.stm_reasons.specs.Reasons.{reasons_of}
 use Rattle.stm_formats.specs.declared.format_label.RunnerLabel.{RunnerLabel}
+use Rattle.stm_formats.specs.declared.format_keys.Cuts.{Cuts}
 use Rattle.stm_formats.specs.declared.format_row.Row.{Row}
 use Rattle.stm_formats.specs.declared.format_pieces.TheConstants.{MOST_SHOWN}
-use Rattle.stm_formats.specs.declared.format_runs.TheConstants.{LEAST_SHOWN}
+use Rattle.stm_formats.specs.declared.format_runs.TheConstants.{LEAST_SHOWN, MOST_OF_KEY}
+use Rattle.stm_formats.specs.FormatKeys.{cuts_of, whole_keys}
 use Rattle.stm_formats.specs.FormatRows.{rows_of}
 use Rattle.stm_formats.specs.FormatNotes.{notes_of}
 use Rattle.stm_formats.specs.FormatEnds.{end_notes}
@@ -24,12 +26,9 @@ use Rattle.stm_formats.specs.FormatHtml.{html_of}
 abbrev pub history_kept : World → History
 history_kept w = (kept w.standing).history
 
-abbrev pub rows_from : ℕ → List RunnerLabel → World → ℕ → List WorldEvent → List (Result Reply Denied) → List Row
-rows_from most labels w since events replies = rows_of most labels (history_kept w) since 1 events replies
-
 -- what is left, and on what values runs aborted or came to faults
 abbrev pub left_from : ℕ → List RunnerLabel → World → List (Result Reply Denied) → List (List ℕ)
-left_from most labels w replies = notes_of most labels w replies ++ end_notes most labels (history_kept w) replies 0 replies
+left_from most labels w replies = notes_of most labels w replies ++ end_notes (whole_keys most) labels (history_kept w) replies 0 replies
 
 -- that, and why commits failed
 abbrev pub notes_from : ℕ → List RunnerLabel → World → ℕ → List (Result Reply Denied) → List (List ℕ)
@@ -40,15 +39,25 @@ abbrev pub most_shown : Option ℕ → ℕ
 most_shown None = MOST_SHOWN
 most_shown (Some width) = max (width / 3) LEAST_SHOWN
 
+-- how many bytes of a key its rows show
+abbrev pub most_of_key : Option ℕ → ℕ
+most_of_key None = MOST_OF_KEY
+most_of_key (Some width) = most_shown (Some width)
+
+-- the rows for a width
+abbrev pub rows_from : Option ℕ → List RunnerLabel → World → ℕ → List WorldEvent → List (Result Reply Denied) → List Row
+rows_from width labels w since events replies =
+    rows_of (cuts_of (most_shown width) (most_of_key width) (history_kept w) since replies) labels (history_kept w) since 1 events replies
+
 abbrev pub text_from : Option ℕ → List RunnerLabel → World → ℕ → List WorldEvent → List (Result Reply Denied) → List ℕ
 text_from width labels w since events replies =
-    text_of width labels (rows_from (most_shown width) labels w since events replies) (notes_from (most_shown width) labels w since replies)
+    text_of width labels (rows_from width labels w since events replies) (notes_from (most_shown width) labels w since replies)
 
 abbrev pub svg_from : List RunnerLabel → World → ℕ → List WorldEvent → List (Result Reply Denied) → List ℕ
 svg_from labels w since events replies =
-    svg_of labels (rows_from MOST_SHOWN labels w since events replies) (notes_from MOST_SHOWN labels w since replies)
+    svg_of labels (rows_from None labels w since events replies) (notes_from MOST_SHOWN labels w since replies)
 
 abbrev pub html_from : List RunnerLabel → World → ℕ → List WorldEvent → List (Result Reply Denied) → List ℕ
 html_from labels w since events replies =
-    html_of labels (history_kept w) (counters since replies) (rows_from MOST_SHOWN labels w since events replies) (left_from MOST_SHOWN labels w replies)
+    html_of labels (history_kept w) (counters since replies) (rows_from None labels w since events replies) (left_from MOST_SHOWN labels w replies)
     (reasons_of (history_kept w) since replies)

@@ -1,4 +1,4 @@
--- How texts are shown: a character that cannot be seen by its bytes; a key whole, and a long value, message or source without its middle.
+-- How texts are shown: a character that cannot be seen by its bytes; a long value, message or source, and a key that is long in a row, without its middle.
 --
 -- RFC 3629, UTF-8: the bytes 128 to 191 go on with a character that began before them; U+0080 to U+009F are 194 and 128 to 159, U+00AD is 194 and 173, U+061C
 -- 216 and 156, U+200B to U+200F 226, 128 and 139 to 143, U+2028 to U+202E 226, 128 and 168 to 174, U+2060 to U+206F 226, 129 and 160 to 175, U+FEFF 239, 187
@@ -80,11 +80,25 @@ plain text = shown_after true 0 text
 abbrev pub front_of : ℕ → ℕ
 front_of most = most * 2 / 5
 
--- of more than `most` bytes only those in front and at the end
+-- only the bytes in front and at the end, `most` with the mark between them
+abbrev pub ends : Bool → List ℕ → ℕ → List ℕ → List ℕ
+ends exact mark most text =
+    shown_after exact 0 (front (front_of most) text) ++ mark ++ shown_after exact 0 (back (most - length mark - front_of most) text)
+
+-- of more than `most` bytes only those
 abbrev pub cut : Bool → ℕ → List ℕ → List ℕ
-cut exact most text =
-    if nat_le (length text) most then shown_after exact 0 text
-    else shown_after exact 0 (front (front_of most) text) ++ codes ".." ++ shown_after exact 0 (back (most - 2 - front_of most) text)
+cut exact most text = if nat_le (length text) most then shown_after exact 0 text else ends exact (codes "..") most text
+
+-- what is shown of a long key: its front and its end
+abbrev pub key_front : ℕ → List ℕ → List ℕ
+key_front most key = front (front_of most) key
+
+abbrev pub key_back : ℕ → List ℕ → List ℕ
+key_back most key = back (most - 3 - front_of most) key
+
+-- A key without its middle. A point stands after a backslash in no text that is shown exactly: so no whole key looks like that.
+abbrev pub key_cut : ℕ → List ℕ → List ℕ
+key_cut most key = ends true (codes "\\..") most key
 
 -- a value or a message
 abbrev pub shown : ℕ → List ℕ → List ℕ

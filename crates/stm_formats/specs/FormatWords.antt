@@ -16,7 +16,9 @@ use Rattle.stm_texts.specs.Grammar.{level_text}
 use Rattle.stm_reasons.specs.Counters.{counter_after}
 use Rattle.stm_formats.specs.declared.format_label.RunnerLabel.{RunnerLabel}
 use Rattle.stm_formats.specs.declared.format_changes.TheConstants.{MOST_CHANGES}
-use Rattle.stm_formats.specs.FormatShown.{plain, shown}
+use Rattle.stm_formats.specs.declared.format_keys.Cuts.{Cuts}
+use Rattle.stm_formats.specs.FormatShown.{shown}
+use Rattle.stm_formats.specs.FormatKeys.{key_words}
 use Rattle.stm_formats.specs.FormatPieces.{joined}
 use Rattle.stm_formats.specs.FormatLabels.{program_of}
 use Rattle.stm_formats.specs.FormatSource.{source_words, program_words, compare_words}
@@ -51,29 +53,29 @@ abbrev pub link : ℕ → List ℕ
 link mod_rev = if nat_eq mod_rev 0 then codes ": " else codes " = "
 
 -- a key that was seen as of a revision, at this modification revision
-abbrev pub seen_words : ℕ → History → List ℕ → ℕ → ℕ → List ℕ
-seen_words most h key mod_rev revision = joined (plain key ∷ link mod_rev ∷ known_words most h key mod_rev revision ∷ [])
+abbrev pub seen_words : Cuts → History → List ℕ → ℕ → ℕ → List ℕ
+seen_words cuts h key mod_rev revision = joined (key_words cuts key ∷ link mod_rev ∷ known_words cuts.value h key mod_rev revision ∷ [])
 
 -- the revision that a read shows, where the store was at another one
 abbrev pub as_of : ℕ → ℕ → List ℕ
 as_of of_rev revision = if nat_eq of_rev revision then [] else joined (codes ", as of " ∷ decimal of_rev ∷ [])
 
-abbrev pub fetched_words : ℕ → History → List ℕ → ℕ → ℕ → ℕ → List ℕ
-fetched_words most h key mod_rev of_rev revision =
-    joined (codes "read " ∷ seen_words most h key mod_rev of_rev ∷ as_of of_rev revision ∷ [])
+abbrev pub fetched_words : Cuts → History → List ℕ → ℕ → ℕ → ℕ → List ℕ
+fetched_words cuts h key mod_rev of_rev revision =
+    joined (codes "read " ∷ seen_words cuts h key mod_rev of_rev ∷ as_of of_rev revision ∷ [])
 
 -- a key of a list that was read after that many others: of more than are shown only that there are more
-abbrev pub counted_read : ℕ → History → ℕ → ℕ → KeyRead → List ℕ
-counted_read most h revision count read =
-    if nat_lt count MOST_CHANGES then joined (between count ∷ seen_words most h read.key read.mod_rev revision ∷ [])
+abbrev pub counted_read : Cuts → History → ℕ → ℕ → KeyRead → List ℕ
+counted_read cuts h revision count read =
+    if nat_lt count MOST_CHANGES then joined (between count ∷ seen_words cuts h read.key read.mod_rev revision ∷ [])
     else (if nat_eq count MOST_CHANGES then codes ", .." else [])
 
-abbrev pub reads_after : ℕ → History → ℕ → ℕ → List KeyRead → List ℕ
-reads_after most h revision count [] = []
-reads_after most h revision count (read ∷ reads) = counted_read most h revision count read ++ reads_after most h revision (suc count) reads
+abbrev pub reads_after : Cuts → History → ℕ → ℕ → List KeyRead → List ℕ
+reads_after cuts h revision count [] = []
+reads_after cuts h revision count (read ∷ reads) = counted_read cuts h revision count read ++ reads_after cuts h revision (suc count) reads
 
-abbrev pub listed_words : ℕ → History → ℕ → List KeyRead → List ℕ
-listed_words most h revision reads = joined (codes "read the list" ∷ reads_after most h revision 0 reads ∷ [])
+abbrev pub listed_words : Cuts → History → ℕ → List KeyRead → List ℕ
+listed_words cuts h revision reads = joined (codes "read the list" ∷ reads_after cuts h revision 0 reads ∷ [])
 
 -- ---- what came of a commit
 
@@ -85,9 +87,9 @@ abbrev pub commit_words : ℕ → ℕ → List ℕ
 commit_words revision attempts = joined (codes "COMMIT @" ∷ decimal revision ∷ attempt_words attempts ∷ [])
 
 -- what a failed compare was about: the key, what was seen of it, and what it is now
-abbrev pub compared_words : ℕ → History → List ℕ → List ℕ → ℕ → ℕ → List ℕ
-compared_words most h word key seen now =
-    joined (word ∷ codes " " ∷ plain key ∷ codes ": was " ∷ known_words most h key seen seen ∷ codes ", is " ∷ known_words most h key now now ∷ [])
+abbrev pub compared_words : Cuts → History → List ℕ → List ℕ → ℕ → ℕ → List ℕ
+compared_words cuts h word key seen now =
+    joined (word ∷ codes " " ∷ key_words cuts key ∷ codes ": was " ∷ known_words cuts.value h key seen seen ∷ codes ", is " ∷ known_words cuts.value h key now now ∷ [])
 
 -- ---- other events
 
@@ -119,26 +121,26 @@ batch_words watcher events upto =
 abbrev pub lost_words : ℕ → ℕ → List ℕ
 lost_words watcher floor = joined (codes "LOST watcher " ∷ decimal watcher ∷ codes ": kept from @" ∷ decimal floor ∷ [])
 
-abbrev pub reply_words : ℕ → List RunnerLabel → History → WorldEvent → Reply → List ℕ
-reply_words most labels h event (Started runner) = start_words most labels runner event
-reply_words most labels h event (Prefetched runner revision reads) = listed_words most h revision reads
-reply_words most labels h event (Fetched runner key mod_rev of_rev revision) = fetched_words most h key mod_rev of_rev revision
-reply_words most labels h event (Committed runner revision attempts output trace answers) = commit_words revision attempts
-reply_words most labels h event (Conflict runner key seen now) = compared_words most h (codes "CONFLICT") key seen now
-reply_words most labels h event (GaveUp runner attempts key seen now) = compared_words most h (codes "GAVE UP") key seen now
-reply_words most labels h event (Aborted runner text) = reported_words most (codes "ABORT") text
-reply_words most labels h event (Faulted runner fault) = reported_words most (codes "FAULT") (fault_name fault)
-reply_words most labels h event (Ended runner cause) = reported_words most (codes "ENDED") (refusal_name cause)
-reply_words most labels h event (Txn succeeded revision answers) = txn_words most event succeeded revision
-reply_words most labels h event (Granted id) = named_words (codes "grant") id
-reply_words most labels h event (Kept id) = named_words (codes "keep") id
-reply_words most labels h event (Revoked id revision) = revoked_words id revision
-reply_words most labels h event (Advanced now expired) = advanced_words now (length expired)
-reply_words most labels h event (Compacted revision) = changed_words (codes "compact") revision
-reply_words most labels h event (Watching watcher) = named_words (codes "watch") watcher
-reply_words most labels h event (Batch watcher upto events) = batch_words watcher (length events) upto
-reply_words most labels h event (Lost watcher floor) = lost_words watcher floor
-reply_words most labels h event (Cancelled watcher) = named_words (codes "cancel") watcher
+abbrev pub reply_words : Cuts → List RunnerLabel → History → WorldEvent → Reply → List ℕ
+reply_words cuts labels h event (Started runner) = start_words cuts.value labels runner event
+reply_words cuts labels h event (Prefetched runner revision reads) = listed_words cuts h revision reads
+reply_words cuts labels h event (Fetched runner key mod_rev of_rev revision) = fetched_words cuts h key mod_rev of_rev revision
+reply_words cuts labels h event (Committed runner revision attempts output trace answers) = commit_words revision attempts
+reply_words cuts labels h event (Conflict runner key seen now) = compared_words cuts h (codes "CONFLICT") key seen now
+reply_words cuts labels h event (GaveUp runner attempts key seen now) = compared_words cuts h (codes "GAVE UP") key seen now
+reply_words cuts labels h event (Aborted runner text) = reported_words cuts.value (codes "ABORT") text
+reply_words cuts labels h event (Faulted runner fault) = reported_words cuts.value (codes "FAULT") (fault_name fault)
+reply_words cuts labels h event (Ended runner cause) = reported_words cuts.value (codes "ENDED") (refusal_name cause)
+reply_words cuts labels h event (Txn succeeded revision answers) = txn_words cuts.value event succeeded revision
+reply_words cuts labels h event (Granted id) = named_words (codes "grant") id
+reply_words cuts labels h event (Kept id) = named_words (codes "keep") id
+reply_words cuts labels h event (Revoked id revision) = revoked_words id revision
+reply_words cuts labels h event (Advanced now expired) = advanced_words now (length expired)
+reply_words cuts labels h event (Compacted revision) = changed_words (codes "compact") revision
+reply_words cuts labels h event (Watching watcher) = named_words (codes "watch") watcher
+reply_words cuts labels h event (Batch watcher upto events) = batch_words watcher (length events) upto
+reply_words cuts labels h event (Lost watcher floor) = lost_words watcher floor
+reply_words cuts labels h event (Cancelled watcher) = named_words (codes "cancel") watcher
 
 -- what was asked for
 abbrev pub asked_word : WorldEvent → List ℕ
@@ -158,10 +160,10 @@ asked_word (event.Cancel watcher) = codes "cancel"
 abbrev pub refused_words : ℕ → WorldEvent → EventRefusal → List ℕ
 refused_words most event cause = joined (codes "REFUSED " ∷ asked_word event ∷ codes ": " ∷ shown most (refusal_name cause) ∷ [])
 
-abbrev pub told_words : ℕ → List RunnerLabel → History → WorldEvent → Result Reply Denied → List ℕ
-told_words most labels h event (Ok reply) = reply_words most labels h event reply
-told_words most labels h event (Err denied) = refused_words most event denied.cause
+abbrev pub told_words : Cuts → List RunnerLabel → History → WorldEvent → Result Reply Denied → List ℕ
+told_words cuts labels h event (Ok reply) = reply_words cuts labels h event reply
+told_words cuts labels h event (Err denied) = refused_words cuts.value event denied.cause
 
 -- what a row says of an event before which the store was at a revision: of its reply, and what it changed
-abbrev pub words_of : ℕ → List RunnerLabel → History → ℕ → WorldEvent → Result Reply Denied → List ℕ
-words_of most labels h before event reply = joined (told_words most labels h event reply ∷ changed_since most h before (counter_after before reply) ∷ [])
+abbrev pub words_of : Cuts → List RunnerLabel → History → ℕ → WorldEvent → Result Reply Denied → List ℕ
+words_of cuts labels h before event reply = joined (told_words cuts labels h event reply ∷ changed_since cuts h before (counter_after before reply) ∷ [])

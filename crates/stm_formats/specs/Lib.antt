@@ -3,6 +3,7 @@ pub mod FormatEscaped
 pub mod FormatPieces
 pub mod FormatLabels
 pub mod FormatSource
+pub mod FormatKeys
 pub mod FormatChanges
 pub mod FormatReasons
 pub mod FormatWords

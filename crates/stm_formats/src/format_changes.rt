@@ -2,6 +2,7 @@
 ghost use Rattle.std.specs.Prelude.{◌≡◌, ◌++◌, [], nat_eq, codes, if◌then◌else◌, option_copied, IfOk, OnOk};
 ghost use Rattle.stm_formats.specs.FormatChanges.{state_words, known_words, change_words, between, counted_change, changes_after, revision_words, changed_since};
 
+use crate::format_keys::{Cuts, key_words};
 use crate::format_pieces::{Piece, push_pieces, said};
 use std::alloc::{AllocError, Global};
 use stm_events::Event;
@@ -55,21 +56,23 @@ pub(crate) fn known_words(
 }
 
 /// The words of a change.
-fn change_words(alloc: Global, most: u32, event: &Event) -> Result<Sequence<u8>, AllocError>
-    ensures { IfOk result (λ words. words ≡ change_words most event.now) }
+fn change_words(alloc: Global, cuts: &Cuts, event: &Event) -> Result<Sequence<u8>, AllocError>
+    ensures { IfOk result (λ words. words ≡ change_words cuts.now event.now) }
 {
     match event {
         Event::Put { key, state } => {
+            let key = key_words(alloc, cuts, key.as_str())?;
             let pieces = [
-                Piece::Key(key.as_str()),
+                Piece::Raw(key.as_slice()),
                 Piece::Say(" = \""),
-                Piece::Shown(most, state.value.as_str()),
+                Piece::Shown(cuts.value, state.value.as_str()),
                 Piece::Say("\""),
             ];
             said(alloc, &pieces)
         }
         Event::Delete { key, .. } => {
-            said(alloc, &[Piece::Key(key.as_str()), Piece::Say(" deleted")])
+            let key = key_words(alloc, cuts, key.as_str())?;
+            said(alloc, &[Piece::Raw(key.as_slice()), Piece::Say(" deleted")])
         }
     }
 }
@@ -84,15 +87,15 @@ pub(crate) fn between(count: u64) -> &'static str
 /// Adds a change after so many.
 fn push_change(
     alloc: Global,
-    most: u32,
+    cuts: &Cuts,
     out: &mut Vec<u8>,
     count: u64,
     event: &Event,
 ) -> Result<(), AllocError>
-    ensures { OnOk result (out.new.items ≡ out.old.items ++ counted_change most count event.now) }
+    ensures { OnOk result (out.new.items ≡ out.old.items ++ counted_change cuts.now count event.now) }
 {
     if count < MOST_CHANGES {
-        let words = change_words(alloc, most, event)?;
+        let words = change_words(alloc, cuts, event)?;
         return push_pieces(
             out,
             &[Piece::Say(between(count)), Piece::Raw(words.as_slice())],
@@ -105,12 +108,12 @@ fn push_change(
 }
 
 /// The words of the changes that these events show.
-fn changes_words(alloc: Global, most: u32, events: &[Event]) -> Result<Vec<u8>, AllocError>
-    ensures { IfOk result (λ words. words.items ≡ changes_after most 0 events.now) }
+fn changes_words(alloc: Global, cuts: &Cuts, events: &[Event]) -> Result<Vec<u8>, AllocError>
+    ensures { IfOk result (λ words. words.items ≡ changes_after cuts.now 0 events.now) }
 {
     let mut out = Vec::new(alloc);
     for (count, event) in events.iter().enumerate() {
-        push_change(alloc, most, &mut out, count as u64, event)?;
+        push_change(alloc, cuts, &mut out, count as u64, event)?;
     }
     Ok(out)
 }
@@ -118,16 +121,16 @@ fn changes_words(alloc: Global, most: u32, events: &[Event]) -> Result<Vec<u8>, 
 /// The words of what a revision changed.
 fn revision_words(
     alloc: Global,
-    most: u32,
+    cuts: &Cuts,
     keys: &Keys,
     revision: u64,
 ) -> Result<Vec<u8>, AllocError>
-    ensures { IfOk result (λ words. words.items ≡ revision_words most keys.now.history revision) }
+    ensures { IfOk result (λ words. words.items ≡ revision_words cuts.now keys.now.history revision) }
 {
     if revision > keys.revision() {
         return Ok(Vec::new(alloc));
     }
-    changes_words(alloc, most, keys.events_at(revision))
+    changes_words(alloc, cuts, keys.events_at(revision))
 }
 
 /// That there are more revisions after one, up to another.
@@ -140,21 +143,21 @@ fn more_after(shown: u64, after: u64) -> &'static str
 /// The words of what the revisions above one and up to another changed.
 pub(crate) fn changed_since(
     alloc: Global,
-    most: u32,
+    cuts: &Cuts,
     keys: &Keys,
     before: u64,
     after: u64,
 ) -> Result<Vec<u8>, AllocError>
-    ensures { IfOk result (λ words. words.items ≡ changed_since most keys.now.history before after) }
+    ensures { IfOk result (λ words. words.items ≡ changed_since cuts.now keys.now.history before after) }
 {
     if after <= before {
         return Ok(Vec::new(alloc));
     }
-    let first = revision_words(alloc, most, keys, before + 1)?;
+    let first = revision_words(alloc, cuts, keys, before + 1)?;
     if after == before + 1 {
         return Ok(first);
     }
-    let second = revision_words(alloc, most, keys, before + 2)?;
+    let second = revision_words(alloc, cuts, keys, before + 2)?;
     let pieces = [
         Piece::Raw(first.as_slice()),
         Piece::Raw(second.as_slice()),

@@ -2,6 +2,7 @@
 ghost use Rattle.std.specs.Prelude.{◌≡◌, ◌++◌, ◌+◌, ◌<◌, ◌≤◌, length, IfOk, OnOk};
 ghost use Rattle.stm_formats.specs.FormatEnds.{begins, read_at, fetched_at, listed_at, own_read, attempt_reads, noted, end_words, taken_note, end_note, end_notes};
 
+use crate::format_keys::Cuts;
 use crate::format_label::{RunnerLabel, runner_words};
 use crate::format_pieces::{Piece, push_pieces, said};
 use crate::format_words::{reads_words, seen_words};
@@ -39,31 +40,31 @@ fn read_at(alloc: Global, number: u64, words: &[u8]) -> Result<Sequence<u8>, All
 /// The words of a key that was read at an event.
 fn fetched_at(
     alloc: Global,
-    most: u32,
+    cuts: &Cuts,
     keys: &Keys,
     number: u64,
     key: &str,
     mod_rev: u64,
     of_rev: u64,
 ) -> Result<Sequence<u8>, AllocError>
-    ensures { IfOk result (λ read. read ≡ fetched_at most keys.now.history number key.now mod_rev of_rev) }
+    ensures { IfOk result (λ read. read ≡ fetched_at cuts.now keys.now.history number key.now mod_rev of_rev) }
 {
-    let words = seen_words(alloc, most, keys, key, mod_rev, of_rev)?;
+    let words = seen_words(alloc, cuts, keys, key, mod_rev, of_rev)?;
     read_at(alloc, number, words.as_slice())
 }
 
 /// The words of a list that was read at an event.
 fn listed_at(
     alloc: Global,
-    most: u32,
+    cuts: &Cuts,
     keys: &Keys,
     number: u64,
     revision: u64,
     reads: &[KeyRead],
 ) -> Result<Sequence<u8>, AllocError>
-    ensures { IfOk result (λ read. read ≡ listed_at most keys.now.history number revision reads.now) }
+    ensures { IfOk result (λ read. read ≡ listed_at cuts.now keys.now.history number revision reads.now) }
 {
-    let read = reads_words(alloc, most, keys, revision, reads)?;
+    let read = reads_words(alloc, cuts, keys, revision, reads)?;
     let words = said(
         alloc,
         &[Piece::Say("the list"), Piece::Raw(read.as_slice())],
@@ -74,13 +75,13 @@ fn listed_at(
 /// What the runner read by the reply to an event.
 fn own_read(
     alloc: Global,
-    most: u32,
+    cuts: &Cuts,
     keys: &Keys,
     runner: u64,
     number: u64,
     reply: &Result<Reply, Denied>,
 ) -> Result<Sequence<u8>, AllocError>
-    ensures { IfOk result (λ read. read ≡ own_read most keys.now.history runner number reply.now) }
+    ensures { IfOk result (λ read. read ≡ own_read cuts.now keys.now.history runner number reply.now) }
 {
     match reply {
         Ok(
@@ -95,7 +96,7 @@ fn own_read(
             if *reader != runner {
                 return Ok(Sequence::new(alloc));
             }
-            fetched_at(alloc, most, keys, number, key.as_str(), *mod_rev, *of_rev)
+            fetched_at(alloc, cuts, keys, number, key.as_str(), *mod_rev, *of_rev)
         }
         Ok(
             Reply::Prefetched {
@@ -107,7 +108,7 @@ fn own_read(
             if *reader != runner {
                 return Ok(Sequence::new(alloc));
             }
-            listed_at(alloc, most, keys, number, *revision, reads.as_slice())
+            listed_at(alloc, cuts, keys, number, *revision, reads.as_slice())
         }
         _ => Ok(Sequence::new(alloc)),
     }
@@ -116,16 +117,16 @@ fn own_read(
 /// What the runner read by the reply to an event, before these words.
 fn with_read(
     alloc: Global,
-    most: u32,
+    cuts: &Cuts,
     keys: &Keys,
     runner: u64,
     number: u64,
     reply: &Result<Reply, Denied>,
     words: &[u8],
 ) -> Result<Sequence<u8>, AllocError>
-    ensures { IfOk result (λ read. read ≡ own_read most keys.now.history runner number reply.now ++ words.now) }
+    ensures { IfOk result (λ read. read ≡ own_read cuts.now keys.now.history runner number reply.now ++ words.now) }
 {
-    let mut read = own_read(alloc, most, keys, runner, number, reply)?.into_vec();
+    let mut read = own_read(alloc, cuts, keys, runner, number, reply)?.into_vec();
     read.extend_from_slice(words)?;
     Ok(Sequence::of(read))
 }
@@ -133,14 +134,14 @@ fn with_read(
 /// What the runner's attempt had read after so many of these events. It goes back from the last of them to where the attempt began.
 fn attempt_reads(
     alloc: Global,
-    most: u32,
+    cuts: &Cuts,
     keys: &Keys,
     runner: u64,
     replies: &[Result<Reply, Denied>],
     events: usize,
 ) -> Result<Sequence<u8>, AllocError>
     requires { events ≤ length replies.now }
-    ensures { IfOk result (λ words. words ≡ attempt_reads most keys.now.history runner replies.now events) }
+    ensures { IfOk result (λ words. words ≡ attempt_reads cuts.now keys.now.history runner replies.now events) }
 {
     let mut words = Sequence::new(alloc);
     let mut left = events;
@@ -152,7 +153,7 @@ fn attempt_reads(
         }
         words = with_read(
             alloc,
-            most,
+            cuts,
             keys,
             runner,
             left as u64,
@@ -204,7 +205,7 @@ fn push_noted<'a>(
 /// Adds the note of a run that ended at the event after so many, where its attempt had read something.
 fn push_ended(
     alloc: Global,
-    most: u32,
+    cuts: &Cuts,
     labels: &[RunnerLabel],
     notes: &mut Vec<Sequence<u8>>,
     keys: &Keys,
@@ -215,17 +216,17 @@ fn push_ended(
 ) -> Result<(), AllocError>
     requires { before < length replies.now }
     ensures { OnOk result (notes.new.items ≡ notes.old.items
-        ++ noted (end_words labels.now word.now runner (before + 1)) (attempt_reads most keys.now.history runner replies.now before)) }
+        ++ noted (end_words labels.now word.now runner (before + 1)) (attempt_reads cuts.now keys.now.history runner replies.now before)) }
 {
     let words = end_words(alloc, labels, word, runner, before as u64 + 1)?;
-    let reads = attempt_reads(alloc, most, keys, runner, replies, before)?;
+    let reads = attempt_reads(alloc, cuts, keys, runner, replies, before)?;
     push_noted(alloc, notes, words.as_slice(), reads.as_slice())
 }
 
 /// Adds the note of the event after so many, which was taken, if a run aborted or came to a fault there.
 fn push_taken(
     alloc: Global,
-    most: u32,
+    cuts: &Cuts,
     labels: &[RunnerLabel],
     notes: &mut Vec<Sequence<u8>>,
     keys: &Keys,
@@ -234,13 +235,13 @@ fn push_taken(
     reply: &Reply,
 ) -> Result<(), AllocError>
     requires { before < length replies.now }
-    ensures { OnOk result (notes.new.items ≡ notes.old.items ++ taken_note most labels.now keys.now.history replies.now before reply.now) }
+    ensures { OnOk result (notes.new.items ≡ notes.old.items ++ taken_note cuts.now labels.now keys.now.history replies.now before reply.now) }
 {
     match reply {
         Reply::Aborted { runner, .. } => {
             push_ended(
                 alloc,
-                most,
+                cuts,
                 labels,
                 notes,
                 keys,
@@ -253,7 +254,7 @@ fn push_taken(
         Reply::Faulted { runner, .. } => {
             push_ended(
                 alloc,
-                most,
+                cuts,
                 labels,
                 notes,
                 keys,
@@ -270,7 +271,7 @@ fn push_taken(
 /// Adds the note of the event after so many, if a run aborted or came to a fault there.
 fn push_end(
     alloc: Global,
-    most: u32,
+    cuts: &Cuts,
     labels: &[RunnerLabel],
     notes: &mut Vec<Sequence<u8>>,
     keys: &Keys,
@@ -279,10 +280,10 @@ fn push_end(
     reply: &Result<Reply, Denied>,
 ) -> Result<(), AllocError>
     requires { before < length replies.now }
-    ensures { OnOk result (notes.new.items ≡ notes.old.items ++ end_note most labels.now keys.now.history replies.now before reply.now) }
+    ensures { OnOk result (notes.new.items ≡ notes.old.items ++ end_note cuts.now labels.now keys.now.history replies.now before reply.now) }
 {
     match reply {
-        Ok(reply) => push_taken(alloc, most, labels, notes, keys, replies, before, reply),
+        Ok(reply) => push_taken(alloc, cuts, labels, notes, keys, replies, before, reply),
         Err(_) => Ok(()),
     }
 }
@@ -290,16 +291,16 @@ fn push_end(
 /// Adds a note for each run that aborted or came to a fault after it had read something. It fails where a growth was refused.
 pub(crate) fn push_ends(
     alloc: Global,
-    most: u32,
+    cuts: &Cuts,
     labels: &[RunnerLabel],
     notes: &mut Vec<Sequence<u8>>,
     keys: &Keys,
     replies: &[Result<Reply, Denied>],
 ) -> Result<(), AllocError>
-    ensures { OnOk result (notes.new.items ≡ notes.old.items ++ end_notes most labels.now keys.now.history replies.now 0 replies.now) }
+    ensures { OnOk result (notes.new.items ≡ notes.old.items ++ end_notes cuts.now labels.now keys.now.history replies.now 0 replies.now) }
 {
     for (before, reply) in replies.iter().enumerate() {
-        push_end(alloc, most, labels, notes, keys, replies, before, reply)?;
+        push_end(alloc, cuts, labels, notes, keys, replies, before, reply)?;
     }
     Ok(())
 }

@@ -1,6 +1,6 @@
 //! Writing a text piece by piece.
-ghost use Rattle.std.specs.Prelude.{◌≡◌, ◌++◌, ◌<◌, ◌≤◌, ◌^◌, drop, get_or, decimal, replicate, length, map, take, IfOk, OnOk};
-ghost use Rattle.stm_formats.specs.FormatShown.{front, back, byte_text, coded, cut, digit, from_character, hidden, hidden_from, is_unseen, is_unseen_pair, shown_after, spelled, is_continuation};
+ghost use Rattle.std.specs.Prelude.{◌≡◌, ◌++◌, ◌-◌, ◌<◌, ◌≤◌, ◌^◌, drop, get_or, decimal, replicate, length, map, take, IfOk, OnOk};
+ghost use Rattle.stm_formats.specs.FormatShown.{front, front_of, back, byte_text, coded, cut, ends, digit, from_character, hidden, hidden_from, is_unseen, is_unseen_pair, shown_after, spelled, is_continuation};
 ghost use Rattle.stm_formats.specs.FormatEscaped.{entity, escaped};
 ghost use Rattle.stm_formats.specs.FormatPieces.{joined, padded, tag_text, piece_text};
 
@@ -179,7 +179,7 @@ fn push_byte(out: &mut Vec<u8>, exact: bool, hidden: usize, byte: u8) -> Result<
 }
 
 /// Adds bytes as they are shown: exactly, or without that.
-fn push_shown(out: &mut Vec<u8>, exact: bool, bytes: &[u8]) -> Result<(), AllocError>
+pub(crate) fn push_shown(out: &mut Vec<u8>, exact: bool, bytes: &[u8]) -> Result<(), AllocError>
     ensures { OnOk result (out.new.items ≡ out.old.items ++ shown_after exact 0 bytes.now) }
 {
     let mut left = 0usize;
@@ -192,6 +192,46 @@ fn push_shown(out: &mut Vec<u8>, exact: bool, bytes: &[u8]) -> Result<(), AllocE
     Ok(())
 }
 
+/// The front that is shown of a text without its middle.
+#[tactic(auto, using(crate::proofs::FormatFronts::front_short))]
+pub(crate) fn front_shown(bytes: &[u8], most: usize) -> &[u8]
+    requires { most < 2 ^ 33 }
+    ensures { result.now ≡ front (front_of most) bytes.now }
+{
+    let kept = most * 2 / 5;
+    if kept >= bytes.len() {
+        return bytes;
+    }
+    let (front, _) = bytes.split_at(end_of_front(bytes, kept));
+    front
+}
+
+/// The end that is shown of it, with so many bytes for the mark between them.
+pub(crate) fn back_shown(bytes: &[u8], most: usize, mark: usize) -> &[u8]
+    requires { most < 2 ^ 33 }
+    ensures { result.now ≡ back (most - mark - front_of most) bytes.now }
+{
+    let kept = most.saturating_sub(mark).saturating_sub(most * 2 / 5);
+    let (_, back) = bytes.split_at(start_of_back(bytes, kept));
+    back
+}
+
+/// Adds the bytes in front and at the end as they are shown, `most` with the mark between them.
+pub(crate) fn push_ends(
+    out: &mut Vec<u8>,
+    exact: bool,
+    mark: &str,
+    most: usize,
+    bytes: &[u8],
+) -> Result<(), AllocError>
+    requires { most < 2 ^ 33 }
+    ensures { OnOk result (out.new.items ≡ out.old.items ++ ends exact mark.now most bytes.now) }
+{
+    push_shown(out, exact, front_shown(bytes, most))?;
+    out.extend_from_slice(mark.as_bytes())?;
+    push_shown(out, exact, back_shown(bytes, most, mark.len()))
+}
+
 /// Adds bytes as they are shown, of more than `most` only those in front and at the end.
 fn push_cut(out: &mut Vec<u8>, exact: bool, most: usize, bytes: &[u8]) -> Result<(), AllocError>
     requires { most < 2 ^ 33 }
@@ -200,15 +240,7 @@ fn push_cut(out: &mut Vec<u8>, exact: bool, most: usize, bytes: &[u8]) -> Result
     if bytes.len() <= most {
         return push_shown(out, exact, bytes);
     }
-    let first = most * 2 / 5;
-    let (front, _) = bytes.split_at(end_of_front(bytes, first));
-    let (_, back) = bytes.split_at(start_of_back(
-        bytes,
-        most.saturating_sub(2).saturating_sub(first),
-    ));
-    push_shown(out, exact, front)?;
-    out.extend_from_slice(b"..")?;
-    push_shown(out, exact, back)
+    push_ends(out, exact, "..", most, bytes)
 }
 
 /// Adds a number in decimal.

@@ -2,6 +2,7 @@
 ghost use Rattle.std.specs.Prelude.{◌≡◌, length, IfOk};
 ghost use Rattle.stm_formats.specs.FormatRows.{reply_lane, refused_lane, lane_of, mark_of, row_of, rows_of};
 
+use crate::format_keys::Cuts;
 use crate::format_label::RunnerLabel;
 use crate::format_row::{Lane, Mark, Row};
 use crate::format_words::words_of;
@@ -68,7 +69,7 @@ fn mark_of(reply: &Result<Reply, Denied>) -> Mark
 /// The row of an event before which the store was at a revision, with its reply.
 fn row_of(
     alloc: Global,
-    most: u32,
+    cuts: &Cuts,
     labels: &[RunnerLabel],
     keys: &Keys,
     before: u64,
@@ -76,9 +77,9 @@ fn row_of(
     event: &WorldEvent,
     reply: &Result<Reply, Denied>,
 ) -> Result<Row, AllocError>
-    ensures { IfOk result (λ row. row ≡ row_of most labels.now keys.now.history before number event.now reply.now) }
+    ensures { IfOk result (λ row. row ≡ row_of cuts.now labels.now keys.now.history before number event.now reply.now) }
 {
-    let words = words_of(alloc, most, labels, keys, before, event, reply)?;
+    let words = words_of(alloc, cuts, labels, keys, before, event, reply)?;
     Ok(Row {
         number,
         lane: lane_of(event, reply),
@@ -91,7 +92,7 @@ fn row_of(
 /// where a growth was refused.
 pub fn rows_of(
     alloc: Global,
-    most: u32,
+    cuts: &Cuts,
     labels: &[RunnerLabel],
     keys: &Keys,
     opened: u64,
@@ -99,14 +100,14 @@ pub fn rows_of(
     replies: &[Result<Reply, Denied>],
 ) -> Result<Vec<Row>, AllocError>
     requires { length events.now ≡ length replies.now }
-    ensures { IfOk result (λ rows. rows.items ≡ rows_of most labels.now keys.now.history opened 1 events.now replies.now) }
+    ensures { IfOk result (λ rows. rows.items ≡ rows_of cuts.now labels.now keys.now.history opened 1 events.now replies.now) }
 {
     let mut rows = Vec::new(alloc);
     let mut counter = opened;
     for (before, reply) in replies.iter().enumerate() {
         let row = row_of(
             alloc,
-            most,
+            cuts,
             labels,
             keys,
             counter,

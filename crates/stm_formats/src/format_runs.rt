@@ -1,9 +1,10 @@
 //! The text, the picture and the page of a run.
 ghost use Rattle.std.specs.Prelude.{◌≡◌, length, IfOk};
-ghost use Rattle.stm_formats.specs.FormatRuns.{rows_from, left_from, notes_from, most_shown, text_from, svg_from, html_from};
+ghost use Rattle.stm_formats.specs.FormatRuns.{rows_from, left_from, notes_from, most_shown, most_of_key, text_from, svg_from, html_from};
 
 use crate::format_ends::push_ends;
 use crate::format_html::html_of;
+use crate::format_keys::{cuts_of, whole_keys};
 use crate::format_label::RunnerLabel;
 use crate::format_notes::notes_of;
 use crate::format_pieces::MOST_SHOWN;
@@ -16,6 +17,9 @@ use std::alloc::{AllocError, Global};
 use stm_history::Sequence;
 use stm_reasons::{counters, reasons_of};
 use stm_retry::{Denied, Reply, World, WorldEvent};
+
+/// So many bytes of a key are shown in a row, where no width says otherwise.
+const MOST_OF_KEY: u32 = 64;
 
 /// So many bytes of a value are shown at least, however narrow a text is.
 const LEAST_SHOWN: u32 = 16;
@@ -30,10 +34,20 @@ fn most_shown(width: Option<u32>) -> u32
     }
 }
 
-/// The rows of events that led to a world from a revision of its store.
+/// How many bytes of a key the rows show for a width.
+fn most_of_key(width: Option<u32>) -> u32
+    ensures { result ≡ most_of_key width }
+{
+    match width {
+        None => MOST_OF_KEY,
+        Some(_) => most_shown(width),
+    }
+}
+
+/// The rows for a width of events that led to a world from a revision of its store.
 fn rows_from(
     alloc: Global,
-    most: u32,
+    width: Option<u32>,
     labels: &[RunnerLabel],
     world: &World,
     since: u64,
@@ -41,17 +55,18 @@ fn rows_from(
     replies: &[Result<Reply, Denied>],
 ) -> Result<Vec<Row>, AllocError>
     requires { length events.now ≡ length replies.now }
-    ensures { IfOk result (λ rows. rows.items ≡ rows_from most labels.now world.now since events.now replies.now) }
+    ensures { IfOk result (λ rows. rows.items ≡ rows_from width labels.now world.now since events.now replies.now) }
 {
-    rows_of(
+    let keys = world.store().keys();
+    let cuts = cuts_of(
         alloc,
-        most,
-        labels,
-        world.store().keys(),
+        most_shown(width),
+        most_of_key(width),
+        keys,
         since,
-        events,
         replies,
-    )
+    )?;
+    rows_of(alloc, &cuts, labels, keys, since, events, replies)
 }
 
 /// What is left after events that led to a world, and on what values runs aborted or came to faults.
@@ -65,9 +80,10 @@ fn left_from(
     ensures { IfOk result (λ notes. notes.items ≡ left_from most labels.now world.now replies.now) }
 {
     let mut notes = notes_of(alloc, most, labels, world, replies)?;
+    let cuts = whole_keys(alloc, most);
     push_ends(
         alloc,
-        most,
+        &cuts,
         labels,
         &mut notes,
         world.store().keys(),
@@ -109,9 +125,8 @@ pub fn text_from(
     requires { length events.now ≡ length replies.now }
     ensures { IfOk result (λ text. text.items ≡ text_from width labels.now world.now since events.now replies.now) }
 {
-    let most = most_shown(width);
-    let rows = rows_from(alloc, most, labels, world, since, events, replies)?;
-    let notes = notes_from(alloc, most, labels, world, since, replies)?;
+    let rows = rows_from(alloc, width, labels, world, since, events, replies)?;
+    let notes = notes_from(alloc, most_shown(width), labels, world, since, replies)?;
     text_of(alloc, width, labels, rows.as_slice(), notes.as_slice())
 }
 
@@ -129,7 +144,7 @@ pub fn svg_from(
     requires { length events.now ≡ length replies.now }
     ensures { IfOk result (λ svg. svg.items ≡ svg_from labels.now world.now since events.now replies.now) }
 {
-    let rows = rows_from(alloc, MOST_SHOWN, labels, world, since, events, replies)?;
+    let rows = rows_from(alloc, None, labels, world, since, events, replies)?;
     let notes = notes_from(alloc, MOST_SHOWN, labels, world, since, replies)?;
     svg_of(alloc, labels, rows.as_slice(), notes.as_slice())
 }
@@ -149,7 +164,7 @@ pub fn html_from(
     ensures { IfOk result (λ html. html.items ≡ html_from labels.now world.now since events.now replies.now) }
 {
     let keys = world.store().keys();
-    let rows = rows_from(alloc, MOST_SHOWN, labels, world, since, events, replies)?;
+    let rows = rows_from(alloc, None, labels, world, since, events, replies)?;
     let notes = left_from(alloc, MOST_SHOWN, labels, world, replies)?;
     let counters = counters(alloc, since, replies)?;
     let reasons = reasons_of(alloc, keys, since, replies)?;

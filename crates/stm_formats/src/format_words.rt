@@ -7,6 +7,7 @@ ghost use Rattle.stm_formats.specs.FormatPieces.{joined};
 ghost use Rattle.stm_formats.specs.FormatWords.{advanced_words, batch_words, lost_words, reply_words, asked_word, refused_words, told_words, words_of};
 
 use crate::format_changes::{MOST_CHANGES, between, changed_since, known_words};
+use crate::format_keys::{Cuts, key_words};
 use crate::format_label::{RunnerLabel, program_of};
 use crate::format_pieces::{Piece, push_pieces, said};
 use crate::format_source::{compare_words, program_words, source_words};
@@ -122,17 +123,18 @@ fn link(mod_rev: u64) -> &'static str
 /// The words of a key that was seen as of a revision, at a modification revision.
 pub(crate) fn seen_words(
     alloc: Global,
-    most: u32,
+    cuts: &Cuts,
     keys: &Keys,
     key: &str,
     mod_rev: u64,
     revision: u64,
 ) -> Result<Sequence<u8>, AllocError>
-    ensures { IfOk result (λ words. words ≡ seen_words most keys.now.history key.now mod_rev revision) }
+    ensures { IfOk result (λ words. words ≡ seen_words cuts.now keys.now.history key.now mod_rev revision) }
 {
-    let known = known_words(alloc, most, keys, key, mod_rev, revision)?;
+    let name = key_words(alloc, cuts, key)?;
+    let known = known_words(alloc, cuts.value, keys, key, mod_rev, revision)?;
     let pieces = [
-        Piece::Key(key),
+        Piece::Raw(name.as_slice()),
         Piece::Say(link(mod_rev)),
         Piece::Raw(known.as_slice()),
     ];
@@ -152,16 +154,16 @@ fn as_of(alloc: Global, of_rev: u64, revision: u64) -> Result<Sequence<u8>, Allo
 /// The words of a fetch.
 fn fetched(
     alloc: Global,
-    most: u32,
+    cuts: &Cuts,
     keys: &Keys,
     key: &str,
     mod_rev: u64,
     of_rev: u64,
     revision: u64,
 ) -> Result<Sequence<u8>, AllocError>
-    ensures { IfOk result (λ words. words ≡ fetched_words most keys.now.history key.now mod_rev of_rev revision) }
+    ensures { IfOk result (λ words. words ≡ fetched_words cuts.now keys.now.history key.now mod_rev of_rev revision) }
 {
-    let seen = seen_words(alloc, most, keys, key, mod_rev, of_rev)?;
+    let seen = seen_words(alloc, cuts, keys, key, mod_rev, of_rev)?;
     let shows = as_of(alloc, of_rev, revision)?;
     let pieces = [
         Piece::Say("read "),
@@ -174,17 +176,17 @@ fn fetched(
 /// Adds a key of a list that was read after so many others.
 fn push_read(
     alloc: Global,
-    most: u32,
+    cuts: &Cuts,
     out: &mut Vec<u8>,
     keys: &Keys,
     revision: u64,
     count: u64,
     read: &KeyRead,
 ) -> Result<(), AllocError>
-    ensures { OnOk result (out.new.items ≡ out.old.items ++ counted_read most keys.now.history revision count read.now) }
+    ensures { OnOk result (out.new.items ≡ out.old.items ++ counted_read cuts.now keys.now.history revision count read.now) }
 {
     if count < MOST_CHANGES {
-        let seen = seen_words(alloc, most, keys, read.key.as_str(), read.mod_rev, revision)?;
+        let seen = seen_words(alloc, cuts, keys, read.key.as_str(), read.mod_rev, revision)?;
         return push_pieces(
             out,
             &[Piece::Say(between(count)), Piece::Raw(seen.as_slice())],
@@ -199,16 +201,16 @@ fn push_read(
 /// The words of the keys of a list that were read as of a revision.
 pub(crate) fn reads_words(
     alloc: Global,
-    most: u32,
+    cuts: &Cuts,
     keys: &Keys,
     revision: u64,
     reads: &[KeyRead],
 ) -> Result<Vec<u8>, AllocError>
-    ensures { IfOk result (λ words. words.items ≡ reads_after most keys.now.history revision 0 reads.now) }
+    ensures { IfOk result (λ words. words.items ≡ reads_after cuts.now keys.now.history revision 0 reads.now) }
 {
     let mut out = Vec::new(alloc);
     for (count, read) in reads.iter().enumerate() {
-        push_read(alloc, most, &mut out, keys, revision, count as u64, read)?;
+        push_read(alloc, cuts, &mut out, keys, revision, count as u64, read)?;
     }
     Ok(out)
 }
@@ -216,14 +218,14 @@ pub(crate) fn reads_words(
 /// The words of a list that was fetched.
 fn listed(
     alloc: Global,
-    most: u32,
+    cuts: &Cuts,
     keys: &Keys,
     revision: u64,
     reads: &[KeyRead],
 ) -> Result<Sequence<u8>, AllocError>
-    ensures { IfOk result (λ words. words ≡ listed_words most keys.now.history revision reads.now) }
+    ensures { IfOk result (λ words. words ≡ listed_words cuts.now keys.now.history revision reads.now) }
 {
-    let read = reads_words(alloc, most, keys, revision, reads)?;
+    let read = reads_words(alloc, cuts, keys, revision, reads)?;
     said(
         alloc,
         &[Piece::Say("read the list"), Piece::Raw(read.as_slice())],
@@ -256,21 +258,22 @@ fn committed(alloc: Global, revision: u64, attempts: u64) -> Result<Sequence<u8>
 /// The words of a commit of which a compare failed.
 fn compared<'a>(
     alloc: Global,
-    most: u32,
+    cuts: &Cuts,
     keys: &Keys,
     word: &'a str,
     key: &'a str,
     seen: u64,
     now: u64,
 ) -> Result<Sequence<u8>, AllocError>
-    ensures { IfOk result (λ words. words ≡ compared_words most keys.now.history word.now key.now seen now) }
+    ensures { IfOk result (λ words. words ≡ compared_words cuts.now keys.now.history word.now key.now seen now) }
 {
-    let before = known_words(alloc, most, keys, key, seen, seen)?;
-    let after = known_words(alloc, most, keys, key, now, now)?;
+    let name = key_words(alloc, cuts, key)?;
+    let before = known_words(alloc, cuts.value, keys, key, seen, seen)?;
+    let after = known_words(alloc, cuts.value, keys, key, now, now)?;
     let pieces = [
         Piece::Say(word),
         Piece::Say(" "),
-        Piece::Key(key),
+        Piece::Raw(name.as_slice()),
         Piece::Say(": was "),
         Piece::Raw(before.as_slice()),
         Piece::Say(", is "),
@@ -382,21 +385,21 @@ fn lost(alloc: Global, watcher: u64, floor: u64) -> Result<Sequence<u8>, AllocEr
 /// The words of an event that was taken.
 fn taken_words(
     alloc: Global,
-    most: u32,
+    cuts: &Cuts,
     labels: &[RunnerLabel],
     keys: &Keys,
     event: &WorldEvent,
     reply: &Reply,
 ) -> Result<Sequence<u8>, AllocError>
-    ensures { IfOk result (λ words. words ≡ reply_words most labels.now keys.now.history event.now reply.now) }
+    ensures { IfOk result (λ words. words ≡ reply_words cuts.now labels.now keys.now.history event.now reply.now) }
 {
     match reply {
-        Reply::Started { runner } => started(alloc, most, labels, *runner, event),
+        Reply::Started { runner } => started(alloc, cuts.value, labels, *runner, event),
         Reply::Prefetched {
             revision,
             reads,
             ..
-        } => listed(alloc, most, keys, *revision, reads.as_slice()),
+        } => listed(alloc, cuts, keys, *revision, reads.as_slice()),
         Reply::Fetched {
             key,
             mod_rev,
@@ -405,7 +408,7 @@ fn taken_words(
             ..
         } => fetched(
             alloc,
-            most,
+            cuts,
             keys,
             key.as_str(),
             *mod_rev,
@@ -418,19 +421,19 @@ fn taken_words(
             ..
         } => committed(alloc, *revision, *attempts),
         Reply::Conflict { key, seen, now, .. } => {
-            compared(alloc, most, keys, "CONFLICT", key.as_str(), *seen, *now)
+            compared(alloc, cuts, keys, "CONFLICT", key.as_str(), *seen, *now)
         }
         Reply::GaveUp { key, seen, now, .. } => {
-            compared(alloc, most, keys, "GAVE UP", key.as_str(), *seen, *now)
+            compared(alloc, cuts, keys, "GAVE UP", key.as_str(), *seen, *now)
         }
-        Reply::Aborted { text, .. } => reported(alloc, most, "ABORT", text.as_str()),
-        Reply::Faulted { fault, .. } => reported(alloc, most, "FAULT", fault.name()),
-        Reply::Ended { cause, .. } => reported(alloc, most, "ENDED", cause.name()),
+        Reply::Aborted { text, .. } => reported(alloc, cuts.value, "ABORT", text.as_str()),
+        Reply::Faulted { fault, .. } => reported(alloc, cuts.value, "FAULT", fault.name()),
+        Reply::Ended { cause, .. } => reported(alloc, cuts.value, "ENDED", cause.name()),
         Reply::Txn {
             succeeded,
             revision,
             ..
-        } => transacted(alloc, most, event, *succeeded, *revision),
+        } => transacted(alloc, cuts.value, event, *succeeded, *revision),
         Reply::Granted { id } => named(alloc, "grant", *id),
         Reply::Kept { id } => named(alloc, "keep", *id),
         Reply::Revoked { id, revision } => revoked(alloc, *id, *revision),
@@ -488,17 +491,17 @@ fn refused(
 /// The words of an event by its reply.
 fn told_words(
     alloc: Global,
-    most: u32,
+    cuts: &Cuts,
     labels: &[RunnerLabel],
     keys: &Keys,
     event: &WorldEvent,
     reply: &Result<Reply, Denied>,
 ) -> Result<Sequence<u8>, AllocError>
-    ensures { IfOk result (λ words. words ≡ told_words most labels.now keys.now.history event.now reply.now) }
+    ensures { IfOk result (λ words. words ≡ told_words cuts.now labels.now keys.now.history event.now reply.now) }
 {
     match reply {
-        Ok(reply) => taken_words(alloc, most, labels, keys, event, reply),
-        Err(denied) => refused(alloc, most, event, denied.cause),
+        Ok(reply) => taken_words(alloc, cuts, labels, keys, event, reply),
+        Err(denied) => refused(alloc, cuts.value, event, denied.cause),
     }
 }
 
@@ -506,17 +509,17 @@ fn told_words(
 /// where a growth was refused.
 pub(crate) fn words_of(
     alloc: Global,
-    most: u32,
+    cuts: &Cuts,
     labels: &[RunnerLabel],
     keys: &Keys,
     before: u64,
     event: &WorldEvent,
     reply: &Result<Reply, Denied>,
 ) -> Result<Sequence<u8>, AllocError>
-    ensures { IfOk result (λ words. words ≡ words_of most labels.now keys.now.history before event.now reply.now) }
+    ensures { IfOk result (λ words. words ≡ words_of cuts.now labels.now keys.now.history before event.now reply.now) }
 {
-    let told = told_words(alloc, most, labels, keys, event, reply)?;
-    let changed = changed_since(alloc, most, keys, before, counter_after(before, reply))?;
+    let told = told_words(alloc, cuts, labels, keys, event, reply)?;
+    let changed = changed_since(alloc, cuts, keys, before, counter_after(before, reply))?;
     said(
         alloc,
         &[Piece::Raw(told.as_slice()), Piece::Raw(changed.as_slice())],

@@ -8,6 +8,7 @@ mod format_changes;
 mod format_columns;
 mod format_ends;
 mod format_html;
+mod format_keys;
 mod format_label;
 mod format_notes;
 mod format_page;
@@ -21,6 +22,7 @@ mod format_svg;
 mod format_text;
 mod format_words;
 
+pub use format_keys::Cuts;
 pub use format_label::RunnerLabel;
 pub use format_row::{Lane, Mark, Row};
 pub use format_runs::{html_from, svg_from, text_from};

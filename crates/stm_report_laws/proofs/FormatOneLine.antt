@@ -22,11 +22,13 @@ use Rattle.stm_events.specs.declared.refusal.EventRefusal.{EventRefusal}
 use Rattle.stm_events.specs.Names.{refusal_name}
 use Rattle.stm_meaning.specs.Faults.{fault_name}
 use Rattle.stm_program.specs.Syntax.{ProgramTree}
+use Rattle.stm_formats.specs.declared.format_keys.Cuts.{Cuts}
 use Rattle.stm_formats.specs.declared.format_label.RunnerLabel.{RunnerLabel}
 use Rattle.stm_formats.specs.FormatLabels.{program_of}
 use Rattle.stm_formats.specs.declared.format_row.Lane.{Lane}
 use Rattle.stm_formats.specs.declared.format_row.Lane.TheVariants.{Store, Runner}
-use Rattle.stm_formats.specs.FormatShown.{shown, source_shown, plain, hidden, hidden_from, digit, coded, byte_text, shown_after, front, back}
+use Rattle.stm_formats.specs.FormatShown.{shown, source_shown, plain, ends, key_cut, hidden, hidden_from, digit, coded, byte_text, shown_after, front, front_of, back}
+use Rattle.stm_formats.specs.FormatKeys.{key_words}
 use Rattle.stm_formats.specs.FormatPieces.{joined, padded, tag_text}
 use Rattle.stm_program_source.specs.Program.{shown_body}
 use Rattle.stm_show.specs.Transactions.{shown_compares}
@@ -92,21 +94,29 @@ after_without exact left (x ∷ xs) =
     let more : ℕ = pred (hidden_from left (x ∷ xs)) in
     has-append 10 (byte_text exact (hidden_from left (x ∷ xs)) x) (shown_after exact more xs) (next_without exact left x xs) (after_without exact more xs)
 
-plain_without : (key : List ℕ) → has 10 (plain key) ≡ false
-plain_without key = after_without true 0 key
+ends_without : (exact : Bool) (mark : List ℕ) (most : ℕ) (text : List ℕ) → has 10 mark ≡ false → has 10 (ends exact mark most text) ≡ false
+ends_without exact mark most text none =
+    let first : List ℕ = front (front_of most) text in
+    let last : List ℕ = back (most - length mark - front_of most) text in
+    has-append 10 (shown_after exact 0 first ++ mark) (shown_after exact 0 last)
+    (has-append 10 (shown_after exact 0 first) mark (after_without exact 0 first) none) (after_without exact 0 last)
 
-cut_by : (exact : Bool) (first last : ℕ) (b : Bool) (text : List ℕ)
-    → has 10 (cond b (shown_after exact 0 text) (shown_after exact 0 (front first text) ++ codes ".." ++ shown_after exact 0 (back last text))) ≡ false
-cut_by exact first last true text = after_without exact 0 text
-cut_by exact first last false text =
-    has-append 10 (shown_after exact 0 (front first text) ++ codes "..") (shown_after exact 0 (back last text))
-    (has-append 10 (shown_after exact 0 (front first text)) (codes "..") (after_without exact 0 (front first text)) refl) (after_without exact 0 (back last text))
+cut_by : (exact b : Bool) (most : ℕ) (text : List ℕ) → has 10 (cond b (shown_after exact 0 text) (ends exact (codes "..") most text)) ≡ false
+cut_by exact true most text = after_without exact 0 text
+cut_by exact false most text = ends_without exact (codes "..") most text refl
 
 shown_without : (most : ℕ) (text : List ℕ) → has 10 (shown most text) ≡ false
-shown_without most text = cut_by true _ _ _ text
+shown_without most text = cut_by true _ most text
 
 source_without : (most : ℕ) (text : List ℕ) → has 10 (source_shown most text) ≡ false
-source_without most text = cut_by false _ _ _ text
+source_without most text = cut_by false _ (most + most) text
+
+key_by : (b : Bool) (most : ℕ) (key : List ℕ) → has 10 (cond b (key_cut most key) (plain key)) ≡ false
+key_by true most key = ends_without true (codes "\\..") most key refl
+key_by false most key = after_without true 0 key
+
+key_without : (cuts : Cuts) (key : List ℕ) → has 10 (key_words cuts key) ≡ false
+key_without cuts key = key_by _ cuts.key key
 
 glyph_by : (b : Bool) (d : ℕ) → nat_eq (cond b (48 + d) (87 + d)) 10 ≡ false
 glyph_by true d = grind (arith, nat_tests)
@@ -196,11 +206,11 @@ known_without most h key mod_rev revision =
     (either_without (nat_lt revision h.opening.number) number kept (joined_without (codes "@" ∷ decimal mod_rev ∷ []) (refl, (decimal_without mod_rev, tt)))
     (state_without most (state_by h key revision)))
 
-change_without : (most : ℕ) (e : Event) → has 10 (change_words most e) ≡ false
-change_without most (change.Put key state) =
-    joined_without (plain key ∷ codes " = \"" ∷ shown most state.value ∷ codes "\"" ∷ [])
-    (plain_without key, (refl, (shown_without most state.value, (refl, tt))))
-change_without most (change.Delete key revision) = joined_without (plain key ∷ codes " deleted" ∷ []) (plain_without key, (refl, tt))
+change_without : (cuts : Cuts) (e : Event) → has 10 (change_words cuts e) ≡ false
+change_without cuts (change.Put key state) =
+    joined_without (key_words cuts key ∷ codes " = \"" ∷ shown cuts.value state.value ∷ codes "\"" ∷ [])
+    (key_without cuts key, (refl, (shown_without cuts.value state.value, (refl, tt))))
+change_without cuts (change.Delete key revision) = joined_without (key_words cuts key ∷ codes " deleted" ∷ []) (key_without cuts key, (refl, tt))
 
 between_without : (count : ℕ) → has 10 (between count) ≡ false
 between_without count = either_without (nat_eq count 0) (codes "  ") (codes ", ") refl refl
@@ -212,51 +222,51 @@ few_without few last count words none =
     either_without few (joined (between count ∷ words ∷ [])) (cond last (codes ", ..") [])
     (joined_without (between count ∷ words ∷ []) (between_without count, (none, tt))) (either_without last (codes ", ..") [] refl refl)
 
-changes_without : (most : ℕ) (count : ℕ) (events : List Event) → has 10 (changes_after most count events) ≡ false
-changes_without most count [] = refl
-changes_without most count (e ∷ es) =
-    has-append 10 (counted_change most count e) (changes_after most (suc count) es) (few_without _ _ count (change_words most e) (change_without most e)) (changes_without most (suc count) es)
+changes_without : (cuts : Cuts) (count : ℕ) (events : List Event) → has 10 (changes_after cuts count events) ≡ false
+changes_without cuts count [] = refl
+changes_without cuts count (e ∷ es) =
+    has-append 10 (counted_change cuts count e) (changes_after cuts (suc count) es) (few_without _ _ count (change_words cuts e) (change_without cuts e)) (changes_without cuts (suc count) es)
 
-revision_without : (most : ℕ) (h : History) (revision : ℕ) → has 10 (revision_words most h revision) ≡ false
-revision_without most h revision =
-    either_without (nat_lt (now h) revision) [] (changes_after most 0 (events_of h revision)) refl (changes_without most 0 (events_of h revision))
+revision_without : (cuts : Cuts) (h : History) (revision : ℕ) → has 10 (revision_words cuts h revision) ≡ false
+revision_without cuts h revision =
+    either_without (nat_lt (now h) revision) [] (changes_after cuts 0 (events_of h revision)) refl (changes_without cuts 0 (events_of h revision))
 
-changed_without : (most : ℕ) (h : History) (before after : ℕ) → has 10 (changed_since most h before after) ≡ false
-changed_without most h before after =
-    let first : List ℕ = revision_words most h (before + 1) in
+changed_without : (cuts : Cuts) (h : History) (before after : ℕ) → has 10 (changed_since cuts h before after) ≡ false
+changed_without cuts h before after =
+    let first : List ℕ = revision_words cuts h (before + 1) in
     let rest : List ℕ = cond (nat_eq after (before + 2)) [] (codes "  ..") in
-    let more : List ℕ = joined (first ∷ revision_words most h (before + 2) ∷ rest ∷ []) in
+    let more : List ℕ = joined (first ∷ revision_words cuts h (before + 2) ∷ rest ∷ []) in
     either_without (nat_le after before) [] (cond (nat_eq after (before + 1)) first more) refl
-    (either_without (nat_eq after (before + 1)) first more (revision_without most h (before + 1))
-    (joined_without (first ∷ revision_words most h (before + 2) ∷ rest ∷ [])
-    (revision_without most h (before + 1), (revision_without most h (before + 2), (either_without (nat_eq after (before + 2)) [] (codes "  ..") refl refl, tt)))))
+    (either_without (nat_eq after (before + 1)) first more (revision_without cuts h (before + 1))
+    (joined_without (first ∷ revision_words cuts h (before + 2) ∷ rest ∷ [])
+    (revision_without cuts h (before + 1), (revision_without cuts h (before + 2), (either_without (nat_eq after (before + 2)) [] (codes "  ..") refl refl, tt)))))
 
 -- ---- reads and commits
 
-seen_without : (most : ℕ) (h : History) (key : List ℕ) (mod_rev revision : ℕ) → has 10 (seen_words most h key mod_rev revision) ≡ false
-seen_without most h key mod_rev revision =
-    joined_without (plain key ∷ link mod_rev ∷ known_words most h key mod_rev revision ∷ [])
-    (plain_without key, (either_without (nat_eq mod_rev 0) (codes ": ") (codes " = ") refl refl, (known_without most h key mod_rev revision, tt)))
+seen_without : (cuts : Cuts) (h : History) (key : List ℕ) (mod_rev revision : ℕ) → has 10 (seen_words cuts h key mod_rev revision) ≡ false
+seen_without cuts h key mod_rev revision =
+    joined_without (key_words cuts key ∷ link mod_rev ∷ known_words cuts.value h key mod_rev revision ∷ [])
+    (key_without cuts key, (either_without (nat_eq mod_rev 0) (codes ": ") (codes " = ") refl refl, (known_without cuts.value h key mod_rev revision, tt)))
 
 as_of_without : (of_rev revision : ℕ) → has 10 (as_of of_rev revision) ≡ false
 as_of_without of_rev revision =
     either_without (nat_eq of_rev revision) [] (joined (codes ", as of " ∷ decimal of_rev ∷ [])) refl
     (joined_without (codes ", as of " ∷ decimal of_rev ∷ []) (refl, (decimal_without of_rev, tt)))
 
-fetched_without : (most : ℕ) (h : History) (key : List ℕ) (mod_rev of_rev revision : ℕ) → has 10 (fetched_words most h key mod_rev of_rev revision) ≡ false
-fetched_without most h key mod_rev of_rev revision =
-    joined_without (codes "read " ∷ seen_words most h key mod_rev of_rev ∷ as_of of_rev revision ∷ [])
-    (refl, (seen_without most h key mod_rev of_rev, (as_of_without of_rev revision, tt)))
+fetched_without : (cuts : Cuts) (h : History) (key : List ℕ) (mod_rev of_rev revision : ℕ) → has 10 (fetched_words cuts h key mod_rev of_rev revision) ≡ false
+fetched_without cuts h key mod_rev of_rev revision =
+    joined_without (codes "read " ∷ seen_words cuts h key mod_rev of_rev ∷ as_of of_rev revision ∷ [])
+    (refl, (seen_without cuts h key mod_rev of_rev, (as_of_without of_rev revision, tt)))
 
-reads_without : (most : ℕ) (h : History) (revision count : ℕ) (reads : List KeyRead) → has 10 (reads_after most h revision count reads) ≡ false
-reads_without most h revision count [] = refl
-reads_without most h revision count (r ∷ rs) =
-    has-append 10 (counted_read most h revision count r) (reads_after most h revision (suc count) rs)
-    (few_without _ _ count (seen_words most h r.key r.mod_rev revision) (seen_without most h r.key r.mod_rev revision)) (reads_without most h revision (suc count) rs)
+reads_without : (cuts : Cuts) (h : History) (revision count : ℕ) (reads : List KeyRead) → has 10 (reads_after cuts h revision count reads) ≡ false
+reads_without cuts h revision count [] = refl
+reads_without cuts h revision count (r ∷ rs) =
+    has-append 10 (counted_read cuts h revision count r) (reads_after cuts h revision (suc count) rs)
+    (few_without _ _ count (seen_words cuts h r.key r.mod_rev revision) (seen_without cuts h r.key r.mod_rev revision)) (reads_without cuts h revision (suc count) rs)
 
-listed_without : (most : ℕ) (h : History) (revision : ℕ) (reads : List KeyRead) → has 10 (listed_words most h revision reads) ≡ false
-listed_without most h revision reads =
-    joined_without (codes "read the list" ∷ reads_after most h revision 0 reads ∷ []) (refl, (reads_without most h revision 0 reads, tt))
+listed_without : (cuts : Cuts) (h : History) (revision : ℕ) (reads : List KeyRead) → has 10 (listed_words cuts h revision reads) ≡ false
+listed_without cuts h revision reads =
+    joined_without (codes "read the list" ∷ reads_after cuts h revision 0 reads ∷ []) (refl, (reads_without cuts h revision 0 reads, tt))
 
 commit_without : (revision attempts : ℕ) → has 10 (commit_words revision attempts) ≡ false
 commit_without revision attempts =
@@ -273,10 +283,10 @@ commit_without revision attempts =
       ),
     )
 
-compared_without : (most : ℕ) (h : History) (word key : List ℕ) (seen now : ℕ) → has 10 word ≡ false → has 10 (compared_words most h word key seen now) ≡ false
-compared_without most h word key seen now none =
-    joined_without (word ∷ codes " " ∷ plain key ∷ codes ": was " ∷ known_words most h key seen seen ∷ codes ", is " ∷ known_words most h key now now ∷ [])
-    (none, (refl, (plain_without key, (refl, (known_without most h key seen seen, (refl, (known_without most h key now now, tt)))))))
+compared_without : (cuts : Cuts) (h : History) (word key : List ℕ) (seen now : ℕ) → has 10 word ≡ false → has 10 (compared_words cuts h word key seen now) ≡ false
+compared_without cuts h word key seen now none =
+    joined_without (word ∷ codes " " ∷ key_words cuts key ∷ codes ": was " ∷ known_words cuts.value h key seen seen ∷ codes ", is " ∷ known_words cuts.value h key now now ∷ [])
+    (none, (refl, (key_without cuts key, (refl, (known_without cuts.value h key seen seen, (refl, (known_without cuts.value h key now now, tt)))))))
 
 -- ---- other events
 
@@ -304,35 +314,35 @@ refused_without most e cause =
     joined_without (codes "REFUSED " ∷ asked_word e ∷ codes ": " ∷ shown most (refusal_name cause) ∷ [])
     (refl, (asked_without e, (refl, (shown_without most (refusal_name cause), tt))))
 
-reply_without : (most : ℕ) (labels : List RunnerLabel) (h : History) (e : WorldEvent) (reply : Reply) → has 10 (reply_words most labels h e reply) ≡ false
-reply_without most labels h e (Started runner) = start_without most labels runner e
-reply_without most labels h e (Prefetched runner revision reads) = listed_without most h revision reads
-reply_without most labels h e (Fetched runner key mod_rev of_rev revision) = fetched_without most h key mod_rev of_rev revision
-reply_without most labels h e (Committed runner revision attempts output trace answers) = commit_without revision attempts
-reply_without most labels h e (Conflict runner key seen now) = compared_without most h (codes "CONFLICT") key seen now refl
-reply_without most labels h e (GaveUp runner attempts key seen now) = compared_without most h (codes "GAVE UP") key seen now refl
-reply_without most labels h e (Aborted runner text) = reported_without most (codes "ABORT") text refl
-reply_without most labels h e (Faulted runner fault) = reported_without most (codes "FAULT") (fault_name fault) refl
-reply_without most labels h e (Ended runner cause) = reported_without most (codes "ENDED") (refusal_name cause) refl
-reply_without most labels h e (Txn succeeded revision answers) = txn_without most e succeeded revision
-reply_without most labels h e (Granted id) = named_without (codes "grant") id refl
-reply_without most labels h e (Kept id) = named_without (codes "keep") id refl
-reply_without most labels h e (Revoked id revision) = revoked_without id revision
-reply_without most labels h e (Advanced now expired) = advanced_without now (length expired)
-reply_without most labels h e (Compacted revision) = compacted_without revision
-reply_without most labels h e (Watching watcher) = named_without (codes "watch") watcher refl
-reply_without most labels h e (Batch watcher upto events) = batch_without watcher (length events) upto
-reply_without most labels h e (Lost watcher floor) = lost_without watcher floor
-reply_without most labels h e (Cancelled watcher) = named_without (codes "cancel") watcher refl
+reply_without : (cuts : Cuts) (labels : List RunnerLabel) (h : History) (e : WorldEvent) (reply : Reply) → has 10 (reply_words cuts labels h e reply) ≡ false
+reply_without cuts labels h e (Started runner) = start_without cuts.value labels runner e
+reply_without cuts labels h e (Prefetched runner revision reads) = listed_without cuts h revision reads
+reply_without cuts labels h e (Fetched runner key mod_rev of_rev revision) = fetched_without cuts h key mod_rev of_rev revision
+reply_without cuts labels h e (Committed runner revision attempts output trace answers) = commit_without revision attempts
+reply_without cuts labels h e (Conflict runner key seen now) = compared_without cuts h (codes "CONFLICT") key seen now refl
+reply_without cuts labels h e (GaveUp runner attempts key seen now) = compared_without cuts h (codes "GAVE UP") key seen now refl
+reply_without cuts labels h e (Aborted runner text) = reported_without cuts.value (codes "ABORT") text refl
+reply_without cuts labels h e (Faulted runner fault) = reported_without cuts.value (codes "FAULT") (fault_name fault) refl
+reply_without cuts labels h e (Ended runner cause) = reported_without cuts.value (codes "ENDED") (refusal_name cause) refl
+reply_without cuts labels h e (Txn succeeded revision answers) = txn_without cuts.value e succeeded revision
+reply_without cuts labels h e (Granted id) = named_without (codes "grant") id refl
+reply_without cuts labels h e (Kept id) = named_without (codes "keep") id refl
+reply_without cuts labels h e (Revoked id revision) = revoked_without id revision
+reply_without cuts labels h e (Advanced now expired) = advanced_without now (length expired)
+reply_without cuts labels h e (Compacted revision) = compacted_without revision
+reply_without cuts labels h e (Watching watcher) = named_without (codes "watch") watcher refl
+reply_without cuts labels h e (Batch watcher upto events) = batch_without watcher (length events) upto
+reply_without cuts labels h e (Lost watcher floor) = lost_without watcher floor
+reply_without cuts labels h e (Cancelled watcher) = named_without (codes "cancel") watcher refl
 
-told_without : (most : ℕ) (labels : List RunnerLabel) (h : History) (e : WorldEvent) (reply : Result Reply Denied) → has 10 (told_words most labels h e reply) ≡ false
-told_without most labels h e (Ok reply) = reply_without most labels h e reply
-told_without most labels h e (Err denied) = refused_without most e denied.cause
+told_without : (cuts : Cuts) (labels : List RunnerLabel) (h : History) (e : WorldEvent) (reply : Result Reply Denied) → has 10 (told_words cuts labels h e reply) ≡ false
+told_without cuts labels h e (Ok reply) = reply_without cuts labels h e reply
+told_without cuts labels h e (Err denied) = refused_without cuts.value e denied.cause
 
-words_without : (most : ℕ) (labels : List RunnerLabel) (h : History) (before : ℕ) (e : WorldEvent) (reply : Result Reply Denied) → has 10 (words_of most labels h before e reply) ≡ false
-words_without most labels h before e reply =
-    joined_without (told_words most labels h e reply ∷ changed_since most h before (counter_after before reply) ∷ [])
-    (told_without most labels h e reply, (changed_without most h before (counter_after before reply), tt))
+words_without : (cuts : Cuts) (labels : List RunnerLabel) (h : History) (before : ℕ) (e : WorldEvent) (reply : Result Reply Denied) → has 10 (words_of cuts labels h before e reply) ≡ false
+words_without cuts labels h before e reply =
+    joined_without (told_words cuts labels h e reply ∷ changed_since cuts h before (counter_after before reply) ∷ [])
+    (told_without cuts labels h e reply, (changed_without cuts h before (counter_after before reply), tt))
 
 -- ---- a row
 
@@ -374,26 +384,26 @@ count-append : (xs ys : List ℕ) → count 10 (xs ++ ys) ≡ count 10 xs + coun
 count-append [] ys = omega arith
 count-append (x ∷ xs) ys = ap (λ (n : ℕ). cond (nat_eq x 10) (n + 1) n) (count-append xs ys) ∙ line_by (nat_eq x 10) (count 10 xs) (count 10 ys)
 
-one_line : (most : ℕ) (labels : List RunnerLabel) (places : List ℕ) (n : ℕ) (h : History) (before : ℕ) (e : WorldEvent) (reply : Result Reply Denied) → count 10 (row_text places (row_of most labels h before n e reply)) ≡ 1
-one_line most labels places n h before e reply =
+one_line : (cuts : Cuts) (labels : List RunnerLabel) (places : List ℕ) (n : ℕ) (h : History) (before : ℕ) (e : WorldEvent) (reply : Result Reply Denied) → count 10 (row_text places (row_of cuts labels h before n e reply)) ≡ 1
+one_line cuts labels places n h before e reply =
     let at : ℕ = 2 + place places (column (lane_of e reply)) in
     let indent = spaces at in
     let end : List ℕ = codes "\n" ++ [] in
-    count-before (padded n) (indent ++ (tag_text (lane_of e reply) ++ (words_of most labels h before e reply ++ end)))
+    count-before (padded n) (indent ++ (tag_text (lane_of e reply) ++ (words_of cuts labels h before e reply ++ end)))
     (has-append 10 (spaces (6 - length (decimal n))) (decimal n) (spaces_without (6 - length (decimal n))) (decimal_without n))
-    ∙ count-before indent (tag_text (lane_of e reply) ++ (words_of most labels h before e reply ++ end)) (spaces_without at)
-    ∙ count-before (tag_text (lane_of e reply)) (words_of most labels h before e reply ++ end) (tag_without (lane_of e reply))
-    ∙ count-before (words_of most labels h before e reply) end (words_without most labels h before e reply)
+    ∙ count-before indent (tag_text (lane_of e reply) ++ (words_of cuts labels h before e reply ++ end)) (spaces_without at)
+    ∙ count-before (tag_text (lane_of e reply)) (words_of cuts labels h before e reply ++ end) (tag_without (lane_of e reply))
+    ∙ count-before (words_of cuts labels h before e reply) end (words_without cuts labels h before e reply)
 
 one_more : (m : ℕ) → 1 + m ≡ suc m
 one_more m = omega arith
 
 pub one_line_a_row : OneLineARow
-one_line_a_row most labels places n h before [] replies = refl
-one_line_a_row most labels places n h before (e ∷ es) [] = refl
-one_line_a_row most labels places n h before (e ∷ es) (r ∷ rs) =
-    let rest = rows_of most labels h (counter_after before r) (suc n) es rs in
-    count-append (row_text places (row_of most labels h before n e r)) (rows_text places rest)
-    ∙ ap (λ (m : ℕ). m + count 10 (rows_text places rest)) (one_line most labels places n h before e r)
-    ∙ ap (λ (m : ℕ). 1 + m) (one_line_a_row most labels places (suc n) h (counter_after before r) es rs)
+one_line_a_row cuts labels places n h before [] replies = refl
+one_line_a_row cuts labels places n h before (e ∷ es) [] = refl
+one_line_a_row cuts labels places n h before (e ∷ es) (r ∷ rs) =
+    let rest = rows_of cuts labels h (counter_after before r) (suc n) es rs in
+    count-append (row_text places (row_of cuts labels h before n e r)) (rows_text places rest)
+    ∙ ap (λ (m : ℕ). m + count 10 (rows_text places rest)) (one_line cuts labels places n h before e r)
+    ∙ ap (λ (m : ℕ). 1 + m) (one_line_a_row cuts labels places (suc n) h (counter_after before r) es rs)
     ∙ one_more (length rest)

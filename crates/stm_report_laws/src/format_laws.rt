@@ -16,7 +16,7 @@ pub fn one_line_a_row()
     ensures { OneLineARow }
 {}
 
-/// Two keys that are shown alike are the same key, whatever characters they have that cannot be seen.
+/// Two keys that rows show alike are the same key, whatever characters they have that cannot be seen, and whether they are shown whole or without their middle.
 pub fn keys_apart()
     ensures { KeysApart }
 {}

@@ -6,7 +6,7 @@ use Rattle.stm_formats.proofs.format_ends.attempt_reads.Given as goal
 abbrev pub invariant-loop-left : goal.invariant-loop-left
 invariant-loop-left l = record {
   within : l.left ≤ length l.replies;
-  reads : attempt_reads l.most l.keys.history l.runner l.replies l.left ++ l.words ≡ attempt_reads l.most l.keys.history l.runner l.replies l.events;
+  reads : attempt_reads l.cuts l.keys.history l.runner l.replies l.left ++ l.words ≡ attempt_reads l.cuts l.keys.history l.runner l.replies l.events;
 }
 
 abbrev pub decreases-loop-left : goal.decreases-loop-left

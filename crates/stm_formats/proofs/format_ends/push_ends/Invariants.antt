@@ -5,5 +5,5 @@ use Rattle.stm_formats.proofs.format_ends.push_ends.Given as goal
 -- the notes so far, and those of the replies that are left
 abbrev pub invariant-loop-before : goal.invariant-loop-before
 invariant-loop-before l =
-    l.notes.items ++ end_notes l.most l.labels l.keys.history l.replies l.before (drop l.before l.replies)
-    ≡ l.fn.notes.items ++ end_notes l.most l.labels l.keys.history l.replies 0 l.replies
+    l.notes.items ++ end_notes l.cuts l.labels l.keys.history l.replies l.before (drop l.before l.replies)
+    ≡ l.fn.notes.items ++ end_notes l.cuts l.labels l.keys.history l.replies 0 l.replies

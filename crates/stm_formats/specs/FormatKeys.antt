@@ -36,9 +36,12 @@ abbrev pub with_keys : ℕ → List (List ℕ) → List (List ℕ) → List (Lis
 with_keys most keys [] = keys
 with_keys most keys (key ∷ more) = with_keys most (with_key most keys key) more
 
+abbrev pub keys_read : List KeyRead → List (List ℕ)
+keys_read reads = map (λ (read : KeyRead). read.key) reads
+
 -- those that a reply names
 abbrev pub keys_told : Result Reply Denied → List (List ℕ)
-keys_told (Ok (Prefetched runner revision reads)) = map (λ (read : KeyRead). read.key) reads
+keys_told (Ok (Prefetched runner revision reads)) = keys_read reads
 keys_told (Ok (Fetched runner key mod_rev of_rev revision)) = key ∷ []
 keys_told (Ok (Conflict runner key seen now)) = key ∷ []
 keys_told (Ok (GaveUp runner attempts key seen now)) = key ∷ []

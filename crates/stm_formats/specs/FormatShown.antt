@@ -80,14 +80,14 @@ plain text = shown_after true 0 text
 abbrev pub front_of : ℕ → ℕ
 front_of most = most * 2 / 5
 
--- only the bytes in front and at the end, `most` with the mark between them
-abbrev pub ends : Bool → List ℕ → ℕ → List ℕ → List ℕ
-ends exact mark most text =
+-- only the bytes in front and at the end, around a mark: `most` with that
+abbrev pub around : Bool → List ℕ → ℕ → List ℕ → List ℕ
+around exact mark most text =
     shown_after exact 0 (front (front_of most) text) ++ mark ++ shown_after exact 0 (back (most - length mark - front_of most) text)
 
 -- of more than `most` bytes only those
 abbrev pub cut : Bool → ℕ → List ℕ → List ℕ
-cut exact most text = if nat_le (length text) most then shown_after exact 0 text else ends exact (codes "..") most text
+cut exact most text = if nat_le (length text) most then shown_after exact 0 text else around exact (codes "..") most text
 
 -- what is shown of a long key: its front and its end
 abbrev pub key_front : ℕ → List ℕ → List ℕ
@@ -98,7 +98,7 @@ key_back most key = back (most - 3 - front_of most) key
 
 -- A key without its middle. A point stands after a backslash in no text that is shown exactly: so no whole key looks like that.
 abbrev pub key_cut : ℕ → List ℕ → List ℕ
-key_cut most key = ends true (codes "\\..") most key
+key_cut most key = around true (codes "\\..") most key
 
 -- a value or a message
 abbrev pub shown : ℕ → List ℕ → List ℕ

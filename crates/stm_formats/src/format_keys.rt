@@ -2,18 +2,14 @@
 ghost use Rattle.std.specs.Prelude.{◌≡◌, ◌++◌, ◌-◌, [], map, IfOk, OnOk};
 ghost use Rattle.stm_history.specs.History.{now};
 ghost use Rattle.stm_keys.specs.Events.{key_of_event};
-ghost use Rattle.stm_events.specs.declared.reply.KeyRead.{KeyRead};
-ghost use Rattle.stm_formats.specs.FormatKeys.{is_among, is_twin, has_twin, key_words, with_key, with_keys, keys_told, with_told, with_changed, cuts_of, whole_keys};
+ghost use Rattle.stm_formats.specs.FormatKeys.{is_among, is_twin, has_twin, key_words, with_key, with_keys, keys_read, keys_told, with_told, with_changed, cuts_of, whole_keys};
 
-use crate::format_pieces::{back_shown, front_shown, push_ends, push_shown};
+use crate::format_pieces::{back_shown, front_shown, push_around, push_shown};
 use std::alloc::{AllocError, Global};
 use stm_events::{Event, KeyRead};
 use stm_history::{Sequence, Text};
 use stm_keys::Keys;
 use stm_retry::{Denied, Reply};
-
-/// What stands in a row for the middle of a key.
-const MIDDLE: &str = "\\..";
 
 /// How much of values and keys the rows of a report show.
 #[derive(Debug, Drop)]
@@ -53,9 +49,10 @@ fn is_twin(most: u32, key: &str, other: &str) -> bool
         return false;
     }
     let most = most as usize;
+    let mark = "\\..".len();
     let (key, other) = (key.as_bytes(), other.as_bytes());
     front_shown(other, most) == front_shown(key, most)
-        && back_shown(other, most, MIDDLE.len()) == back_shown(key, most, MIDDLE.len())
+        && back_shown(other, most, mark) == back_shown(key, most, mark)
 }
 
 /// Whether another one of these keys has them.
@@ -72,7 +69,7 @@ fn push_key(out: &mut Vec<u8>, cuts: &Cuts, key: &str) -> Result<(), AllocError>
 {
     let keys = cuts.keys.as_slice();
     if is_among(key, keys) && !has_twin(cuts.key, key, keys) {
-        return push_ends(out, true, MIDDLE, cuts.key as usize, key.as_bytes());
+        return push_around(out, true, "\\..", cuts.key as usize, key.as_bytes());
     }
     push_shown(out, true, key.as_bytes())
 }
@@ -105,7 +102,7 @@ fn add_reads(
     most: u32,
     reads: &[KeyRead],
 ) -> Result<(), AllocError>
-    ensures { OnOk result (keys.new.items ≡ with_keys most keys.old.items (map (λ (read : KeyRead). read.key) reads.now)) }
+    ensures { OnOk result (keys.new.items ≡ with_keys most keys.old.items (keys_read reads.now)) }
 {
     for read in reads {
         add_key(alloc, keys, most, &read.key)?;

@@ -1,6 +1,6 @@
 //! Writing a text piece by piece.
 ghost use Rattle.std.specs.Prelude.{◌≡◌, ◌++◌, ◌-◌, ◌<◌, ◌≤◌, ◌^◌, drop, get_or, decimal, replicate, length, map, take, IfOk, OnOk};
-ghost use Rattle.stm_formats.specs.FormatShown.{front, front_of, back, byte_text, coded, cut, ends, digit, from_character, hidden, hidden_from, is_unseen, is_unseen_pair, shown_after, spelled, is_continuation};
+ghost use Rattle.stm_formats.specs.FormatShown.{front, front_of, back, byte_text, around, coded, cut, digit, from_character, hidden, hidden_from, is_unseen, is_unseen_pair, shown_after, spelled, is_continuation};
 ghost use Rattle.stm_formats.specs.FormatEscaped.{entity, escaped};
 ghost use Rattle.stm_formats.specs.FormatPieces.{joined, padded, tag_text, piece_text};
 
@@ -216,8 +216,8 @@ pub(crate) fn back_shown(bytes: &[u8], most: usize, mark: usize) -> &[u8]
     back
 }
 
-/// Adds the bytes in front and at the end as they are shown, `most` with the mark between them.
-pub(crate) fn push_ends(
+/// Adds the bytes in front and at the end as they are shown, around a mark: `most` with that.
+pub(crate) fn push_around(
     out: &mut Vec<u8>,
     exact: bool,
     mark: &str,
@@ -225,7 +225,7 @@ pub(crate) fn push_ends(
     bytes: &[u8],
 ) -> Result<(), AllocError>
     requires { most < 2 ^ 33 }
-    ensures { OnOk result (out.new.items ≡ out.old.items ++ ends exact mark.now most bytes.now) }
+    ensures { OnOk result (out.new.items ≡ out.old.items ++ around exact mark.now most bytes.now) }
 {
     push_shown(out, exact, front_shown(bytes, most))?;
     out.extend_from_slice(mark.as_bytes())?;
@@ -240,7 +240,7 @@ fn push_cut(out: &mut Vec<u8>, exact: bool, most: usize, bytes: &[u8]) -> Result
     if bytes.len() <= most {
         return push_shown(out, exact, bytes);
     }
-    push_ends(out, exact, "..", most, bytes)
+    push_around(out, exact, "..", most, bytes)
 }
 
 /// Adds a number in decimal.

@@ -27,7 +27,7 @@ use Rattle.stm_formats.specs.declared.format_label.RunnerLabel.{RunnerLabel}
 use Rattle.stm_formats.specs.FormatLabels.{program_of}
 use Rattle.stm_formats.specs.declared.format_row.Lane.{Lane}
 use Rattle.stm_formats.specs.declared.format_row.Lane.TheVariants.{Store, Runner}
-use Rattle.stm_formats.specs.FormatShown.{shown, source_shown, plain, ends, key_cut, hidden, hidden_from, digit, coded, byte_text, shown_after, front, front_of, back}
+use Rattle.stm_formats.specs.FormatShown.{shown, source_shown, plain, around, key_cut, hidden, hidden_from, digit, coded, byte_text, shown_after, front, front_of, back}
 use Rattle.stm_formats.specs.FormatKeys.{key_words}
 use Rattle.stm_formats.specs.FormatPieces.{joined, padded, tag_text}
 use Rattle.stm_program_source.specs.Program.{shown_body}
@@ -94,16 +94,16 @@ after_without exact left (x ∷ xs) =
     let more : ℕ = pred (hidden_from left (x ∷ xs)) in
     has-append 10 (byte_text exact (hidden_from left (x ∷ xs)) x) (shown_after exact more xs) (next_without exact left x xs) (after_without exact more xs)
 
-ends_without : (exact : Bool) (mark : List ℕ) (most : ℕ) (text : List ℕ) → has 10 mark ≡ false → has 10 (ends exact mark most text) ≡ false
-ends_without exact mark most text none =
+around_without : (exact : Bool) (mark : List ℕ) (most : ℕ) (text : List ℕ) → has 10 mark ≡ false → has 10 (around exact mark most text) ≡ false
+around_without exact mark most text none =
     let first : List ℕ = front (front_of most) text in
     let last : List ℕ = back (most - length mark - front_of most) text in
     has-append 10 (shown_after exact 0 first ++ mark) (shown_after exact 0 last)
     (has-append 10 (shown_after exact 0 first) mark (after_without exact 0 first) none) (after_without exact 0 last)
 
-cut_by : (exact b : Bool) (most : ℕ) (text : List ℕ) → has 10 (cond b (shown_after exact 0 text) (ends exact (codes "..") most text)) ≡ false
+cut_by : (exact b : Bool) (most : ℕ) (text : List ℕ) → has 10 (cond b (shown_after exact 0 text) (around exact (codes "..") most text)) ≡ false
 cut_by exact true most text = after_without exact 0 text
-cut_by exact false most text = ends_without exact (codes "..") most text refl
+cut_by exact false most text = around_without exact (codes "..") most text refl
 
 shown_without : (most : ℕ) (text : List ℕ) → has 10 (shown most text) ≡ false
 shown_without most text = cut_by true _ most text
@@ -112,7 +112,7 @@ source_without : (most : ℕ) (text : List ℕ) → has 10 (source_shown most te
 source_without most text = cut_by false _ (most + most) text
 
 key_by : (b : Bool) (most : ℕ) (key : List ℕ) → has 10 (cond b (key_cut most key) (plain key)) ≡ false
-key_by true most key = ends_without true (codes "\\..") most key refl
+key_by true most key = around_without true (codes "\\..") most key refl
 key_by false most key = after_without true 0 key
 
 key_without : (cuts : Cuts) (key : List ℕ) → has 10 (key_words cuts key) ≡ false

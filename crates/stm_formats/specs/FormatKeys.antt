@@ -7,6 +7,7 @@ use Rattle.stm_events.specs.declared.reply.Reply.{Reply}
 use Rattle.stm_events.specs.declared.reply.Reply.TheVariants.{Prefetched, Fetched, Conflict, GaveUp}
 use Rattle.stm_events.specs.declared.reply.KeyRead.{KeyRead}
 use Rattle.stm_events.specs.declared.refusal.Denied.{Denied}
+use Rattle.stm_formats.specs.declared.format_keys.TheConstants.{MOST_KEYS}
 use Rattle.stm_formats.specs.declared.format_keys.Cuts.{Cuts}
 use Rattle.stm_formats.specs.FormatShown.{plain, key_front, key_back, key_cut}
 
@@ -27,10 +28,11 @@ has_twin most key keys = list_any (is_twin most key) keys
 abbrev pub key_words : Cuts → List ℕ → List ℕ
 key_words cuts key = if is_among key cuts.keys && not (has_twin cuts.key key cuts.keys) then key_cut cuts.key key else plain key
 
--- ---- the long keys of a report: those of more than so many bytes, each once
+-- ---- the long keys of a report: the first ones of more than so many bytes, each once
 
 abbrev pub with_key : ℕ → List (List ℕ) → List ℕ → List (List ℕ)
-with_key most keys key = if nat_le (length key) most || is_among key keys then keys else keys ++ key ∷ []
+with_key most keys key =
+    if nat_le (length key) most || nat_le MOST_KEYS (length keys) then keys else (if is_among key keys then keys else keys ++ key ∷ [])
 
 abbrev pub with_keys : ℕ → List (List ℕ) → List (List ℕ) → List (List ℕ)
 with_keys most keys [] = keys

@@ -11,6 +11,9 @@ use stm_history::{Sequence, Text};
 use stm_keys::Keys;
 use stm_retry::{Denied, Reply};
 
+/// So many keys of a report are shown without their middle at most: each one is compared with all of them.
+const MOST_KEYS: usize = 1000;
+
 /// How much of values and keys the rows of a report show.
 #[derive(Debug, Drop)]
 pub struct Cuts {
@@ -18,7 +21,7 @@ pub struct Cuts {
     pub value: u32,
     /// So many bytes of a key.
     pub key: u32,
-    /// The keys of the report that have more.
+    /// The keys of the report that have more: the first thousand.
     pub keys: Sequence<Text>,
 }
 
@@ -83,12 +86,15 @@ pub(crate) fn key_words(alloc: Global, cuts: &Cuts, key: &str) -> Result<Sequenc
     Ok(Sequence::of(words))
 }
 
-/// Adds a key to those of more than so many bytes, unless it is among them.
+/// Adds a key to those of more than so many bytes, unless it is among them, or there are enough.
 fn add_key(alloc: Global, keys: &mut Vec<Text>, most: u32, key: &Text) -> Result<(), AllocError>
     ensures { OnOk result (keys.new.items ≡ with_key most keys.old.items key.now) }
 {
     let key = key.as_str();
-    if key.len() <= most as usize || is_among(key, keys.as_slice()) {
+    if key.len() <= most as usize || keys.len() >= MOST_KEYS {
+        return Ok(());
+    }
+    if is_among(key, keys.as_slice()) {
         return Ok(());
     }
     keys.push(Text::copy_of(alloc, key)?)?;

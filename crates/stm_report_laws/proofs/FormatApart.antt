@@ -144,14 +144,16 @@ same_backs most a b same =
     sym (before_whole (key_back most a)) ∙ ap before rests ∙ before_whole (key_back most b)
 
 -- another one of these keys with the same ends
+twin_by : (is : Bool) (most : ℕ) (a b key : List ℕ) (keys : List (List ℕ)) → bytes_eq key b ≡ is → is_twin most a b ≡ true
+    → (is_among b keys ≡ true → has_twin most a keys ≡ true) → (is || is_among b keys) ≡ true → (is_twin most a key || has_twin most a keys) ≡ true
+twin_by true most a b key keys is twin later among =
+    or_left (is_twin most a key) (has_twin most a keys) (ap (is_twin most a) ((bytes_eq-Decides key b).0 is) ∙ twin)
+twin_by false most a b key keys is twin later among = or_right (is_twin most a key) (has_twin most a keys) (later among)
+
 twin_at : (most : ℕ) (a b : List ℕ) (keys : List (List ℕ)) → is_twin most a b ≡ true → is_among b keys ≡ true → has_twin most a keys ≡ true
 unfolding is_among has_twin
 twin_at most a b [] twin among = absurd (true≢false (sym among))
-twin_at most a b (key ∷ keys) twin among = twin_by (bytes_eq key b) refl among
-  where
-    twin_by : (is : Bool) → bytes_eq key b ≡ is → (is || is_among b keys) ≡ true → (is_twin most a key || has_twin most a keys) ≡ true
-    twin_by true is among = or_left (is_twin most a key) (has_twin most a keys) (ap (is_twin most a) ((bytes_eq-Decides key b).0 is) ∙ twin)
-    twin_by false is among = or_right (is_twin most a key) (has_twin most a keys) (twin_at most a b keys twin among)
+twin_at most a b (key ∷ keys) twin among = twin_by (bytes_eq key b) most a b key keys refl twin (twin_at most a b keys twin) among
 
 is_twin_of : (most : ℕ) (a b : List ℕ) → bytes_eq b a ≡ false → key_front most a ≡ key_front most b → key_back most a ≡ key_back most b → is_twin most a b ≡ true
 is_twin_of most a b other fronts backs =

@@ -3,11 +3,13 @@ use Rattle.std.proofs.Common.{◌≡◌, ℕ, suc, ◌+◌, ◌<◌, List, [], �
 use Rattle.stm_history.specs.History.{History}
 use Rattle.stm_events.specs.declared.event.WorldEvent.{WorldEvent}
 use Rattle.stm_events.specs.declared.reply.Reply.{Reply}
+use Rattle.stm_events.specs.declared.reply.KeyRead.{KeyRead}
 use Rattle.stm_events.specs.declared.refusal.Denied.{Denied}
 use Rattle.stm_reasons.specs.Counters.{counter_after}
 use Rattle.stm_formats.specs.declared.format_keys.Cuts.{Cuts}
 use Rattle.stm_formats.specs.declared.format_label.RunnerLabel.{RunnerLabel}
 use Rattle.stm_formats.specs.declared.format_row.Row.{Row}
+use Rattle.stm_formats.specs.FormatWords.{counted_read, reads_after}
 use Rattle.stm_formats.specs.FormatRows.{row_of, rows_of}
 use Rattle.stm_formats.proofs.Joining.{left_at}
 
@@ -24,4 +26,15 @@ next_row cuts labels h before out total events replies i e r within same event r
     ∙ ap (λ (n : ℕ). out ++ row_of cuts labels h before (i + 1) e r ∷ rows_of cuts labels h after n (drop (i + 1) events) (drop (i + 1) replies)) step
     ∙ ap (λ (es : List WorldEvent). out ++ rows_of cuts labels h before (i + 1) es (r ∷ drop (i + 1) replies)) (sym (left_at events i e (omega (arith, same)) event))
     ∙ ap (λ (rs : List (Result Reply Denied)). out ++ rows_of cuts labels h before (i + 1) (drop i events) rs) (sym (left_at replies i r within reply))
+    ∙ so_far
+
+-- the words of one more key of a list
+pub next_read : (cuts : Cuts) (h : History) (revision : ℕ) (out total : List ℕ) (reads : List KeyRead) (i : ℕ) (r : KeyRead) → i < length reads → r ≡ get_or reads i r
+    → out ++ reads_after cuts h revision i (drop i reads) ≡ total
+    → (out ++ counted_read cuts h revision i r) ++ reads_after cuts h revision (i + 1) (drop (i + 1) reads) ≡ total
+next_read cuts h revision out total reads i r within is so_far =
+    let step : i + 1 ≡ suc i = omega arith in
+    append_assoc out (counted_read cuts h revision i r) (reads_after cuts h revision (i + 1) (drop (i + 1) reads))
+    ∙ ap (λ (n : ℕ). out ++ (counted_read cuts h revision i r ++ reads_after cuts h revision n (drop (i + 1) reads))) step
+    ∙ ap (λ (rs : List KeyRead). out ++ reads_after cuts h revision i rs) (sym (left_at reads i r within is))
     ∙ so_far

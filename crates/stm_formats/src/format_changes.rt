@@ -61,14 +61,14 @@ fn change_words(alloc: Global, cuts: &Cuts, event: &Event) -> Result<Sequence<u8
 {
     match event {
         Event::Put { key, state } => {
-            let key = key_words(alloc, cuts, key.as_str())?;
+            let mut words = key_words(alloc, cuts, key.as_str())?.into_vec();
             let pieces = [
-                Piece::Raw(key.as_slice()),
                 Piece::Say(" = \""),
                 Piece::Shown(cuts.value, state.value.as_str()),
                 Piece::Say("\""),
             ];
-            said(alloc, &pieces)
+            push_pieces(&mut words, &pieces)?;
+            Ok(Sequence::of(words))
         }
         Event::Delete { key, .. } => {
             let key = key_words(alloc, cuts, key.as_str())?;

@@ -79,17 +79,17 @@ of_cut most key =
 
 -- ---- what stands before the middle that is left out, and after it
 
-before : List ℕ → List ℕ
+abbrev before : List ℕ → List ℕ
 before [] = []
 before (zero ∷ cs) = []
 before (suc b ∷ cs) = b ∷ before cs
 
-after : List ℕ → List ℕ
+abbrev after : List ℕ → List ℕ
 after [] = []
 after (zero ∷ cs) = cs
 after (suc b ∷ cs) = after cs
 
-is_cut : List ℕ → Bool
+abbrev is_cut : List ℕ → Bool
 is_cut [] = false
 is_cut (zero ∷ cs) = true
 is_cut (suc b ∷ cs) = is_cut cs

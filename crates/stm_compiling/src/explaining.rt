@@ -7,7 +7,7 @@ use crate::calls::{listed_behind, parameters_of, takes_list};
 use crate::elses::said_of_else;
 use crate::fault::position_in;
 use crate::habits::{
-    said_of_ending, said_of_event, said_of_lease, said_of_operation, said_of_word,
+    said_of_ending, said_of_event, said_of_lease, said_of_no_event, said_of_operation, said_of_word,
 };
 use crate::misfits::said_of_start;
 use crate::more_faults::{MOST_MORE, Rest};
@@ -16,7 +16,8 @@ use crate::other_kinds::said_of_value;
 use crate::spots::{Event, Place, Spot, name_in, spot_at};
 use crate::titles::{near_name, said_of_names};
 use crate::wanted::{
-    EVENTS, STATEMENT, Wanted, allowed, is_behind_condition_word, nearest, numbers_at, wanted_at,
+    EVENT, EVENTS, STATEMENT, Wanted, allowed, is_behind_condition_word, nearest, numbers_at,
+    wanted_at,
 };
 use serde_json::Value as Json;
 use std::alloc::{AllocError, Global};
@@ -112,9 +113,21 @@ fn said_of_sign(source: &[u8], spot: Spot<'_>) -> &'static str {
     }
     match spot.next() {
         Some(TokenKind::Symbol(Symbol::Concatenate)) => "one is added by NAME += 1",
+        Some(TokenKind::Symbol(Symbol::Comma)) if spot.place() == Place::Statements => {
+            "each variable is set by itself: NAME = VALUE, or let NAME = VALUE"
+        }
         Some(TokenKind::Wrong) => "a new variable is let NAME = VALUE",
         _ => "",
     }
+}
+
+/// Whether a name is to be given in the condition of an `if`: it stands behind the word, and a comma or `:=` behind it.
+fn is_given_in_condition(source: &[u8], spot: Spot<'_>) -> bool {
+    let Some(next) = spot.from.get(1) else {
+        return false;
+    };
+    let is_set = between(source, next.at, next.at.saturating_add(2)) == ":=";
+    spot.is_behind_word(0, Word::If) && (is_set || next.kind.is_symbol(Symbol::Comma))
 }
 
 /// Whether a symbol compares two values.
@@ -175,16 +188,14 @@ fn said_of_symbol(spot: Spot<'_>) -> &'static str {
     if spot.is_before_a_block() {
         return "";
     }
-    let said = said_behind_a_way_out(spot);
-    if !said.is_empty() {
-        return said;
-    }
     match (spot.kind(), spot.place()) {
         (_, Place::Events) => said_of_event(spot),
         (_, Place::Operations) => said_of_operation(spot),
         (Some(TokenKind::Symbol(symbol)), Place::Statements) if is_comparison(*symbol) => {
             "no value is true or false, and a comparison stands in an if"
         }
+        (Some(TokenKind::Symbol(Symbol::Comma)), Place::Statements)
+            if spot.is_behind_word(1, Word::Let) => "each variable has a let of its own",
         (Some(TokenKind::Word(Word::Get | Word::Rev)), Place::Statements) => {
             "what is looked up is given a name: let NAME = get(KEY)"
         }
@@ -239,6 +250,10 @@ fn no_such_word(
             "{found} is no statement, and stands outside of blocks alone: a }} is missing before it"
         );
     }
+    let said = said_of_no_event(spot);
+    if noun == EVENT && !said.is_empty() {
+        return format!(in alloc; "{found} is no event: {said}");
+    }
     let list = allowed(alloc, words, beside, name)?;
     format!(in alloc; "{found} is no {noun}: {list}")
 }
@@ -281,6 +296,10 @@ fn syntax_words(
             "{found} has no meaning here: a number has the digits 0 to 9 alone"
         );
     }
+    let said = said_behind_a_way_out(spot);
+    if !said.is_empty() {
+        return format!(in alloc; "{found} has no meaning here: {said}");
+    }
     let said = said_of_sign(source, spot);
     if !said.is_empty() && said_of_else(spot).is_empty() {
         return format!(in alloc; "{found} is no statement: {said}");
@@ -302,7 +321,17 @@ fn syntax_words(
 }
 
 /// What is said of a value in the place of a condition, or the reverse.
-fn sort_words(alloc: Global, found: &str, spot: Spot<'_>) -> Result<String, AllocError> {
+fn sort_words(
+    alloc: Global,
+    source: &[u8],
+    found: &str,
+    spot: Spot<'_>,
+) -> Result<String, AllocError> {
+    if is_given_in_condition(source, spot) {
+        return format!(in alloc;
+            "{found} cannot be set here: a variable is set in front of the if"
+        );
+    }
     if is_behind_condition_word(spot) {
         return format!(in alloc;
             "{found} begins a value, where a condition is wanted: two values with ==, !=, <, <=, > or >= between them"
@@ -320,6 +349,9 @@ fn said_of_name(source: &[u8], spot: Spot<'_>) -> &'static str {
     }
     if let Some(function) = behind_dot(source, spot) {
         return said_of_function(function);
+    }
+    if is_given_in_condition(source, spot) {
+        return "a new variable stands in front of the if: let NAME = VALUE";
     }
     if is_called(spot) {
         said_of_function(name)
@@ -393,6 +425,9 @@ fn token_words(
                 "{found} begins nothing: a loop is for NAME in 0..COUNT {{ .. }}, or for NAME in ITEM, ITEM {{ .. }}"
             )
         }
+        ":" if spot.is_before_a_block() => {
+            format!(in alloc; "{found} begins nothing: a block stands in braces, {{ .. }}")
+        }
         ":" => format!(in alloc; "{found} begins nothing: a new variable is let NAME = VALUE"),
         "'" | "`" => format!(in alloc; "{found} begins nothing: texts stand in double quotes"),
         "[" => format!(in alloc;
@@ -455,9 +490,9 @@ pub(crate) fn words_at(
         SourceCause::Syntax => syntax_words(alloc, source, found, spot),
         SourceCause::Return => String::from_str(
             alloc,
-            "a counted loop, for .. in 0.., has no return and no break: let found = 0 before it, and if found == 0 && .. in it",
+            "a counted loop, for .. in 0.., has no return and no break: for .. in 0, 1, 2 has both; or let found = 0 before it, and if found == 0 && .. in it",
         ),
-        SourceCause::Sort => sort_words(alloc, found, spot),
+        SourceCause::Sort => sort_words(alloc, source, found, spot),
         SourceCause::Name => name_words(alloc, source, found, spot),
         SourceCause::Range => range_words(alloc, found, spot),
         SourceCause::Key => format!(in alloc;

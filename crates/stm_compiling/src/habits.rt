@@ -19,7 +19,12 @@ pub(crate) fn said_of_word(word: &str) -> &'static str {
         "true" | "false" => "no value is true or false: a condition compares two values",
         "delete" => "a key is deleted by del(KEY)",
         "print" | "println" => "a value is put out by emit(VALUE)",
-        "panic" | "error" | "throw" => "a run is broken off by abort(TEXT)",
+        "panic" | "error" | "throw" | "raise" | "fail" | "assert" => {
+            "a run is broken off by abort(TEXT)"
+        }
+        "import" | "package" | "type" | "struct" => {
+            "a source has programs, rules and events alone"
+        }
         _ => "",
     }
 }
@@ -29,6 +34,29 @@ pub(crate) fn said_of_ending(word: &str) -> &'static str {
     match word {
         "committed" | "aborted" | "faulted" | "gaveup" | "ended" =>
             "how a runner ended is a text, in quotes",
+        _ => "",
+    }
+}
+
+/// Whether a parenthesis is opened behind a token.
+fn is_before_parenthesis(spot: Spot<'_>) -> bool {
+    match spot.next() {
+        Some(kind) => kind.is_symbol(Symbol::LeftParenthesis),
+        None => false,
+    }
+}
+
+/// What is said of a token in the place of an event that has its place in a block, or is the name of a program; nothing of others.
+pub(crate) fn said_of_no_event(spot: Spot<'_>) -> &'static str {
+    match spot.kind() {
+        Some(TokenKind::Word(Word::Put | Word::Del)) => {
+            "it stands in a program, or among the operations of txn { .. }"
+        }
+        Some(TokenKind::Word(Word::If | Word::For | Word::Emit | Word::Abort | Word::Return)) =>
+            "it stands in a program: program NAME(PARAMETER, ..) { .. }",
+        Some(TokenKind::Name(_)) if is_before_parenthesis(spot) => {
+            "a run begins by start NAME(ARGUMENT, ..)"
+        }
         _ => "",
     }
 }

@@ -2,6 +2,7 @@
 
 use crate::calls::{is_argument, is_lease, is_listed, is_parameter};
 use crate::spots::{Event, Place, Spot};
+use crate::wanted::is_behind_number_name;
 use stm_program::Operator;
 use stm_tokens::{Symbol, Token, TokenKind, Word};
 
@@ -9,13 +10,21 @@ use stm_tokens::{Symbol, Token, TokenKind, Word};
 pub(crate) fn said_of_function(name: &str) -> &'static str {
     match name {
         "atoi" | "Atoi" | "ParseInt" | "parseInt" | "int" => "the number of a text is num_of(TEXT)",
-        "itoa" | "Itoa" | "FormatInt" | "Sprint" | "Sprintf" | "str" => {
-            "the text of a number is text_of(NUMBER)"
-        }
+        "itoa" | "Itoa" | "FormatInt" | "str" => "the text of a number is text_of(NUMBER)",
+        "Sprint" | "Sprintf" => "texts are joined by ++, and text_of(NUMBER) makes one of a number",
         "Get" | "read" => "a key is looked up by get(KEY)",
         "Rev" => "the revision at which a key was put last is rev(KEY)",
         "Put" | "write" => "a key is put by put(KEY, VALUE)",
         "Del" | "Delete" => "a key is deleted by del(KEY)",
+        "WithLease" => "a lease is the last value of put(KEY, VALUE, LEASE)",
+        "exists" | "Exists" | "has" | "Has" => "a key is there where rev(KEY) != 0",
+        "min" | "max" => "an if takes one of two numbers: if NUMBER < n { n = NUMBER }",
+        "len" | "contains" | "Contains" | "split" | "Split" | "HasPrefix" | "Fields" => {
+            "no text is taken apart: each part that a program looks at has a key of its own"
+        }
+        "now" | "Now" | "time" | "rand" | "random" | "Intn" => {
+            "what differs from run to run is an argument of its start"
+        }
         "end" | "why" | "out" => "how a runner ended is asked in a finally alone",
         _ => "the functions are get(KEY), rev(KEY), num_of(TEXT) and text_of(NUMBER)",
     }
@@ -80,6 +89,9 @@ fn said_in_event(spot: Spot<'_>) -> &'static str {
     if spot.event() == Some(Event::Step) || is_awaited(spot) {
         return "is no runner above: a runner has the name that its start gives it by as NAME, or its number";
     }
+    if is_behind_number_name(spot) {
+        return "is no constant above: a number stands here, or the name of one";
+    }
     "cannot be given here: another runner has this name"
 }
 
@@ -136,7 +148,7 @@ fn is_list(spot: Spot<'_>) -> bool {
 /// What is said of a name that stands in a program, or in its head.
 fn said_in_program(spot: Spot<'_>) -> &'static str {
     if spot.is_item() && is_before_dots(spot) {
-        return "is no item, and a loop that counts begins at 0: for NAME in 0..COUNT";
+        return "is no item, and a loop that counts begins at 0: for k in 0..TO - FROM max 100 { let i = FROM + k .. }";
     }
     if spot.is_item() {
         return "is no item: those are texts and numbers as they stand, parameters, constants and lists, and no variables";

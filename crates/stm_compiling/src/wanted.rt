@@ -25,6 +25,9 @@ const OPTIONS: [&str; 16] = [
 const ORDERS: [&str; 4] = ["==", "!=", "<", ">"];
 
 /// What is wanted where one of these words may begin it.
+pub(crate) const EVENT: &str = "event";
+
+/// The same in a program.
 pub(crate) const STATEMENT: &str = "statement";
 
 const STATEMENTS: [&str; 8] = ["put", "del", "emit", "abort", "let", "if", "for", "return"];
@@ -76,11 +79,14 @@ fn behind_name(spot: Spot<'_>) -> Option<Wanted> {
     if spot.is_behind(0, "watch") {
         return Some(Wanted::Said("a key, which is a text"));
     }
+    if spot.is_behind(1, "start") {
+        return Some(Wanted::Said("the ( of its arguments, () if it has none,"));
+    }
     None
 }
 
 /// Whether what stands before a place is a name behind which a number stands.
-fn is_behind_number_name(spot: Spot<'_>) -> bool {
+pub(crate) fn is_behind_number_name(spot: Spot<'_>) -> bool {
     for name in [
         "begin", "limit", "grant", "ttl", "keep", "revoke", "to", "poll", "max", "cancel",
         "compact", "from",
@@ -135,7 +141,7 @@ fn in_event(spot: Spot<'_>) -> Wanted {
             Wanted::Words("order", &ORDERS, "")
         }
         Some(Event::Start) => Wanted::Words("event, and nothing of a start", &OPTIONS, ""),
-        _ => Wanted::Words("event", &EVENTS, ""),
+        _ => Wanted::Words(EVENT, &EVENTS, ""),
     }
 }
 
@@ -227,8 +233,11 @@ fn statement_or_more(spot: Spot<'_>) -> Wanted {
 
 /// What is wanted in a program, outside of parentheses.
 fn in_program(spot: Spot<'_>) -> Wanted {
-    if spot.is_behind_word(0, Word::Let) || spot.is_behind_word(0, Word::For) {
+    if spot.is_behind_word(0, Word::Let) {
         return Wanted::Said("a name");
+    }
+    if spot.is_behind_word(0, Word::For) {
+        return Wanted::Said("a name, as in for NAME in 0..COUNT max 100 { .. },");
     }
     if spot.is_behind_word(1, Word::Let) {
         return Wanted::Said("=");

@@ -239,7 +239,9 @@ fn refuse_waiting(
         return Ok(());
     }
     say_unasked(rt, &[], waits, search.told.runners)?;
-    let _ = rt.eprintln("stmrun: explore lets runners wait where a rule is asked");
+    let _ = rt.eprintln(
+        "stmrun: explore lets runners wait where it asks a rule, not for outcomes or --serial: take out their after",
+    );
     Err(2)
 }
 

@@ -1,5 +1,5 @@
 -- Values: the expression that tokens spell, or the first fault. A reader is given how many brackets may still be opened.
-use Rattle.std.specs.Prelude.{ℕ, zero, suc, ◌+◌, ◌^◌, pos, neg_ℤ, List, [], ◌∷◌, ◌++◌, length, Option, Some, None, Ok, Err, not, nat_eq, nat_le, nat_lt, if◌then◌else◌}
+use Rattle.std.specs.Prelude.{ℕ, zero, suc, ◌+◌, ◌-◌, ◌^◌, pos, neg_ℤ, List, [], ◌∷◌, ◌++◌, length, Option, Some, None, Ok, Err, not, nat_eq, nat_le, nat_lt, if◌then◌else◌}
 use Rattle.stm_tokens.specs.declared.token.Token.{Token}
 use Rattle.stm_tokens.specs.declared.token.TokenKind.{TokenKind}
 use Rattle.stm_tokens.specs.declared.token.TokenKind.TheVariants as kind
@@ -9,7 +9,8 @@ use Rattle.stm_tokens.specs.declared.token.Word.{Word}
 use Rattle.stm_tokens.specs.declared.token.Word.TheVariants as word
 use Rattle.stm_tokens.specs.Same.{same_symbol, same_word}
 use Rattle.stm_program.specs.declared.limits.TheConstants.{MAX_TEXT}
-use Rattle.stm_program.specs.declared.operator.Operator.TheVariants.{Add, Sub, Mul, Div, Rem}
+use Rattle.stm_program.specs.declared.operator.Operator.TheVariants.{Sub}
+use Rattle.stm_program.specs.Operators.{operator_rank}
 use Rattle.stm_program.specs.Syntax.{Expression, Text, Number, Variable, Get, Rev, Arithmetic, Cat, TextOf, NumOf}
 use Rattle.stm_terms.specs.declared.faults.SourceCause.TheVariants as cause
 use Rattle.stm_terms.specs.declared.scope.Scope.{Scope}
@@ -165,7 +166,7 @@ call_by bracketed others scope tokens rest (Some c) =
 abbrev pub signed : Bracketed → Scope → Symbol → List Token → List Token → Read Valued
 signed bracketed scope s tokens rest =
     if same_symbol s symbol.LeftParenthesis then bracketed value_kind.Either tokens
-    else (if same_symbol s symbol.Subtract then negation scope rest (next_number rest)
+    else (if same_symbol s (symbol.Arithmetic Sub) then negation scope rest (next_number rest)
     else (if same_symbol s symbol.Not then bad (place tokens) cause.Sort
     else Err (unexpected tokens)))
 
@@ -200,24 +201,11 @@ abbrev pub join_kind : Join → Kind
 join_kind (join.Arithmetic o) = value_kind.Number
 join_kind join.Concatenate = value_kind.Text
 
-abbrev pub strong_join : Symbol → Option Join
-strong_join s =
-    if same_symbol s symbol.Multiply then Some (join.Arithmetic Mul)
-    else (if same_symbol s symbol.Divide then Some (join.Arithmetic Div)
-    else (if same_symbol s symbol.Remainder then Some (join.Arithmetic Rem)
-    else None))
-
-abbrev pub sum_join : Symbol → Option Join
-sum_join s =
-    if same_symbol s symbol.Add then Some (join.Arithmetic Add)
-    else (if same_symbol s symbol.Subtract then Some (join.Arithmetic Sub)
-    else None)
-
-abbrev pub text_join : Symbol → Option Join
-text_join s = if same_symbol s symbol.Concatenate then Some join.Concatenate else None
-
+-- of a tier: an operator that binds more is of a lesser one
 abbrev pub join_of : ℕ → Symbol → Option Join
-join_of tier s = if nat_eq tier 1 then strong_join s else (if nat_eq tier 2 then sum_join s else text_join s)
+join_of tier (symbol.Arithmetic o) = if nat_eq tier (4 - operator_rank o) then Some (join.Arithmetic o) else None
+join_of tier symbol.Concatenate = if nat_eq tier 3 then Some join.Concatenate else None
+join_of tier other = None
 
 abbrev pub join_in : ℕ → TokenKind → Option Join
 join_in tier (kind.Symbol s) = join_of tier s

@@ -134,50 +134,16 @@ pub(crate) fn joined_up(
     }
 }
 
-/// The operator of a symbol among those of a tier.
+/// The operator that a symbol is, where it is of a tier: those that bind most are of tier 1.
 fn join_of(tier: usize, symbol: Symbol) -> Option<Join>
     ensures { result ≡ spec.join_of tier symbol }
 {
-    match tier {
-        1 => strong_join(symbol),
-        2 => sum_join(symbol),
-        _ => text_join(symbol),
-    }
-}
-
-fn strong_join(symbol: Symbol) -> Option<Join>
-    ensures { result ≡ spec.strong_join symbol }
-{
-    if symbol.is(Symbol::Multiply) {
-        Some(Join::Arithmetic(Operator::Mul))
-    } else if symbol.is(Symbol::Divide) {
-        Some(Join::Arithmetic(Operator::Div))
-    } else if symbol.is(Symbol::Remainder) {
-        Some(Join::Arithmetic(Operator::Rem))
-    } else {
-        None
-    }
-}
-
-fn sum_join(symbol: Symbol) -> Option<Join>
-    ensures { result ≡ spec.sum_join symbol }
-{
-    if symbol.is(Symbol::Add) {
-        Some(Join::Arithmetic(Operator::Add))
-    } else if symbol.is(Symbol::Subtract) {
-        Some(Join::Arithmetic(Operator::Sub))
-    } else {
-        None
-    }
-}
-
-fn text_join(symbol: Symbol) -> Option<Join>
-    ensures { result ≡ spec.text_join symbol }
-{
-    if symbol.is(Symbol::Concatenate) {
-        Some(Join::Concatenate)
-    } else {
-        None
+    match symbol {
+        Symbol::Arithmetic(operator) if tier == usize::from(4 - operator.rank()) => {
+            Some(Join::Arithmetic(operator))
+        }
+        Symbol::Concatenate if tier == 3 => Some(Join::Concatenate),
+        _ => None,
     }
 }
 

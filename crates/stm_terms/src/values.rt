@@ -27,7 +27,7 @@ use crate::uses::{Defined, add_argument, copied_in, is_copied, may_join, may_sta
 use std::alloc::{AllocError, Global};
 use std::sync::Arc;
 use stm_history::{Sequence, Text};
-use stm_program::{Expr, ExprNode, MAX_TEXT, Variable};
+use stm_program::{Expr, ExprNode, MAX_TEXT, Operator, Variable};
 use stm_tokens::{Symbol, Token, TokenKind, Word};
 
 fn literal<'a>(
@@ -484,7 +484,7 @@ fn signed<'a>(
 {
     if symbol.is(Symbol::LeftParenthesis) {
         bracketed(alloc, scope, levels, Kind::Either, tokens)
-    } else if symbol.is(Symbol::Subtract) {
+    } else if symbol.is(Symbol::Arithmetic(Operator::Sub)) {
         negation(alloc, scope, rest)
     } else if symbol.is(Symbol::Not) {
         Err(fault(place(tokens), SourceCause::Sort))

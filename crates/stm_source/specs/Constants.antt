@@ -18,7 +18,7 @@ use Rattle.stm_terms.specs.Cursor.{place, unexpected, after_symbol, expect_symbo
 use Rattle.stm_terms.specs.Items.{items_at}
 use Rattle.stm_terms.specs.Outcome.{Outcome, Read, bad, ◌>>=◌}
 use Rattle.stm_terms.specs.Scope.{may_give, next_of, with_name}
-use Rattle.stm_terms.specs.Uses.{else_within, has_room}
+use Rattle.stm_terms.specs.Uses.{has_room}
 use Rattle.stm_terms.specs.Values.{value_at}
 use Rattle.stm_source.specs.declared.definitions.Definitions.{Definitions}
 use Rattle.stm_source.specs.Definitions.{free_name_at, no_arguments}
@@ -77,13 +77,8 @@ alone (Text s) = Some (argument.Text s)
 alone (Number z) = Some (argument.Number z)
 alone _ = None
 
-abbrev pub if_flat : Scope → Valued → Option ℕ → Outcome Constant
-if_flat scope x (Some at) = bad at cause.Syntax
-if_flat scope x None =
-    has_room scope x >>= λ u. Ok (constant.Value (record { parameters = length scope.names; value = x }))
-
 abbrev pub value_defined : Scope → Valued → Outcome Constant
-value_defined scope x = if_flat scope x (else_within x.look_ups)
+value_defined scope x = has_room scope x >>= λ u. Ok (constant.Value (record { parameters = length scope.names; value = x }))
 
 abbrev pub alone_or : Scope → Valued → Option Argument → Outcome Constant
 alone_or scope x (Some a) = Ok (constant.Alone a)

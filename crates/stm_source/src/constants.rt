@@ -14,8 +14,8 @@ use stm_history::Sequence;
 use stm_program::{Expr, ExprNode};
 use stm_terms::{
     Argument, Constant, Constants, Defined, Kind, MOST_BRACKETS, MOST_KEPT, Scope, Shared,
-    SourceCause, SourceError, Valued, after_symbol, else_within, expect_symbol, fault, has_room,
-    list_of_items, next_name, place, unexpected, value,
+    SourceCause, SourceError, Valued, after_symbol, expect_symbol, fault, has_room, list_of_items,
+    next_name, place, unexpected, value,
 };
 use stm_tokens::{Symbol, Token};
 
@@ -118,9 +118,6 @@ fn alone(value: &Expr) -> Result<Option<Argument>, AllocError>
 fn value_defined(scope: &Scope, value: Valued) -> Result<Constant, SourceError>
     ensures { Returns (λ c. c) result (spec.value_defined scope.now value) }
 {
-    if let Some(at) = else_within(value.look_ups.as_slice()) {
-        return Err(fault(at, SourceCause::Syntax));
-    }
     has_room(scope, &value)?;
     let parameters = scope.names.len();
     Ok(Constant::Value(Defined { parameters, value }))

@@ -1,3 +1,4 @@
+mod CopyLemmas
 pub mod ConditionLemmas
 pub mod ItemLemmas
 pub mod NameLemmas

@@ -1,7 +1,8 @@
 -- Copying in what is defined outside of programs: a value whose parameters are its variables, in their order.
-use Rattle.std.specs.Prelude.{ℕ, ◌+◌, ◌-◌, List, [], ◌∷◌, ◌++◌, length, Bool, true, false, ◌&&◌, not, Option, Some, None, is_some, Ok, Err, Result, is_ok, slice_get, unwrap_or, nat_eq, nat_lt, if◌then◌else◌}
+use Rattle.std.specs.Prelude.{ℕ, zero, suc, ◌+◌, ◌-◌, List, [], ◌∷◌, ◌++◌, length, take, drop, Bool, true, false, ◌&&◌, not, Option, Some, None, is_some, Ok, Err, Result, is_ok, slice_get, unwrap_or, nat_eq, nat_lt, if◌then◌else◌}
 use Rattle.stm_tokens.specs.declared.token.Token.{Token}
 use Rattle.stm_program.specs.declared.limits.TheConstants.{MAX_NODES}
+use Rattle.stm_program.specs.Size.{expression_nodes}
 use Rattle.stm_program.specs.Syntax.{Expression, Text, Number, Variable, Get, Rev, Arithmetic, Cat, TextOf, NumOf}
 use Rattle.stm_terms.specs.declared.faults.SourceCause.{SourceCause}
 use Rattle.stm_terms.specs.declared.faults.SourceCause.TheVariants as cause
@@ -11,10 +12,9 @@ use Rattle.stm_terms.specs.declared.kinds.Valued.{Valued}
 use Rattle.stm_terms.specs.declared.look_ups.LookUp.{LookUp}
 use Rattle.stm_terms.specs.declared.look_ups.Other.{Other}
 use Rattle.stm_terms.specs.declared.scope.Scope.{Scope}
-use Rattle.stm_terms.specs.declared.uses.Copying.{Copying}
-use Rattle.stm_terms.specs.declared.limits.TheConstants.{MOST_ARGUMENTS}
+use Rattle.stm_terms.specs.declared.limits.TheConstants.{MOST_ARGUMENTS, MOST_PLANS}
 use Rattle.stm_terms.specs.Kinds.{agrees, valued}
-use Rattle.stm_terms.specs.LookUps.{other_as, look_up_as, with_look_up, first_else, has_else}
+use Rattle.stm_terms.specs.LookUps.{with_look_up, with_else, own_in, has_else}
 use Rattle.stm_terms.specs.Outcome.{Outcome, bad, ◌>>=◌}
 use Rattle.stm_terms.specs.Room.{Room, value_room, values_room}
 
@@ -42,70 +42,63 @@ abbrev pub with_argument : Option Valued → List LookUp → List LookUp
 with_argument None ls = ls
 with_argument (Some x) ls = ls ++ x.look_ups
 
--- behind these, those of a value in which no look-up has an `else`
-abbrev pub look_ups_in : ℕ → List Valued → Expression → List LookUp → List LookUp
-look_ups_in at arguments (Text t) ls = ls
-look_ups_in at arguments (Number z) ls = ls
-look_ups_in at arguments (Variable v) ls = with_argument (slice_get arguments v) ls
-look_ups_in at arguments (Get e) ls = with_look_up (look_ups_in at arguments e ls) at
-look_ups_in at arguments (Rev e) ls = with_look_up (look_ups_in at arguments e ls) at
-look_ups_in at arguments (Arithmetic o l r) ls = look_ups_in at arguments r (look_ups_in at arguments l ls)
-look_ups_in at arguments (Cat l r) ls = look_ups_in at arguments r (look_ups_in at arguments l ls)
-look_ups_in at arguments (TextOf e) ls = look_ups_in at arguments e ls
-look_ups_in at arguments (NumOf e) ls = look_ups_in at arguments e ls
+-- how the look-ups of a value are copied that has these itself
+abbrev pub Copies : Type 0
+Copies = List LookUp → Expression → List LookUp
 
--- those of a value behind an `else` that follow it: none, where none has an `else`
-abbrev pub own_look_ups : ℕ → List Valued → Expression → List LookUp
-own_look_ups at arguments e = if has_else (look_ups_in at arguments e []) then look_ups_in at arguments e [] else []
+abbrev pub text_of : Expression → List LookUp → Valued
+text_of e ls = record { expression = e; kind = kind.Text; look_ups = ls }
 
--- a look-up, and those that follow it
-abbrev pub look_up_of : ℕ → List Valued → Option Other → List LookUp
-look_up_of at arguments None = with_look_up [] at
-look_up_of at arguments (Some o) =
-    look_up_as at (Some (other_as at (placed arguments o.value) (length (own_look_ups at arguments o.value)))) ∷ own_look_ups at arguments o.value
+-- behind others a look-up, and those of the value that its `else` gives, which had these itself
+abbrev pub with_copy : Copies → ℕ → List Valued → Option Other → List LookUp → List LookUp → List LookUp
+with_copy copies at arguments None own ls = with_look_up ls at
+with_copy copies at arguments (Some o) own ls = with_else ls at at (text_of (placed arguments o.value) (copies own o.value))
 
-abbrev pub with_next : ℕ → List Valued → Option LookUp → Copying → Copying
-with_next at arguments None c = c
-with_next at arguments (Some l) c = record { done = c.done + 1; look_ups = c.look_ups ++ look_up_of at arguments l.other }
+-- look-ups, and those of the definition that were not copied yet
+abbrev pub Copied : Type 0
+Copied = List LookUp × List LookUp
 
-abbrev pub copied_argument : Option Valued → Copying → Copying
-copied_argument x c = record c { look_ups = with_argument x c.look_ups }
+-- the next one: where none is left, one that has no `else`
+abbrev pub with_next : Copies → ℕ → List Valued → List LookUp → List LookUp → Copied
+with_next copies at arguments ls [] = (with_look_up ls at, [])
+with_next copies at arguments ls (l ∷ rest) = (with_copy copies at arguments l.other (take (own_in l.other) rest) ls, drop (own_in l.other) rest)
 
-abbrev pub next_of : List LookUp → ℕ → List Valued → Copying → Copying
-next_of defined at arguments c = with_next at arguments (slice_get defined c.done) c
+abbrev pub next_of : Copies → ℕ → List Valued → Copied → Copied
+next_of copies at arguments c = with_next copies at arguments c.0 c.1
 
-abbrev pub walked : List LookUp → ℕ → List Valued → Expression → Copying → Copying
-walked defined at arguments (Text t) c = c
-walked defined at arguments (Number z) c = c
-walked defined at arguments (Variable v) c = copied_argument (slice_get arguments v) c
-walked defined at arguments (Get e) c = next_of defined at arguments (walked defined at arguments e c)
-walked defined at arguments (Rev e) c = next_of defined at arguments (walked defined at arguments e c)
-walked defined at arguments (Arithmetic o l r) c = walked defined at arguments r (walked defined at arguments l c)
-walked defined at arguments (Cat l r) c = walked defined at arguments r (walked defined at arguments l c)
-walked defined at arguments (TextOf e) c = walked defined at arguments e c
-walked defined at arguments (NumOf e) c = walked defined at arguments e c
+abbrev pub walked : Copies → ℕ → List Valued → Expression → Copied → Copied
+walked copies at arguments (Text t) c = c
+walked copies at arguments (Number z) c = c
+walked copies at arguments (Variable v) c = (with_argument (slice_get arguments v) c.0, c.1)
+walked copies at arguments (Get e) c = next_of copies at arguments (walked copies at arguments e c)
+walked copies at arguments (Rev e) c = next_of copies at arguments (walked copies at arguments e c)
+walked copies at arguments (Arithmetic o l r) c = walked copies at arguments r (walked copies at arguments l c)
+walked copies at arguments (Cat l r) c = walked copies at arguments r (walked copies at arguments l c)
+walked copies at arguments (TextOf e) c = walked copies at arguments e c
+walked copies at arguments (NumOf e) c = walked copies at arguments e c
 
-abbrev pub none_copied : Copying
-none_copied = record { done = 0; look_ups = [] }
+-- those of a value that has these itself, within so many `else`s
+unfoldable pub look_ups_in : ℕ → ℕ → List Valued → List LookUp → Expression → List LookUp
+look_ups_in zero at arguments own e = []
+look_ups_in (suc most) at arguments own e = (walked (look_ups_in most at arguments) at arguments e ([], own)).0
 
+-- within more than are planned there are too many, whatever they are
 abbrev pub look_ups_of : ℕ → List Valued → Valued → List LookUp
-look_ups_of at arguments d = (walked d.look_ups at arguments d.expression none_copied).look_ups
+look_ups_of at arguments d = look_ups_in MOST_PLANS at arguments d.look_ups d.expression
+
+-- how many nodes stand behind `else`s
+abbrev pub other_nodes : Option Other → ℕ
+other_nodes None = 0
+other_nodes (Some o) = expression_nodes o.value
+
+abbrev pub others_nodes : List LookUp → ℕ
+others_nodes [] = 0
+others_nodes (l ∷ ls) = other_nodes l.other + others_nodes ls
 
 -- ---- where a definition with an `else` may be named, by a name that begins at a byte
 
 abbrev pub may_stand : Scope → ℕ → Valued → Outcome (Unit {0})
 may_stand scope at d = if not scope.takes_else && has_else d.look_ups then bad at cause.Syntax else Ok tt
-
--- ---- an `else` of a definition behind another one of it
-
-abbrev pub has_own : Option Other → Bool
-has_own None = false
-has_own (Some o) = nat_lt 0 o.own
-
--- where the first one stands
-abbrev pub else_within : List LookUp → Option ℕ
-else_within [] = None
-else_within (l ∷ ls) = if has_own l.other then first_else ls else else_within ls
 
 -- ---- its kind, with these arguments: none, where one is of another kind than is wanted there
 

@@ -47,5 +47,5 @@ pub use stm_history::{Sequence, Text};
 pub use stm_keys::SharedText;
 pub use stm_program::{Cond, Expr, Stmt, Variable};
 pub use stm_tokens::{Symbol, Token, TokenKind, Word};
-pub use uses::{Defined, else_within, has_room};
+pub use uses::{Defined, has_room};
 pub use values::{bracketed, value, value_of};

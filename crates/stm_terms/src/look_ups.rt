@@ -360,7 +360,7 @@ fn set_behind(alloc: Global, variable: Variable, value: Fronted) -> Result<Block
 }
 
 /// How many of the look-ups behind one are those of the value behind its `else`.
-fn own_of(other: &Option<Other>) -> usize
+pub(crate) fn own_of(other: &Option<Other>) -> usize
     ensures { result ≡ spec.own_in other.now }
 {
     match other {
@@ -370,7 +370,7 @@ fn own_of(other: &Option<Other>) -> usize
 }
 
 /// So many first ones of look-ups, and the others.
-fn split_own(own: usize, rest: &[LookUp]) -> (&[LookUp], &[LookUp])
+pub(crate) fn split_own(own: usize, rest: &[LookUp]) -> (&[LookUp], &[LookUp])
     ensures own { result.0.now ≡ take own rest.now }
     ensures others { result.1.now ≡ drop own rest.now }
 {

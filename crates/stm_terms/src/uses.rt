@@ -1,16 +1,16 @@
 //! Copying in what is defined outside of programs.
-ghost use Rattle.std.specs.Prelude.{◌≡◌, ◌<◌, length, slice_get, option_copied, IfOk, IfSome, OnOk};
+ghost use Rattle.std.specs.Prelude.{◌≡◌, ◌≤◌, slice_get, option_copied, IfOk};
 ghost use Rattle.stm_terms.specs.Outcome.{Returns};
 ghost use Rattle.stm_terms.specs.Uses as spec;
+ghost use Rattle.stm_terms.specs.Uses.{others_nodes};
 
 use crate::faults::{SourceCause, SourceError, fault};
 use crate::kinds::{Kind, Valued};
-use crate::limits::MOST_ARGUMENTS;
-use crate::look_ups::{LookUp, Other, both, first_else, has_else, with_look_up};
+use crate::limits::{MOST_ARGUMENTS, MOST_PLANS};
+use crate::look_ups::{LookUp, Other, both, has_else, own_of, split_own, with_else, with_look_up};
 use crate::room::{value_room, values_room};
 use crate::scope::Scope;
 use std::alloc::{AllocError, Global};
-use std::mem;
 use std::sync::Arc;
 use stm_history::Sequence;
 use stm_program::{Expr, ExprNode, MAX_NODES, Variable};
@@ -21,17 +21,8 @@ use stm_tokens::Token;
 pub struct Defined {
     /// How many parameters it has.
     pub parameters: usize,
-    /// The value. What it looks up has no `else` within an `else`.
+    /// The value.
     pub value: Valued,
-}
-
-/// How many of the look-ups of a definition were copied, and those of the copy.
-#[derive(Drop)]
-pub(crate) struct Copying {
-    /// How many were.
-    pub done: usize,
-    /// Those of the copy so far.
-    pub look_ups: Sequence<LookUp>,
 }
 
 /// What a parameter stands for.
@@ -134,103 +125,6 @@ fn copy_of_look_ups(alloc: Global, look_ups: &[LookUp]) -> Result<Sequence<LookU
     Ok(copy)
 }
 
-/// The look-up of a definition at a place.
-fn look_up_at(defined: &[LookUp], place: usize) -> Option<&LookUp>
-    ensures is { option_copied result ≡ slice_get defined.now place }
-    ensures within { IfSome result (λ look_up. place < length defined.now) }
-{
-    if place < defined.len() {
-        Some(&defined[place])
-    } else {
-        None
-    }
-}
-
-/// The look-ups of a value in which no look-up has an `else`, with arguments in the places of its parameters, behind these. Its name begins at a byte.
-fn look_ups_in(
-    alloc: Global,
-    at: usize,
-    arguments: &[Valued],
-    value: &Expr,
-    look_ups: Sequence<LookUp>,
-) -> Result<Sequence<LookUp>, AllocError>
-    ensures { IfOk result (λ all. all ≡ spec.look_ups_in at arguments.now value.now look_ups) }
-{
-    match &value.node {
-        ExprNode::Text(_) | ExprNode::Number(_) => Ok(look_ups),
-        ExprNode::Variable(parameter) => with_argument(alloc, arguments, *parameter, look_ups),
-        ExprNode::Get(key) | ExprNode::Rev(key) => {
-            let look_ups = look_ups_in(alloc, at, arguments, key, look_ups)?;
-            with_look_up(look_ups, at)
-        }
-        ExprNode::Arithmetic(_, left, right) | ExprNode::Cat(left, right) => {
-            let look_ups = look_ups_in(alloc, at, arguments, left, look_ups)?;
-            look_ups_in(alloc, at, arguments, right, look_ups)
-        }
-        ExprNode::TextOf(part) | ExprNode::NumOf(part) => {
-            look_ups_in(alloc, at, arguments, part, look_ups)
-        }
-    }
-}
-
-/// Those of the value behind an `else` that follow it: none, where none of them has an `else`.
-fn own_look_ups(
-    alloc: Global,
-    at: usize,
-    arguments: &[Valued],
-    value: &Expr,
-) -> Result<Sequence<LookUp>, AllocError>
-    ensures { IfOk result (λ own. own ≡ spec.own_look_ups at arguments.now value.now) }
-{
-    let all = look_ups_in(alloc, at, arguments, value, Sequence::new(alloc))?;
-    if has_else(all.as_slice()) {
-        Ok(all)
-    } else {
-        Ok(Sequence::new(alloc))
-    }
-}
-
-/// A look-up where it is copied in, by a name that begins at a byte, and those of the value behind its `else`.
-fn look_up_of(
-    alloc: Global,
-    at: usize,
-    arguments: &[Valued],
-    other: &Option<Other>,
-) -> Result<Sequence<LookUp>, AllocError>
-    ensures { IfOk result (λ all. all ≡ spec.look_up_of at arguments.now other.now) }
-{
-    let Some(other) = other else {
-        return with_look_up(Sequence::new(alloc), at);
-    };
-    let following = own_look_ups(alloc, at, arguments, &other.value)?;
-    let value = placed(alloc, arguments, &other.value)?;
-    let own = following.len();
-    let other = Some(Other { at, value, own });
-    let mut all = Sequence::new(alloc);
-    all.push(LookUp { at, other })?;
-    both(all, following)
-}
-
-/// Copies the next look-up of a definition.
-fn copy_look_up(
-    alloc: Global,
-    defined: &[LookUp],
-    at: usize,
-    arguments: &[Valued],
-    copying: &mut Copying,
-) -> Result<(), AllocError>
-    ensures { OnOk result (copying.new ≡ spec.with_next at arguments.now (slice_get defined.now copying.old.done) copying.old) }
-{
-    let Some(look_up) = look_up_at(defined, copying.done) else {
-        return Ok(());
-    };
-    let more = look_up_of(alloc, at, arguments, &look_up.other)?;
-    let before = mem::replace(&mut copying.look_ups, Sequence::new(alloc));
-    copying.look_ups = both(before, more)?;
-    copying.done += 1;
-    Ok(())
-}
-
 /// Look-ups, and behind them those of what a parameter stands for.
 fn with_argument(
     alloc: Global,
@@ -249,46 +143,111 @@ fn with_argument(
     }
 }
 
-/// Copies the look-ups of what a parameter stands for.
-fn copy_argument(
+/// A look-up behind others, by a name that begins at a byte, and behind it those of the value that its `else` gives, which had these in the definition.
+#[cycle(copy)]
+fn copy_other(
     alloc: Global,
+    most: usize,
+    at: usize,
     arguments: &[Valued],
-    parameter: Variable,
-    copying: &mut Copying,
-) -> Result<(), AllocError>
-    ensures { OnOk result (copying.new ≡ spec.copied_argument (slice_get arguments.now parameter) copying.old) }
+    other: &Option<Other>,
+    own: &[LookUp],
+    look_ups: Sequence<LookUp>,
+) -> Result<Sequence<LookUp>, AllocError>
+    ensures { IfOk result (λ all. all ≡ spec.with_copy (spec.look_ups_in most at arguments.now) at arguments.now other.now own.now look_ups) }
 {
-    let before = mem::replace(&mut copying.look_ups, Sequence::new(alloc));
-    copying.look_ups = with_argument(alloc, arguments, parameter, before)?;
-    Ok(())
+    let Some(other) = other else {
+        return with_look_up(look_ups, at);
+    };
+    let more = look_ups_in(alloc, most, at, arguments, own, &other.value)?;
+    let expression = placed(alloc, arguments, &other.value)?;
+    let value = Valued {
+        expression,
+        kind: Kind::Text,
+        look_ups: more,
+    };
+    with_else(alloc, look_ups, at, at, value)
 }
 
-/// Copies the look-ups of a value, in the order in which they are evaluated: those of a definition stand where its name does.
-fn copy_look_ups(
+/// Copies the next look-up of a definition behind these: where none is left, one that has no `else`.
+#[cycle(copy)]
+fn copy_look_up<'a>(
     alloc: Global,
-    defined: &[LookUp],
+    most: usize,
+    at: usize,
+    arguments: &[Valued],
+    look_ups: Sequence<LookUp>,
+    own: &'a [LookUp],
+) -> Result<(Sequence<LookUp>, &'a [LookUp]), AllocError>
+    ensures is { IfOk result (λ x. (x.0, x.1.now) ≡ spec.with_next (spec.look_ups_in most at arguments.now) at arguments.now look_ups own.now) }
+    ensures less { IfOk result (λ x. others_nodes x.1.now ≤ others_nodes own.now) }
+{
+    match own {
+        [] => {
+            let all = with_look_up(look_ups, at)?;
+            Ok((all, own))
+        }
+        [first, rest @ ..] => {
+            let (own, others) = split_own(own_of(&first.other), rest);
+            let all = copy_other(alloc, most, at, arguments, &first.other, own, look_ups)?;
+            Ok((all, others))
+        }
+    }
+}
+
+/// Copies the look-ups of a value behind these, in the order in which they are evaluated: those of a definition stand where its name does.
+#[cycle(copy)]
+fn copy_look_ups<'a>(
+    alloc: Global,
+    most: usize,
     at: usize,
     arguments: &[Valued],
     value: &Expr,
-    copying: &mut Copying,
-) -> Result<(), AllocError>
-    ensures { OnOk result (copying.new ≡ spec.walked defined.now at arguments.now value.now copying.old) }
+    look_ups: Sequence<LookUp>,
+    own: &'a [LookUp],
+) -> Result<(Sequence<LookUp>, &'a [LookUp]), AllocError>
+    ensures is { IfOk result (λ x. (x.0, x.1.now) ≡ spec.walked (spec.look_ups_in most at arguments.now) at arguments.now value.now (look_ups, own.now)) }
+    ensures less { IfOk result (λ x. others_nodes x.1.now ≤ others_nodes own.now) }
 {
     match &value.node {
-        ExprNode::Text(_) | ExprNode::Number(_) => Ok(()),
-        ExprNode::Variable(parameter) => copy_argument(alloc, arguments, *parameter, copying),
+        ExprNode::Text(_) | ExprNode::Number(_) => Ok((look_ups, own)),
+        ExprNode::Variable(parameter) => {
+            let all = with_argument(alloc, arguments, *parameter, look_ups)?;
+            Ok((all, own))
+        }
         ExprNode::Get(key) | ExprNode::Rev(key) => {
-            copy_look_ups(alloc, defined, at, arguments, key, copying)?;
-            copy_look_up(alloc, defined, at, arguments, copying)
+            let (all, rest) = copy_look_ups(alloc, most, at, arguments, key, look_ups, own)?;
+            copy_look_up(alloc, most, at, arguments, all, rest)
         }
         ExprNode::Arithmetic(_, left, right) | ExprNode::Cat(left, right) => {
-            copy_look_ups(alloc, defined, at, arguments, left, copying)?;
-            copy_look_ups(alloc, defined, at, arguments, right, copying)
+            let (all, rest) = copy_look_ups(alloc, most, at, arguments, left, look_ups, own)?;
+            copy_look_ups(alloc, most, at, arguments, right, all, rest)
         }
         ExprNode::TextOf(part) | ExprNode::NumOf(part) => {
-            copy_look_ups(alloc, defined, at, arguments, part, copying)
+            copy_look_ups(alloc, most, at, arguments, part, look_ups, own)
         }
     }
+}
+
+/// The look-ups of a value with arguments in the places of its parameters, by a name that begins at a byte, where it has these itself: those within so many
+/// `else`s.
+#[cycle(copy)]
+fn look_ups_in(
+    alloc: Global,
+    most: usize,
+    at: usize,
+    arguments: &[Valued],
+    own: &[LookUp],
+    value: &Expr,
+) -> Result<Sequence<LookUp>, AllocError>
+    ensures { IfOk result (λ ls. ls ≡ spec.look_ups_in most at arguments.now own.now value.now) }
+{
+    let none = Sequence::new(alloc);
+    if most == 0 {
+        return Ok(none);
+    }
+    let (all, _) = copy_look_ups(alloc, most - 1, at, arguments, value, none, own)?;
+    Ok(all)
 }
 
 /// The look-ups of a definition that is copied in.
@@ -300,27 +259,11 @@ fn look_ups_of(
 ) -> Result<Sequence<LookUp>, AllocError>
     ensures { IfOk result (λ ls. ls ≡ spec.look_ups_of at arguments.now defined.now) }
 {
-    let mut copying = Copying {
-        done: 0,
-        look_ups: Sequence::new(alloc),
-    };
     let own = defined.look_ups.as_slice();
-    copy_look_ups(alloc, own, at, arguments, &defined.expression, &mut copying)?;
-    let Copying { look_ups, .. } = copying;
-    Ok(look_ups)
+    look_ups_in(alloc, MOST_PLANS, at, arguments, own, &defined.expression)
 }
 
 // ---- what may not be copied in
-
-/// Whether the value behind an `else` has look-ups of its own.
-fn has_own(other: &Option<Other>) -> bool
-    ensures { result ≡ spec.has_own other.now }
-{
-    match other {
-        Some(other) => other.own > 0,
-        None => false,
-    }
-}
 
 /// What comes of something that wants a value of a kind: none, where it is of the other one.
 fn of_kind(wanted: Kind, gives: Kind, found: Option<Kind>) -> Option<Kind>
@@ -478,19 +421,6 @@ pub(crate) fn add_argument(
 }
 
 // ---- a use
-
-/// Where the first `else` within an `else` of look-ups stands.
-pub fn else_within(look_ups: &[LookUp]) -> Option<usize>
-    ensures { result ≡ spec.else_within look_ups.now }
-{
-    for (index, look_up) in look_ups.iter().enumerate() {
-        if has_own(&look_up.other) {
-            let (_, behind) = look_ups.split_at(index + 1);
-            return first_else(behind);
-        }
-    }
-    None
-}
 
 /// A value, where a program may have so many nodes.
 fn within(scope: &Scope, value: Valued) -> Result<Valued, SourceError>

@@ -35,8 +35,10 @@ impl Lookup for KeysNow<'_> {
     }
 }
 
-/// The run of a program alone on these keys.
-pub(crate) fn run_on(alloc: Global, program: &Program, keys: &Keys) -> Result<Run, AllocError>
+/// The run of a program alone on the keys of a store as they are now. It looks up those that it reads, and no others.
+///
+/// Out of memory is its only refusal.
+pub fn run_now(alloc: Global, program: &Program, keys: &Keys) -> Result<Run, AllocError>
     ensures { IfOk result (λ run. run_over (state_now keys.now.history) program.now.statements ≡ Ended run) }
 {
     match run_answered(alloc, program, &KeysNow { keys })? {

@@ -22,7 +22,7 @@ mod store_calls;
 mod watch_calls;
 mod world;
 
-pub use alone::KeysNow;
+pub use alone::{KeysNow, run_now};
 pub use shared_world::SharedWorld;
 pub use stm_entries::Entry;
 pub use stm_events::{

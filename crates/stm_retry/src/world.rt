@@ -31,7 +31,7 @@ ghost use Rattle.stm_retry.specs.Kept.{whole_store};
 ghost use Rattle.stm_retry.specs.WorldOf.{with_places};
 
 use crate::alike::{are_slots_alike, hint_of};
-use crate::alone::run_on;
+use crate::alone::run_now;
 use crate::kept_world::{KeptWorld, copy_runners};
 use crate::opened::Opened;
 use crate::slots::{Slot, is_running};
@@ -333,7 +333,7 @@ impl World {
     pub fn run_alone(&self, program: &Program) -> Result<Run, AllocError>
         ensures { IfOk result (λ run. run_over (state_now self.now.standing.history) program.now.statements ≡ Ended run) }
     {
-        run_on(self.alloc, program, self.store().keys())
+        run_now(self.alloc, program, self.store().keys())
     }
 }
 

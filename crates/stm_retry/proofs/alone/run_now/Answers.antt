@@ -2,7 +2,7 @@ use Rattle.std.proofs.Common.{◌≡◌, refl, sym, ◌∙◌}
 use Rattle.stm_steps.specs.declared.run.Answered.TheVariants.{Ended, Wants}
 use Rattle.stm_meaning.proofs.RunLaws.{whole_lookups_end}
 use Rattle.stm_compile.specs.Answers.{state_now}
-use Rattle.stm_retry.proofs.alone.run_on.Goals as goal
+use Rattle.stm_retry.proofs.alone.run_now.Goals as goal
 
 -- a store's keys are all known
 pub unreachable-requires : goal.unreachable-requires

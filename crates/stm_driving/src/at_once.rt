@@ -2,7 +2,7 @@
 ghost use Rattle.std.specs.Prelude.{◌≡◌, All, IfOk, OnErr, OnOk};
 ghost use Rattle.stm_driving.specs.AtOnce.{HasRunAtOnce, IsCommittedAtOnce, IsReadNow};
 
-use std::alloc::{AllocError, Global};
+use std::alloc::Global;
 use stm_attempt::{ReadSet, WriteBuffer, compile};
 use stm_history::Text;
 use stm_journal::read;

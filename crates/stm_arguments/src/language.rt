@@ -103,4 +103,4 @@ Rules, of a search
                                       aborted, faulted, gaveup or ended, or
                                       \"\" where it has not
     why(RUNNER)                       its text or cause                     abort(why(left))
-    out(RUNNER, 0)                    its first output as a text            if out(left, 0) == out(right, 0) { .. }";
+    out(RUNNER, NUMBER)               its outputs as texts, from 0 on       if out(left, 0) == out(right, 0) { .. }";

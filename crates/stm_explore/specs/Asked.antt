@@ -44,22 +44,32 @@ abbrev pub value_text : Value → List ℕ
 value_text (Text text) = text
 value_text (Number z) = signed_decimal z
 
-abbrev pub first_text : List Value → List ℕ
-first_text [] = []
-first_text (v ∷ values) = value_text v
-
--- what it emitted first
-abbrev pub first_output : Option RunnerEnd → List ℕ
-first_output (Some (Committed output)) = first_text output
-first_output other = []
+-- what it emitted
+abbrev pub outputs_of : Option RunnerEnd → List Value
+outputs_of (Some (Committed output)) = output
+outputs_of other = []
 
 -- ---- the keys that are laid over a state
+
+-- that of an output of the runner with this number, by its place
+abbrev pub output_key : ℕ → ℕ → List ℕ
+output_key n place = codes "#out/" ++ decimal n ++ codes "/" ++ decimal place
+
+-- the outputs of the runner with this number, of which the first has this place
+abbrev pub outputs_from : ℕ → ℕ → List Value → List KeyValue
+outputs_from n place [] = []
+outputs_from n place (v ∷ values) = record { key = output_key n place; value = value_text v } ∷ outputs_from n (suc place) values
+
+-- where it has none, the first is empty
+abbrev pub laid_outputs : ℕ → List Value → List KeyValue
+laid_outputs n [] = record { key = output_key n 0; value = [] } ∷ []
+laid_outputs n (v ∷ values) = outputs_from n 0 (v ∷ values)
 
 -- of the runner with this number
 abbrev pub laid_of : ℕ → Option RunnerEnd → List KeyValue
 laid_of n end =
     record { key = codes "#end/" ++ decimal n; value = end_word end } ∷ record { key = codes "#why/" ++ decimal n; value = end_reason end }
-    ∷ record { key = codes "#out/" ++ decimal n ++ codes "/0"; value = first_output end } ∷ []
+    ∷ laid_outputs n (outputs_of end)
 
 -- of runners from this number on
 abbrev pub laid_from : ℕ → Ends → List KeyValue

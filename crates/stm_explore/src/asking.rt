@@ -1,9 +1,9 @@
 //! When a rule is asked, and what it sees there of the ends of runners.
-ghost use Rattle.std.specs.Prelude.{◌≡◌, ◌++◌, [], Some, option_copied, IfOk, OnOk, bytes_eq};
+ghost use Rattle.std.specs.Prelude.{◌≡◌, ◌++◌, [], ◌∷◌, Some, option_copied, IfOk, OnOk, bytes_eq, string_bytes};
 ghost use Rattle.std.specs.List.{find};
 ghost use Rattle.stm_schedules.specs.declared.outcome.KeyValue.{KeyValue as KeyValueOf};
 ghost use Rattle.stm_explore.specs.declared.asking.When.TheVariants.{Each, Last};
-ghost use Rattle.stm_explore.specs.Asked.{end_word, end_reason, value_text, first_text, first_output, laid_of, laid, end_for, asks};
+ghost use Rattle.stm_explore.specs.Asked.{end_word, end_reason, value_text, outputs_of, output_key, outputs_from, laid_outputs, laid_of, laid, end_for, asks};
 
 use crate::judging::is_kept;
 use crate::keeping::end_alone;
@@ -20,7 +20,8 @@ pub enum When {
     /// At each place.
     Each,
     /// Only where no schedule goes on. There its program sees how the runs ended, as keys that are laid over the state: `#end/N` is `committed`, `aborted`,
-    /// `faulted`, `gaveup` or `ended`, `#why/N` its text or cause, and `#out/N/0` what it emitted first, as a text. N is the number of the runner.
+    /// `faulted`, `gaveup` or `ended`, `#why/N` its text or cause, and `#out/N/0`, `#out/N/1` and so on what it emitted, as texts. N is the number of the
+    /// runner.
     Last,
 }
 
@@ -64,23 +65,80 @@ fn value_text(alloc: Global, value: &Value) -> Result<Text, AllocError>
     }
 }
 
-/// The first of these values as a text.
-fn first_text(alloc: Global, values: &[Value]) -> Result<Text, AllocError>
-    ensures { IfOk result (λ text. text ≡ first_text values.now) }
+/// What a run emitted.
+fn outputs_of(end: &Option<RunnerEnd>) -> &[Value]
+    ensures { result.now ≡ outputs_of end.now }
 {
-    match values {
-        [] => Text::copy_of(alloc, ""),
-        [first, ..] => value_text(alloc, first),
+    match end {
+        Some(RunnerEnd::Committed { output }) => output.as_slice(),
+        _ => &[],
     }
 }
 
-/// What a run emitted first, as a text.
-fn first_output(alloc: Global, end: &Option<RunnerEnd>) -> Result<Text, AllocError>
-    ensures { IfOk result (λ text. text ≡ first_output end.now) }
+/// Adds a key that is laid over a state.
+fn push_key(laid: &mut Vec<KeyValue>, key: String, value: Text) -> Result<(), AllocError>
+    ensures { OnOk result (laid.new.items ≡ laid.old.items ++ record { key = string_bytes key; value = value } ∷ []) }
 {
-    match end {
-        Some(RunnerEnd::Committed { output }) => first_text(alloc, output.as_slice()),
-        _ => Text::copy_of(alloc, ""),
+    laid.push(KeyValue {
+        key: Text::new(key),
+        value,
+    })?;
+    Ok(())
+}
+
+/// The key of the output that the runner with this number has at a place.
+fn output_key(alloc: Global, number: u64, place: usize) -> Result<String, AllocError>
+    ensures { IfOk result (λ key. string_bytes key ≡ output_key number place) }
+{
+    format!(in alloc; "#out/{number}/{place}")
+}
+
+/// Adds the output that the runner with this number has at a place.
+fn push_output(
+    alloc: Global,
+    laid: &mut Vec<KeyValue>,
+    number: u64,
+    place: usize,
+    output: &Value,
+) -> Result<(), AllocError>
+    ensures { OnOk result (laid.new.items ≡ laid.old.items ++ record { key = output_key number place; value = value_text output.now } ∷ []) }
+{
+    let key = output_key(alloc, number, place)?;
+    let value = value_text(alloc, output)?;
+    push_key(laid, key, value)
+}
+
+/// Adds the outputs of the runner with this number.
+fn push_outputs(
+    alloc: Global,
+    laid: &mut Vec<KeyValue>,
+    number: u64,
+    outputs: &[Value],
+) -> Result<(), AllocError>
+    ensures { OnOk result (laid.new.items ≡ laid.old.items ++ outputs_from number 0 outputs.now) }
+{
+    for place in 0..outputs.len() {
+        push_output(alloc, laid, number, place, &outputs[place])?;
+    }
+    Ok(())
+}
+
+/// Adds the outputs of the runner with this number, of which the first is empty where it has none.
+fn push_laid_outputs(
+    alloc: Global,
+    laid: &mut Vec<KeyValue>,
+    number: u64,
+    outputs: &[Value],
+) -> Result<(), AllocError>
+    ensures { OnOk result (laid.new.items ≡ laid.old.items ++ laid_outputs number outputs.now) }
+{
+    match outputs {
+        [] => {
+            let key = output_key(alloc, number, 0)?;
+            let value = Text::copy_of(alloc, "")?;
+            push_key(laid, key, value)
+        }
+        [_, ..] => push_outputs(alloc, laid, number, outputs),
     }
 }
 
@@ -95,23 +153,11 @@ fn push_laid(
 {
     let word = Text::copy_of(alloc, end_word(end))?;
     let reason = Text::copy_of(alloc, end_reason(end))?;
-    let output = first_output(alloc, end)?;
     let ends = format!(in alloc; "#end/{number}")?;
     let reasons = format!(in alloc; "#why/{number}")?;
-    let outputs = format!(in alloc; "#out/{number}/0")?;
-    laid.push(KeyValue {
-        key: Text::new(ends),
-        value: word,
-    })?;
-    laid.push(KeyValue {
-        key: Text::new(reasons),
-        value: reason,
-    })?;
-    laid.push(KeyValue {
-        key: Text::new(outputs),
-        value: output,
-    })?;
-    Ok(())
+    push_key(laid, ends, word)?;
+    push_key(laid, reasons, reason)?;
+    push_laid_outputs(alloc, laid, number, outputs_of(end))
 }
 
 /// The keys that `When::Last` lays over a state, where this is known of the ends of runners. It fails only when out of memory.

@@ -22,8 +22,8 @@ use stm_devices::Source;
 use stm_explain::Input;
 use stm_file_disk::{FileDisk, open};
 use stm_storing::{
-    HIGHEST_REVISION, InputFault, JobsAsked, Manner, Program, RecordFile, Scenario, StoreFault,
-    Text, Watched, check_kept, read_input, read_jobs, read_program, run_anew, run_kept,
+    HIGHEST_REVISION, InputFault, JobEnd, JobsAsked, Manner, Program, RecordFile, Scenario,
+    StoreFault, Text, Watched, check_kept, read_input, read_jobs, read_program, run_anew, run_kept,
     script_kept, show_at, show_kept, show_since, threads_kept,
 };
 use stm_threading::report_ends;

@@ -18,6 +18,7 @@ _stmrun() {
         "explore --budget") words="" ;;
         "explore --after") words="" ;;
         "explore --format") words="lines text" ;;
+        "explore --width") words="" ;;
         "run --store") compopt -o default; return ;;
         "run --level") words="SerializableSnapshot Serializable RepeatableReads ReadCommitted" ;;
         "run --attempts") words="" ;;
@@ -32,12 +33,12 @@ _stmrun() {
             check) case "$word" in -*) ;; *) compopt -o default; return ;; esac; words="--whole --explain --explain=never --help" ;;
             threads) case "$word" in -*) ;; *) compopt -o default; return ;; esac; words="--workers --store --ends --repeat --explain --explain=never --help" ;;
             recipe) words="transfer deposit enqueue dequeue reserve_slot release_slot --help" ;;
-            explore) case "$word" in -*) ;; *) compopt -o default; return ;; esac; words="--keeps --level --budget --after --witness --serial --strict --format --explain --explain=never --help" ;;
+            explore) case "$word" in -*) ;; *) compopt -o default; return ;; esac; words="--keeps --level --budget --after --witness --serial --strict --format --width --explain --explain=never --help" ;;
             audit) case "$word" in -*) ;; *) compopt -o default; return ;; esac; words="--help" ;;
             show) case "$word" in -*) ;; *) compopt -o default; return ;; esac; words="--program --help" ;;
             compile) case "$word" in -*) ;; *) compopt -o default; return ;; esac; words="--explain --explain=never --help" ;;
             run) case "$word" in -*) ;; *) compopt -o default; return ;; esac; words="--store --level --attempts --explain --explain=never --help" ;;
-            store) case "$word" in -*) ;; *) compopt -o default; return ;; esac; words="--check --format --at --since --key --range --help" ;;
+            store) case "$word" in -*) ;; *) compopt -o default; return ;; esac; words="--format --check --compact --at --since --key --range --help" ;;
             help) words="script check threads recipe explore audit show compile run store language stm source formats causes" ;;
             esac ;;
         esac

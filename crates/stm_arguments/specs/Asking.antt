@@ -18,7 +18,7 @@ use Rattle.stm_arguments.specs.declared.scripting.ScriptWords.{ScriptWords}
 use Rattle.stm_arguments.specs.declared.showing.ShowWords.{ShowWords}
 use Rattle.stm_arguments.specs.declared.storing.StoreWords.{StoreWords}
 use Rattle.stm_arguments.specs.declared.storing.Shown.{Shown}
-use Rattle.stm_arguments.specs.declared.storing.Shown.TheVariants.{Now, At, Since, Whole}
+use Rattle.stm_arguments.specs.declared.storing.Shown.TheVariants.{Compacted, Now, At, Since, Whole}
 use Rattle.stm_arguments.specs.declared.storing.Which.{Which}
 use Rattle.stm_arguments.specs.declared.storing.Which.TheVariants.{All, Key, Range}
 use Rattle.stm_arguments.specs.declared.threading.ThreadsWords.{ThreadsWords}
@@ -67,7 +67,8 @@ IsExplore rows words =
     HasWord rows (codes "SCENARIO") (Some words.scenario) × (map (λ w. w.now) words.keeps.items ≡ words_at (codes "keeps") rows)
     × LevelsAt (first_of (codes "level") rows) words.levels × BudgetAt (first_of (codes "budget") rows) words.budget
     × HasWord rows (codes "after") words.after × HasFlag rows (codes "witness") words.witness × HasFlag rows (codes "serial") words.serial
-    × HasFlag rows (codes "strict") words.strict × HasWord rows (codes "format") words.format × HasFlag rows (codes "explain") words.explain
+    × HasFlag rows (codes "strict") words.strict × HasWord rows (codes "format") words.format × WidthAt (first_of (codes "width") rows) words.width
+    × HasFlag rows (codes "explain") words.explain
 
 abbrev pub IsAudit : List Row → AuditWords → Type 0
 IsAudit rows words = HasWord rows (codes "FILE") words.trace
@@ -101,12 +102,16 @@ IsWhich rows All = (first_of (codes "key") rows ≡ None) × (range_in (words_at
 -- whether the file is whole, else the keys at a revision, else the events since one, else what there is now
 abbrev pub IsShown : List Row → Shown → Type 0
 IsShown rows Whole = is_set (first_of (codes "check") rows) ≡ true
-IsShown rows (At revision) = (is_set (first_of (codes "check") rows) ≡ false) × HasWord rows (codes "at") (Some revision)
+IsShown rows (Compacted from) =
+    (is_set (first_of (codes "check") rows) ≡ false) × (is_set (first_of (codes "compact") rows) ≡ true) × HasWord rows (codes "since") from
+IsShown rows (At revision) =
+    (is_set (first_of (codes "check") rows) ≡ false) × (is_set (first_of (codes "compact") rows) ≡ false) × HasWord rows (codes "at") (Some revision)
 IsShown rows (Since revision which) =
-    (is_set (first_of (codes "check") rows) ≡ false) × (first_of (codes "at") rows ≡ None) × HasWord rows (codes "since") (Some revision)
-    × IsWhich rows which
+    (is_set (first_of (codes "check") rows) ≡ false) × (is_set (first_of (codes "compact") rows) ≡ false) × (first_of (codes "at") rows ≡ None)
+    × HasWord rows (codes "since") (Some revision) × IsWhich rows which
 IsShown rows Now =
-    (is_set (first_of (codes "check") rows) ≡ false) × (first_of (codes "at") rows ≡ None) × (first_of (codes "since") rows ≡ None)
+    (is_set (first_of (codes "check") rows) ≡ false) × (is_set (first_of (codes "compact") rows) ≡ false) × (first_of (codes "at") rows ≡ None)
+    × (first_of (codes "since") rows ≡ None)
 
 abbrev pub IsStore : List Row → StoreWords → Type 0
 IsStore rows words =

@@ -4,16 +4,16 @@ ghost use Rattle.clap.specs.Words.{found_of, kind_of, rows_of, subcommand_rows_o
 ghost use Rattle.stm_arguments.specs.Asking.{AsksAt, AsksBy, IsAsked};
 ghost use Rattle.stm_arguments.specs.Statuses.{IsReportedBy};
 
-use crate::auditing::{AuditWords, audit_command, audit_of};
-use crate::checking::{CheckWords, check_command, check_of};
-use crate::compiling::{CompileWords, compile_command, compile_of};
-use crate::exploring::{ExploreWords, explore_command, explore_of};
-use crate::recipes::{recipe_command, recipe_of};
-use crate::running::{RunWords, run_command, run_of};
-use crate::scripting::{ScriptWords, script_command, script_of};
-use crate::showing::{ShowWords, show_command, show_of};
-use crate::storing::{StoreWords, store_command, store_of};
-use crate::threading::{ThreadsWords, threads_command, threads_of};
+use crate::auditing::{AuditWords, audit_of, with_audit};
+use crate::checking::{CheckWords, check_of, with_check};
+use crate::compiling::{CompileWords, compile_of, with_compile};
+use crate::exploring::{ExploreWords, explore_of, with_explore};
+use crate::recipes::{recipe_of, with_recipe};
+use crate::running::{RunWords, run_of, with_run};
+use crate::scripting::{ScriptWords, script_of, with_script};
+use crate::showing::{ShowWords, show_of, with_show};
+use crate::storing::{StoreWords, store_of, with_store};
+use crate::threading::{ThreadsWords, threads_of, with_threads};
 use crate::words::Unasked;
 use clap::error::ErrorKind;
 use clap::{ArgMatches, Command, Error};
@@ -95,33 +95,19 @@ fn bare_command<'a>(alloc: Global) -> Command<'a> {
         .subcommand_required(true)
 }
 
-/// The commands that need no store. Each is added before the next one is made, so that two are never held at once.
-fn with_scenarios<'a>(alloc: Global) -> Result<Command<'a>, AllocError> {
-    let script = script_command(alloc)?;
-    let with_script = bare_command(alloc).subcommand(script)?;
-    let check = check_command(alloc)?;
-    let with_check = with_script.subcommand(check)?;
-    let threads = threads_command(alloc)?;
-    let with_threads = with_check.subcommand(threads)?;
-    let recipe = recipe_command(alloc)?;
-    let with_recipe = with_threads.subcommand(recipe)?;
-    let explore = explore_command(alloc)?;
-    with_recipe.subcommand(explore)
-}
-
-/// The command. As in `with_scenarios` each is added before the next one is made.
+/// The command, with its subcommands in the order of the help.
 fn command<'a>(alloc: Global) -> Result<Command<'a>, AllocError> {
-    let with_explore = with_scenarios(alloc)?;
-    let audit = audit_command(alloc)?;
-    let with_audit = with_explore.subcommand(audit)?;
-    let show = show_command(alloc)?;
-    let with_show = with_audit.subcommand(show)?;
-    let compile = compile_command(alloc)?;
-    let with_compile = with_show.subcommand(compile)?;
-    let run = run_command(alloc)?;
-    let with_run = with_compile.subcommand(run)?;
-    let store = store_command(alloc)?;
-    with_run.subcommand(store)
+    let mut command = bare_command(alloc);
+    command = with_script(alloc, command)?;
+    command = with_check(alloc, command)?;
+    command = with_threads(alloc, command)?;
+    command = with_recipe(alloc, command)?;
+    command = with_explore(alloc, command)?;
+    command = with_audit(alloc, command)?;
+    command = with_show(alloc, command)?;
+    command = with_compile(alloc, command)?;
+    command = with_run(alloc, command)?;
+    with_store(alloc, command)
 }
 
 /// The status of a command line that is refused, or that asks for help or the version, once its text is printed: 0 for help and

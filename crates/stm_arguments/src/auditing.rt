@@ -3,7 +3,8 @@ ghost use Rattle.std.specs.Prelude.{◌≡◌};
 ghost use Rattle.clap.specs.Words.{found_of, rows_of};
 ghost use Rattle.stm_arguments.specs.Asking.{IsAudit};
 
-use crate::words::{optional, word_of};
+use crate::tables::{Form, Table, with_command};
+use crate::words::word_of;
 use clap::{ArgMatches, Command};
 use std::alloc::{AllocError, Global};
 
@@ -46,17 +47,24 @@ pub struct AuditWords<'a> {
 }
 
 /// The command `audit`.
-pub(crate) fn audit_command<'a>(alloc: Global) -> Result<Command<'a>, AllocError> {
-    Command::new(alloc, "audit")
-        .about(
-            "Says of transactions that committed elsewhere whether each kept its level's promise",
-        )
-        .after_long_help(EXAMPLE)
-        .arg(optional(
-            alloc,
-            "FILE",
-            "The file of the trace, in the place of standard input",
-        ))
+const AUDIT: Table = Table {
+    name: "audit",
+    about: "Says of transactions that committed elsewhere whether each kept its level's promise",
+    example: EXAMPLE,
+    arguments: &[(
+        "FILE",
+        Form::Optional,
+        "The file of the trace, in the place of standard input",
+    )],
+    rules: &[],
+};
+
+/// A command with `audit`.
+pub(crate) fn with_audit<'a>(
+    alloc: Global,
+    command: Command<'a>,
+) -> Result<Command<'a>, AllocError> {
+    with_command(alloc, command, &AUDIT)
 }
 
 /// The words of `audit` that were found.

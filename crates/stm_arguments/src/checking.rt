@@ -3,7 +3,8 @@ ghost use Rattle.std.specs.Prelude.{◌≡◌, IfOk};
 ghost use Rattle.clap.specs.Words.{found_of, rows_of};
 ghost use Rattle.stm_arguments.specs.Asking.{IsCheck};
 
-use crate::words::{Unasked, explain, flag, flag_of, required, required_word};
+use crate::tables::{EXPLAIN, Form, Table, with_command};
+use crate::words::{Unasked, flag_of, required_word};
 use clap::{ArgMatches, Command};
 use std::alloc::{AllocError, Global};
 
@@ -42,18 +43,29 @@ pub struct CheckWords<'a> {
 }
 
 /// The command `check`.
-pub(crate) fn check_command<'a>(alloc: Global) -> Result<Command<'a>, AllocError> {
-    Command::new(alloc, "check")
-        .about("Says whether REPORT is a report of SCENARIO, and if not, which line is wrong first")
-        .after_long_help(EXAMPLE)
-        .arg(required(alloc, "SCENARIO", "The file of the scenario"))?
-        .arg(required(alloc, "REPORT", "The file of the report"))?
-        .arg(flag(
-            alloc,
+const CHECK: Table = Table {
+    name: "check",
+    about: "Says whether REPORT is a report of SCENARIO, and if not, which line is wrong first",
+    example: EXAMPLE,
+    arguments: &[
+        ("SCENARIO", Form::Required, "The file of the scenario"),
+        ("REPORT", Form::Required, "The file of the report"),
+        (
             "whole",
+            Form::Flag,
             "Whether REPORT is, line by line, what script prints for SCENARIO",
-        ))?
-        .arg(explain(alloc))
+        ),
+        EXPLAIN,
+    ],
+    rules: &[],
+};
+
+/// A command with `check`.
+pub(crate) fn with_check<'a>(
+    alloc: Global,
+    command: Command<'a>,
+) -> Result<Command<'a>, AllocError> {
+    with_command(alloc, command, &CHECK)
 }
 
 /// The words of `check` that were found.

@@ -3,7 +3,8 @@ ghost use Rattle.std.specs.Prelude.{◌≡◌, map, string_bytes};
 ghost use Rattle.clap.specs.Words.{found_of, rows_of};
 ghost use Rattle.stm_arguments.specs.Asking.{IsCompile};
 
-use crate::words::{explain, flag_of, optional, word_of};
+use crate::tables::{EXPLAIN, Form, Table, with_command};
+use crate::words::{flag_of, word_of};
 use clap::{ArgMatches, Command};
 use std::alloc::{AllocError, Global};
 
@@ -34,7 +35,7 @@ then stmrun compile s.stm claim job/1 ada 7 prints
 
   [[\"if\",[\"eq\",[\"get\",\"job/1\"],\"\"],[[\"put\",\"job/1\",\"ada\",7]],[]]]
 
-It is what start claim(\"job/1\", \"ada\", 7) starts, as one more line of s.stm: there a fault of an argument stands.
+It is what start claim(\"job/1\", \"ada\", 7) starts, as one more line of s.stm.
 
 Of a bad source it says where its first fault stands, by line and column, and why:
 
@@ -58,21 +59,32 @@ pub struct CompileWords<'a> {
 }
 
 /// The command `compile`.
-pub(crate) fn compile_command<'a>(alloc: Global) -> Result<Command<'a>, AllocError> {
-    Command::new(alloc, "compile")
-        .about("Prints the scenario of a source as JSON, or one of its programs")
-        .after_long_help(EXAMPLE)
-        .arg(optional(
-            alloc,
+const COMPILE: Table = Table {
+    name: "compile",
+    about: "Prints the scenario of a source as JSON, or one of its programs",
+    example: EXAMPLE,
+    arguments: &[
+        (
             "FILE",
+            Form::Optional,
             "The file of the source, in the place of standard input",
-        ))?
-        .arg(optional(
-            alloc,
+        ),
+        (
             "NAME",
+            Form::Optional,
             "A program of the source, which is printed in place of the scenario; what stands behind it are its arguments",
-        ))?
-        .arg(explain(alloc))
+        ),
+        EXPLAIN,
+    ],
+    rules: &[],
+};
+
+/// A command with `compile`.
+pub(crate) fn with_compile<'a>(
+    alloc: Global,
+    command: Command<'a>,
+) -> Result<Command<'a>, AllocError> {
+    with_command(alloc, command, &COMPILE)
 }
 
 /// The words of `compile` that were found, and the arguments that stand behind them.

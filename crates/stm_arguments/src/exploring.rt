@@ -4,12 +4,11 @@ ghost use Rattle.clap.specs.Words.{found_of, rows_of};
 ghost use Rattle.stm_arguments.specs.Asking.{IsExplore};
 
 use crate::levels::{Levels, SEARCH_LEVELS, levels_at};
-use crate::numbers::budget_at;
-use crate::words::{
-    Unasked, explain, flag, flag_of, option, required, required_word, word_of, words_of,
-};
+use crate::numbers::{LEAST_WIDTH, MOST_WIDTH, budget_at, width_at};
+use crate::tables::{EXPLAIN, Form, Table, with_command};
+use crate::words::{Unasked, flag_of, required_word, word_of, words_of};
 use clap::builder::ValueParser;
-use clap::{ArgAction, ArgMatches, Command};
+use clap::{ArgMatches, Command};
 use std::alloc::{AllocError, Global};
 
 const EXAMPLE: &str =
@@ -74,8 +73,8 @@ With --level all there is a line for each level, the weakest first, without the 
 --witness and --serial a source's rules are not asked.
 
 Where SCENARIO is a source, a source stands in the place of each scenario that is printed. With --format text a table does, as
-script --format text prints it, and the lines are words; with --level all and a rule, a last one is the table of the weakest level
-at which a rule is broken.
+script --format text prints it, by --width N for a terminal of N characters, and the lines are words; with --level all and a rule, a
+last one is the table of the weakest level at which a rule is broken.
 
 Statuses: 0 always, serial, or all outcomes were found, 1 broken or an anomaly, 2 bad input or usage, 3 out of memory or a
 failed device, 4 open.";
@@ -104,70 +103,75 @@ pub struct ExploreWords<'a> {
     pub strict: bool,
     /// The name of the form of what is printed: lines, where there is none.
     pub format: Option<&'a str>,
+    /// How many characters wide a table is, from `LEAST_WIDTH` to `MOST_WIDTH`, where that is said.
+    pub width: Option<u32>,
     /// Whether a fault is explained.
     pub explain: bool,
 }
 
 /// The command `explore`.
-pub(crate) fn explore_command<'a>(alloc: Global) -> Result<Command<'a>, AllocError> {
-    Command::new(alloc, "explore")
-        .about(
-            "Looks through every interleaving of a scenario, for one that breaks a rule or for what they come to",
-        )
-        .after_long_help(EXAMPLE)
-        .arg(required(alloc, "SCENARIO", "The file of the scenario"))?
-        .arg(option(
-            alloc,
+const EXPLORE: Table = Table {
+    name: "explore",
+    about: "Looks through every interleaving of a scenario, for one that breaks a rule or for what they come to",
+    example: EXAMPLE,
+    arguments: &[
+        ("SCENARIO", Form::Required, "The file of the scenario"),
+        (
             "keeps",
-            "PROGRAM",
-            ValueParser::String,
+            Form::Values("PROGRAM"),
             "The file of a rule, which is asked after every schedule: of a program, of a source with rules, or FILE.stm:NAME; as often as need be",
-        )
-        .action(ArgAction::Append))?
-        .arg(option(
-            alloc,
+        ),
+        (
             "level",
-            "LEVEL",
-            ValueParser::Names(SEARCH_LEVELS),
+            Form::Value("LEVEL", ValueParser::Names(SEARCH_LEVELS)),
             "The level of every start, in the place of its own; all: a search at each of the four",
-        ))?
-        .arg(option(
-            alloc,
+        ),
+        (
             "budget",
-            "N",
-            ValueParser::Unsigned(0, u64::MAX),
+            Form::Value("N", ValueParser::Unsigned(0, u64::MAX)),
             "How many events are taken at most, 1500000 if not said",
-        ))?
-        .arg(option(
-            alloc,
+        ),
+        (
             "after",
-            "RUNNER:FIRST,..",
-            ValueParser::String,
+            Form::Value("RUNNER:FIRST,..", ValueParser::String),
             "Which runners make no step before another has ended; RUNNER:FIRST:committed: and none at all unless that one committed",
-        ))?
-        .arg(flag(
-            alloc,
+        ),
+        (
             "witness",
+            Form::Flag,
             "Prints the outcomes of whole schedules, and of each the scenario with a schedule that comes to it",
-        ))?
-        .arg(flag(
-            alloc,
+        ),
+        (
             "serial",
+            Form::Flag,
             "Looks for an outcome of a whole schedule that no serial order of the runners comes to; no rule is needed",
-        ))?
-        .arg(flag(
-            alloc,
+        ),
+        (
             "strict",
+            Form::Flag,
             "Status 1 also where a rule is kept, and a runner never committed or a key is asked for that nothing puts",
-        ))?
-        .arg(option(
-            alloc,
+        ),
+        (
             "format",
-            "FORMAT",
-            ValueParser::Names(FORMATS),
+            Form::Value("FORMAT", ValueParser::Names(FORMATS)),
             "The form of what is printed: lines (the default), for programs, or text, for people: words, and schedules as tables",
-        ))?
-        .arg(explain(alloc))
+        ),
+        (
+            "width",
+            Form::Value("N", ValueParser::Unsigned(LEAST_WIDTH, MOST_WIDTH)),
+            "How many characters wide a table is, from 20 to 1000",
+        ),
+        EXPLAIN,
+    ],
+    rules: &[],
+};
+
+/// A command with `explore`.
+pub(crate) fn with_explore<'a>(
+    alloc: Global,
+    command: Command<'a>,
+) -> Result<Command<'a>, AllocError> {
+    with_command(alloc, command, &EXPLORE)
 }
 
 /// The words of `explore` that were found.
@@ -185,6 +189,7 @@ pub(crate) fn explore_of<'a>(
     let serial = flag_of(found, "serial");
     let strict = flag_of(found, "strict");
     let format = word_of(found, "format");
+    let width = width_at(word_of(found, "width"))?;
     let explain = flag_of(found, "explain");
     let keeps = words_of(alloc, found, "keeps")?;
     Ok(ExploreWords {
@@ -197,6 +202,7 @@ pub(crate) fn explore_of<'a>(
         serial,
         strict,
         format,
+        width,
         explain,
     })
 }

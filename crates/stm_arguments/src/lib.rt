@@ -17,6 +17,7 @@ mod running;
 mod scripting;
 mod showing;
 mod storing;
+mod tables;
 mod threading;
 mod topics;
 mod words;

@@ -3,7 +3,8 @@ ghost use Rattle.std.specs.Prelude.{◌≡◌, IfOk};
 ghost use Rattle.clap.specs.Words.{found_of, rows_of};
 ghost use Rattle.stm_arguments.specs.Asking.{IsRecipe};
 
-use crate::words::{Unasked, optional, required, required_word, word_of};
+use crate::tables::{Form, Table, with_command};
+use crate::words::{Unasked, required_word, word_of};
 use clap::{ArgMatches, Command};
 use std::alloc::{AllocError, Global};
 use stm_recipe_lines::RecipeWords;
@@ -39,14 +40,25 @@ prints the program of this scenario, which makes account a and puts 30 there:
 Statuses: 0 done, 2 usage, 3 out of memory or a failed device.";
 
 /// The command `recipe`.
-pub(crate) fn recipe_command<'a>(alloc: Global) -> Result<Command<'a>, AllocError> {
-    Command::new(alloc, "recipe")
-        .about("Prints the program of a recipe, as a scenario's start takes it")
-        .after_long_help(RECIPE_EXAMPLE)
-        .arg(required(alloc, "NAME", "The name of the recipe"))?
-        .arg(optional(alloc, "FIRST", "Its first argument"))?
-        .arg(optional(alloc, "SECOND", "Its second argument"))?
-        .arg(optional(alloc, "THIRD", "Its third argument"))
+const RECIPE: Table = Table {
+    name: "recipe",
+    about: "Prints the program of a recipe, as a scenario's start takes it",
+    example: RECIPE_EXAMPLE,
+    arguments: &[
+        ("NAME", Form::Required, "The name of the recipe"),
+        ("FIRST", Form::Optional, "Its first argument"),
+        ("SECOND", Form::Optional, "Its second argument"),
+        ("THIRD", Form::Optional, "Its third argument"),
+    ],
+    rules: &[],
+};
+
+/// A command with `recipe`.
+pub(crate) fn with_recipe<'a>(
+    alloc: Global,
+    command: Command<'a>,
+) -> Result<Command<'a>, AllocError> {
+    with_command(alloc, command, &RECIPE)
 }
 
 /// The words of `recipe` that were found.

@@ -5,7 +5,8 @@ ghost use Rattle.stm_arguments.specs.Asking.{IsRun};
 
 use crate::levels::{LEVELS, level_at};
 use crate::numbers::{MOST_ATTEMPTS, attempts_at};
-use crate::words::{Unasked, explain, flag_of, option, optional, required_word, word_of};
+use crate::tables::{EXPLAIN, Form, Table, with_command};
+use crate::words::{Unasked, flag_of, required_word, word_of};
 use clap::builder::ValueParser;
 use clap::{ArgMatches, Command};
 use std::alloc::{AllocError, Global};
@@ -42,50 +43,45 @@ pub struct RunWords<'a> {
     pub explain: bool,
 }
 
-/// The options of the command `run` about how the program is run.
-fn with_manner<'a>(alloc: Global, command: Command<'a>) -> Result<Command<'a>, AllocError> {
-    command
-        .arg(option(
-            alloc,
-            "level",
-            "LEVEL",
-            ValueParser::Names(LEVELS),
-            "Its level, SerializableSnapshot if not said",
-        ))?
-        .arg(option(
-            alloc,
-            "attempts",
-            "N",
-            ValueParser::Unsigned(1, MOST_ATTEMPTS),
-            "How many commits it may send, 1 if not said",
-        ))?
-        .arg(explain(alloc))
-}
-
 /// The command `run`.
-pub(crate) fn run_command<'a>(alloc: Global) -> Result<Command<'a>, AllocError> {
-    let store = option(
-        alloc,
-        "store",
-        "STORE",
-        ValueParser::String,
-        "The file of the store, which is made where it is missing",
-    );
-    let command = Command::new(alloc, "run")
-        .about("Runs a program over a store that is kept in a file")
-        .after_long_help(EXAMPLE)
-        .arg(optional(
-            alloc,
+const RUN: Table = Table {
+    name: "run",
+    about: "Runs a program over a store that is kept in a file",
+    example: EXAMPLE,
+    arguments: &[
+        (
             "FILE",
+            Form::Optional,
             "The file of the program, or of a source that has it, in the place of standard input",
-        ))?
-        .arg(optional(
-            alloc,
+        ),
+        (
             "NAME",
+            Form::Optional,
             "A program of the source; what stands behind it are its arguments",
-        ))?
-        .arg(store.required(true))?;
-    with_manner(alloc, command)
+        ),
+        (
+            "store",
+            Form::RequiredValue("STORE", ValueParser::String),
+            "The file of the store, which is made where it is missing",
+        ),
+        (
+            "level",
+            Form::Value("LEVEL", ValueParser::Names(LEVELS)),
+            "Its level, SerializableSnapshot if not said",
+        ),
+        (
+            "attempts",
+            Form::Value("N", ValueParser::Unsigned(1, MOST_ATTEMPTS)),
+            "How many commits it may send, 1 if not said",
+        ),
+        EXPLAIN,
+    ],
+    rules: &[],
+};
+
+/// A command with `run`.
+pub(crate) fn with_run<'a>(alloc: Global, command: Command<'a>) -> Result<Command<'a>, AllocError> {
+    with_command(alloc, command, &RUN)
 }
 
 /// The words of `run` that were found, and the arguments that stand behind them.

@@ -4,7 +4,8 @@ ghost use Rattle.clap.specs.Words.{found_of, rows_of};
 ghost use Rattle.stm_arguments.specs.Asking.{IsScript};
 
 use crate::numbers::{LEAST_WIDTH, MOST_WIDTH, width_at};
-use crate::words::{Unasked, explain, flag_of, option, optional, word_of};
+use crate::tables::{EXPLAIN, Form, Table, with_command};
+use crate::words::{Unasked, flag_of, word_of};
 use clap::builder::ValueParser;
 use clap::{ArgMatches, Command};
 use std::alloc::{AllocError, Global};
@@ -67,37 +68,42 @@ pub struct ScriptWords<'a> {
 }
 
 /// The command `script`.
-pub(crate) fn script_command<'a>(alloc: Global) -> Result<Command<'a>, AllocError> {
-    Command::new(alloc, "script")
-        .about("Runs a scenario, and prints its report")
-        .after_long_help(EXAMPLE)
-        .arg(optional(
-            alloc,
+const SCRIPT: Table = Table {
+    name: "script",
+    about: "Runs a scenario, and prints its report",
+    example: EXAMPLE,
+    arguments: &[
+        (
             "FILE",
+            Form::Optional,
             "The file of the scenario, in the place of standard input",
-        ))?
-        .arg(option(
-            alloc,
+        ),
+        (
             "store",
-            "STORE",
-            ValueParser::String,
+            Form::Value("STORE", ValueParser::String),
             "The file of a store that the scenario goes on from, which is made where it is missing",
-        ))?
-        .arg(option(
-            alloc,
+        ),
+        (
             "format",
-            "FORMAT",
-            ValueParser::String,
+            Form::Value("FORMAT", ValueParser::String),
             "The form of the report: lines (the default), json, text, svg or html",
-        ))?
-        .arg(option(
-            alloc,
+        ),
+        (
             "width",
-            "N",
-            ValueParser::Unsigned(LEAST_WIDTH, MOST_WIDTH),
+            Form::Value("N", ValueParser::Unsigned(LEAST_WIDTH, MOST_WIDTH)),
             "How many characters wide a report of text is, from 20 to 1000",
-        ))?
-        .arg(explain(alloc))
+        ),
+        EXPLAIN,
+    ],
+    rules: &[],
+};
+
+/// A command with `script`.
+pub(crate) fn with_script<'a>(
+    alloc: Global,
+    command: Command<'a>,
+) -> Result<Command<'a>, AllocError> {
+    with_command(alloc, command, &SCRIPT)
 }
 
 /// The words of `script` that were found.

@@ -3,7 +3,8 @@ ghost use Rattle.std.specs.Prelude.{◌≡◌};
 ghost use Rattle.clap.specs.Words.{found_of, rows_of};
 ghost use Rattle.stm_arguments.specs.Asking.{IsShow};
 
-use crate::words::{flag, flag_of, optional, word_of};
+use crate::tables::{Form, Table, with_command};
+use crate::words::{flag_of, word_of};
 use clap::{ArgMatches, Command};
 use std::alloc::{AllocError, Global};
 
@@ -36,20 +37,31 @@ pub struct ShowWords<'a> {
 }
 
 /// The command `show`.
-pub(crate) fn show_command<'a>(alloc: Global) -> Result<Command<'a>, AllocError> {
-    Command::new(alloc, "show")
-        .about("Prints a scenario, or a program, as a source")
-        .after_long_help(EXAMPLE)
-        .arg(optional(
-            alloc,
+const SHOW: Table = Table {
+    name: "show",
+    about: "Prints a scenario, or a program, as a source",
+    example: EXAMPLE,
+    arguments: &[
+        (
             "FILE",
+            Form::Optional,
             "The file of the scenario or of the program, in the place of standard input",
-        ))?
-        .arg(flag(
-            alloc,
+        ),
+        (
             "program",
+            Form::Flag,
             "Whether the input is a program, and no scenario",
-        ))
+        ),
+    ],
+    rules: &[],
+};
+
+/// A command with `show`.
+pub(crate) fn with_show<'a>(
+    alloc: Global,
+    command: Command<'a>,
+) -> Result<Command<'a>, AllocError> {
+    with_command(alloc, command, &SHOW)
 }
 
 /// The words of `show` that were found.

@@ -3,7 +3,8 @@ ghost use Rattle.std.specs.Prelude.{◌≡◌, codes, IfOk, map, option_map};
 ghost use Rattle.clap.specs.Words.{found_of, rows_of};
 ghost use Rattle.stm_arguments.specs.Asking.{IsStore, IsShown, IsWhich, range_in, words_at};
 
-use crate::words::{Unasked, flag, flag_of, option, required, required_word, word_of};
+use crate::tables::{Beside, Form, Table, with_command};
+use crate::words::{Unasked, flag_of, required_word, word_of};
 use clap::builder::ValueParser;
 use clap::{ArgMatches, Command};
 use std::alloc::{AllocError, Global};
@@ -16,6 +17,9 @@ With --at its keys as they were at a revision are printed, and with --since what
 before END, by bytes, with --range. A revision that was compacted, or is yet to come, is refused with status 2.
 With --check the file is read whole: yes RECORDS BYTES says that it is as it was written, and no OFFSET Damaged or
 no OFFSET NoScenario that the record at that byte is not. Nothing behind such a record is served, and nothing is changed.
+With --compact the file is written anew, as one record without what is below the store's revision, or that of --since, and
+yes RECORDS BYTES says how long it is then: revisions, versions and leases stay as they were. Where a runner runs,
+or a watcher is open, it is refused with status 2.
 
 A store is kept in a file by stmrun script --store FILE, which makes it where it is missing:
 
@@ -56,6 +60,8 @@ pub enum Shown<'a> {
     Since(&'a str, Which<'a>),
     /// Whether its file is whole.
     Whole,
+    /// How many records its file has once what is below the revision of this word, or else the store's, is dropped.
+    Compacted(Option<&'a str>),
 }
 
 /// Of which keys the events are printed.
@@ -69,67 +75,66 @@ pub enum Which<'a> {
     Range(&'a str, &'a str),
 }
 
-/// The options about what is past.
-fn with_past<'a>(alloc: Global, command: Command<'a>) -> Result<Command<'a>, AllocError> {
-    let at = option(
-        alloc,
-        "at",
-        "REVISION",
-        ValueParser::String,
-        "The keys at this revision",
-    );
-    let since = option(
-        alloc,
-        "since",
-        "REVISION",
-        ValueParser::String,
-        "The events from this revision on",
-    );
-    let key = option(
-        alloc,
-        "key",
-        "KEY",
-        ValueParser::String,
-        "Only the events of this key",
-    );
-    let range = option(
-        alloc,
-        "range",
-        "FIRST",
-        ValueParser::String,
-        "Only the events of the keys from FIRST to before END",
-    );
-    let range = range.value_names(RANGE);
-    command
-        .arg(at.conflicts_with("since")?)?
-        .arg(since)?
-        .arg(key.requires_arg("since")?)?
-        .arg(range.requires_arg("since")?.conflicts_with("key")?)
-}
-
 /// The command `store`.
-pub(crate) fn store_command<'a>(alloc: Global) -> Result<Command<'a>, AllocError> {
-    let check = flag(alloc, "check", "Whether the file is whole")
-        .conflicts_with("at")?
-        .conflicts_with("since")?;
-    let format = option(
-        alloc,
-        "format",
-        "FORMAT",
-        ValueParser::String,
-        "lines (the default), json or text",
-    );
-    let format = format
-        .conflicts_with("at")?
-        .conflicts_with("since")?
-        .conflicts_with("check")?;
-    let command = Command::new(alloc, "store")
-        .about("Prints what a store that is kept in a file has")
-        .after_long_help(EXAMPLE)
-        .arg(required(alloc, "FILE", "The file of the store"))?
-        .arg(format)?
-        .arg(check)?;
-    with_past(alloc, command)
+const STORE: Table = Table {
+    name: "store",
+    about: "Prints what a store that is kept in a file has",
+    example: EXAMPLE,
+    arguments: &[
+        ("FILE", Form::Required, "The file of the store"),
+        (
+            "format",
+            Form::Value("FORMAT", ValueParser::String),
+            "lines (the default), json or text",
+        ),
+        ("check", Form::Flag, "Whether the file is whole"),
+        (
+            "compact",
+            Form::Flag,
+            "Drop what is below the present revision, or that of --since",
+        ),
+        (
+            "at",
+            Form::Value("REVISION", ValueParser::String),
+            "The keys at this revision",
+        ),
+        (
+            "since",
+            Form::Value("REVISION", ValueParser::String),
+            "The events from this revision on",
+        ),
+        (
+            "key",
+            Form::Value("KEY", ValueParser::String),
+            "Only the events of this key",
+        ),
+        (
+            "range",
+            Form::Texts(RANGE),
+            "Only the events of the keys from FIRST to before END",
+        ),
+    ],
+    rules: &[
+        (
+            "format",
+            Beside::Without,
+            &["at", "since", "check", "compact"],
+        ),
+        ("check", Beside::Without, &["at", "since"]),
+        ("compact", Beside::Without, &["at", "check"]),
+        ("at", Beside::Without, &["since"]),
+        ("key", Beside::With, &["since"]),
+        ("range", Beside::With, &["since"]),
+        ("range", Beside::Without, &["key"]),
+    ],
+};
+
+/// A command with `store`.
+pub(crate) fn with_store<'a>(
+    alloc: Global,
+    command: Command<'a>,
+) -> Result<Command<'a>, AllocError> {
+    with_command(alloc, command, &STORE)
 }
 
 /// The two keys of a range, where there are two words.
@@ -173,6 +178,9 @@ fn shown_of<'a>(found: &ArgMatches<'a>) -> Shown<'a>
 {
     if flag_of(found, "check") {
         return Shown::Whole;
+    }
+    if flag_of(found, "compact") {
+        return Shown::Compacted(word_of(found, "since"));
     }
     if let Some(revision) = word_of(found, "at") {
         return Shown::At(revision);

@@ -4,7 +4,8 @@ ghost use Rattle.clap.specs.Words.{found_of, rows_of};
 ghost use Rattle.stm_arguments.specs.Asking.{IsThreads};
 
 use crate::numbers::{MOST_RUNS, MOST_WORKERS, runs_at, workers_in};
-use crate::words::{Unasked, explain, flag, flag_of, option, optional, required_word, word_of};
+use crate::tables::{EXPLAIN, Form, Table, with_command};
+use crate::words::{Unasked, flag_of, required_word, word_of};
 use clap::builder::ValueParser;
 use clap::{ArgMatches, Command};
 use std::alloc::{AllocError, Global};
@@ -63,43 +64,47 @@ pub struct ThreadsWords<'a> {
 }
 
 /// The command `threads`.
-pub(crate) fn threads_command<'a>(alloc: Global) -> Result<Command<'a>, AllocError> {
-    Command::new(alloc, "threads")
-        .about("Runs the starts of a scenario as jobs, by several threads on one store")
-        .after_long_help(EXAMPLE)
-        .arg(optional(
-            alloc,
+const THREADS: Table = Table {
+    name: "threads",
+    about: "Runs the starts of a scenario as jobs, by several threads on one store",
+    example: EXAMPLE,
+    arguments: &[
+        (
             "FILE",
+            Form::Optional,
             "The file of the scenario, in the place of standard input",
-        ))?
-        .arg(option(
-            alloc,
+        ),
+        (
             "workers",
-            "N",
-            ValueParser::Unsigned(1, MOST_WORKERS as u64),
+            Form::RequiredValue("N", ValueParser::Unsigned(1, MOST_WORKERS as u64)),
             "How many threads run the jobs, from 1 to 16",
-        )
-        .required(true))?
-        .arg(option(
-            alloc,
+        ),
+        (
             "store",
-            "STORE",
-            ValueParser::String,
+            Form::Value("STORE", ValueParser::String),
             "The file of a store that the jobs go on from, which is made where it is missing",
-        ))?
-        .arg(flag(
-            alloc,
+        ),
+        (
             "ends",
+            Form::Flag,
             "Whether the end of each job is printed, and how often commits failed over each key",
-        ))?
-        .arg(option(
-            alloc,
+        ),
+        (
             "repeat",
-            "RUNS",
-            ValueParser::Unsigned(1, MOST_RUNS),
+            Form::Value("RUNS", ValueParser::Unsigned(1, MOST_RUNS)),
             "How many runs are made, from 1 to 1000000, of which is printed what they come to, and how often",
-        ))?
-        .arg(explain(alloc))
+        ),
+        EXPLAIN,
+    ],
+    rules: &[],
+};
+
+/// A command with `threads`.
+pub(crate) fn with_threads<'a>(
+    alloc: Global,
+    command: Command<'a>,
+) -> Result<Command<'a>, AllocError> {
+    with_command(alloc, command, &THREADS)
 }
 
 /// The words of `threads` that were found.

@@ -1,53 +1,10 @@
-//! The arguments of commands, and what `clap` has found in their places.
+//! What `clap` has found in the places of arguments.
 ghost use Rattle.std.specs.Prelude.{◌≡◌, IfOk, IfErr, None, map, option_map};
 ghost use Rattle.clap.specs.Words.{first_of, found_of, rows_of};
 ghost use Rattle.stm_arguments.specs.Asking.{is_set, words_at};
 
-use clap::builder::ValueParser;
-use clap::{Arg, ArgAction, ArgMatches};
+use clap::ArgMatches;
 use std::alloc::{AllocError, Global};
-
-/// An argument that has to be there, by its place.
-pub(crate) fn required<'a>(alloc: Global, name: &'a str, help: &'a str) -> Arg<'a> {
-    Arg::new(alloc, name).required(true).help(help)
-}
-
-/// An argument that may be there, by its place.
-pub(crate) fn optional<'a>(alloc: Global, name: &'a str, help: &'a str) -> Arg<'a> {
-    Arg::new(alloc, name).help(help)
-}
-
-/// A flag, which is set where it stands in the command line.
-pub(crate) fn flag<'a>(alloc: Global, name: &'a str, help: &'a str) -> Arg<'a> {
-    Arg::new(alloc, name)
-        .long(name)
-        .action(ArgAction::SetTrue)
-        .help(help)
-}
-
-/// An option with a value that may be there.
-pub(crate) fn option<'a>(
-    alloc: Global,
-    name: &'a str,
-    value: &'a str,
-    parser: ValueParser<'a>,
-    help: &'a str,
-) -> Arg<'a> {
-    Arg::new(alloc, name)
-        .long(name)
-        .value_name(value)
-        .value_parser(parser)
-        .help(help)
-}
-
-/// Whether a fault is explained.
-pub(crate) fn explain<'a>(alloc: Global) -> Arg<'a> {
-    flag(
-        alloc,
-        "explain",
-        "Explains faults, of an input or of a run: where each stands and what was found there; where standard error is a terminal this is the default, which --explain=never ends",
-    )
-}
 
 /// Why nothing is asked for by what was found.
 #[derive(Clone, Copy)]

@@ -131,6 +131,28 @@ pub(crate) fn takes_list(tokens: &[Token], name: &str) -> bool {
     false
 }
 
+/// Whether a place is in the parentheses of what a final asks of a runner.
+pub(crate) fn is_asked(spot: Spot<'_>) -> bool {
+    match spot.call() {
+        Some(call) => {
+            call.word.is_named("end") || call.word.is_named("why") || call.word.is_named("out")
+        }
+        None => false,
+    }
+}
+
+/// What is wanted behind a runner of whom a final asks something.
+pub(crate) fn behind_asked(spot: Spot<'_>) -> &'static str {
+    match spot.call() {
+        Some(call) if call.word.is_named("out") && call.values == 0 => {
+            "a comma and the place of an output, from 0 on, out(RUNNER, PLACE),"
+        }
+        Some(call) if call.word.is_named("out") => "the ) of out(RUNNER, PLACE)",
+        Some(call) if call.word.is_named("why") => "the ) of why(RUNNER)",
+        _ => "the ) of end(RUNNER)",
+    }
+}
+
 /// What is wanted in a place where a value of a call begins.
 pub(crate) fn value_in(spot: Spot<'_>) -> &'static str {
     match word_of(spot.call()) {

@@ -6,12 +6,15 @@ ghost use Rattle.stm_compiling.specs.Faults.{IsExplanation, place_of};
 use crate::calls::{listed_behind, parameters_of, takes_list};
 use crate::elses::said_of_else;
 use crate::fault::position_in;
+use crate::habits::{
+    said_of_ending, said_of_event, said_of_lease, said_of_operation, said_of_word,
+};
 use crate::misfits::said_of_start;
 use crate::more_faults::{MOST_MORE, Rest};
 use crate::naming::{is_called, said_of_function, said_of_place};
 use crate::other_kinds::said_of_value;
-use crate::spots::{Event, Place, Spot, spot_at};
-use crate::titles::said_of_names;
+use crate::spots::{Event, Place, Spot, name_in, spot_at};
+use crate::titles::{near_name, said_of_names};
 use crate::wanted::{
     EVENTS, STATEMENT, Wanted, allowed, is_behind_condition_word, nearest, numbers_at, wanted_at,
 };
@@ -77,31 +80,6 @@ fn found_at(alloc: Global, source: &[u8], spot: Spot<'_>, at: usize) -> Result<S
             format!(in alloc; "the text {text}")
         }
         Some(_) => quoted(alloc, word_from(source, spot, at)),
-    }
-}
-
-/// What is said of words that have no place in a source, which people know from elsewhere; nothing of others.
-fn said_of_word(word: &str) -> &'static str {
-    match word {
-        "var" | "const" => "a new variable is let NAME = VALUE",
-        "func" | "fn" | "def" => "a program is program NAME(PARAMETER, ..) { .. }",
-        "switch" | "case" | "match" => "choices are if, else if and else",
-        "while" | "loop" | "range" =>
-            "a loop is for NAME in 0..COUNT { .. }, or for NAME in ITEM, ITEM { .. }",
-        "nil" | "null" | "none" | "None" => "an absent key has the value \"\"",
-        "true" | "false" => "no value is true or false: a condition compares two values",
-        "delete" => "a key is deleted by del(KEY)",
-        "print" | "println" => "a value is put out by emit(VALUE)",
-        "panic" | "error" | "throw" => "a run is broken off by abort(TEXT)",
-        _ => "",
-    }
-}
-
-/// The name in a place; an empty one where none stands there.
-fn name_in(spot: Spot<'_>) -> &str {
-    match spot.kind() {
-        Some(TokenKind::Name(name)) => name.as_str(),
-        _ => "",
     }
 }
 
@@ -202,9 +180,8 @@ fn said_of_symbol(spot: Spot<'_>) -> &'static str {
         return said;
     }
     match (spot.kind(), spot.place()) {
-        (Some(TokenKind::Symbol(Symbol::Semicolon)), Place::Events) => {
-            "events stand one behind another, without it"
-        }
+        (_, Place::Events) => said_of_event(spot),
+        (_, Place::Operations) => said_of_operation(spot),
         (Some(TokenKind::Symbol(symbol)), Place::Statements) if is_comparison(*symbol) => {
             "no value is true or false, and a comparison stands in an if"
         }
@@ -220,6 +197,7 @@ fn said_of_symbol(spot: Spot<'_>) -> &'static str {
         (Some(TokenKind::Word(Word::Break | Word::Continue)), Place::Statements) => {
             "it stands in the block of a for"
         }
+        (_, Place::Statements) => said_of_lease(spot),
         _ => "",
     }
 }
@@ -265,6 +243,32 @@ fn no_such_word(
     format!(in alloc; "{found} is no {noun}: {list}")
 }
 
+/// Which line ends before a token that begins the next one, in parentheses that are still open; nothing elsewhere.
+fn line_without(alloc: Global, source: &[u8], spot: Spot<'_>) -> Result<String, AllocError> {
+    if let (Place::Parentheses, Some(before), Some(token)) = (
+        spot.place(),
+        spot.before.last(),
+        spot.from.first(),
+    ) {
+        let line = position_in(source, before.at).line;
+        if line < position_in(source, token.at).line {
+            return format!(in alloc; "; line {line} ends without it");
+        }
+    }
+    Ok(String::new(alloc))
+}
+
+/// Whether a token stands directly behind the digits of a number.
+fn is_glued(source: &[u8], spot: Spot<'_>) -> bool {
+    let (Some(TokenKind::Number(_)), Some(token)) = (spot.back(0), spot.from.first()) else {
+        return false;
+    };
+    match source.get(token.at.saturating_sub(1)) {
+        Some(byte) => byte.is_ascii_digit(),
+        None => false,
+    }
+}
+
 /// What is said of a token in whose place another one is wanted.
 fn syntax_words(
     alloc: Global,
@@ -272,6 +276,11 @@ fn syntax_words(
     found: &str,
     spot: Spot<'_>,
 ) -> Result<String, AllocError> {
+    if is_glued(source, spot) && !name_in(spot).is_empty() {
+        return format!(in alloc;
+            "{found} has no meaning here: a number has the digits 0 to 9 alone"
+        );
+    }
     let said = said_of_sign(source, spot);
     if !said.is_empty() && said_of_else(spot).is_empty() {
         return format!(in alloc; "{found} is no statement: {said}");
@@ -286,7 +295,8 @@ fn syntax_words(
         }
         Wanted::Said(wanted) => format!(in alloc; "found {found}, where {wanted} is wanted"),
         Wanted::OperatorOr(wanted) => {
-            format!(in alloc; "found {found}, where an operator, or {wanted} is wanted")
+            let line = line_without(alloc, source, spot)?;
+            format!(in alloc; "found {found}, where an operator, or {wanted} is wanted{line}")
         }
     }
 }
@@ -314,8 +324,17 @@ fn said_of_name(source: &[u8], spot: Spot<'_>) -> &'static str {
     if is_called(spot) {
         said_of_function(name)
     } else {
-        ""
+        said_of_ending(name)
     }
+}
+
+/// Which name given above is nearest to one that is none, in words; nothing where none is near.
+fn near_words(alloc: Global, spot: Spot<'_>) -> Result<String, AllocError> {
+    let near = near_name(alloc, name_in(spot), spot)?;
+    if near.is_empty() {
+        return Ok(String::new(alloc));
+    }
+    format!(in alloc; "; the nearest above is {near}")
 }
 
 /// What is said of a name that cannot stand in its place.
@@ -325,15 +344,16 @@ fn name_words(
     found: &str,
     spot: Spot<'_>,
 ) -> Result<String, AllocError> {
-    let said = said_of_name(source, spot);
-    if !said.is_empty() {
-        return format!(in alloc; "{found} is no name of anything here: {said}");
-    }
     if let Some(said) = said_of_names(alloc, found, name_in(spot), spot)? {
         return Ok(said);
     }
+    let near = near_words(alloc, spot)?;
+    let said = said_of_name(source, spot);
+    if !said.is_empty() {
+        return format!(in alloc; "{found} is no name of anything here: {said}{near}");
+    }
     let said = said_of_place(spot);
-    format!(in alloc; "{found} {said}")
+    format!(in alloc; "{found} {said}{near}")
 }
 
 /// What is said of a number that is out of range.
@@ -356,7 +376,12 @@ fn argument_words(alloc: Global, found: &str, spot: Spot<'_>) -> Result<String, 
 }
 
 /// What is said where no token begins, but this character stands.
-fn token_words(alloc: Global, spot: Spot<'_>, character: &str) -> Result<String, AllocError> {
+fn token_words(
+    alloc: Global,
+    source: &[u8],
+    spot: Spot<'_>,
+    character: &str,
+) -> Result<String, AllocError> {
     let found = quoted(alloc, character)?;
     match character {
         "\"" => String::from_str(
@@ -374,6 +399,12 @@ fn token_words(alloc: Global, spot: Spot<'_>, character: &str) -> Result<String,
             "{found} begins nothing: there are no arrays, and a scenario that is JSON needs no compile"
         ),
         "#" => format!(in alloc; "{found} begins nothing: a comment begins with //"),
+        "." if is_glued(source, spot) => {
+            format!(in alloc; "{found} begins nothing: numbers are whole")
+        }
+        "." => format!(in alloc;
+            "{found} begins nothing: values have no parts, and the functions are get(KEY), rev(KEY), num_of(TEXT) and text_of(NUMBER)"
+        ),
         _ => format!(in alloc; "{found} begins nothing that a source has"),
     }
 }
@@ -403,7 +434,7 @@ fn first_character(text: &str) -> &str {
 }
 
 /// What is said of a token that is wrong.
-fn words_at(
+pub(crate) fn words_at(
     alloc: Global,
     source: &[u8],
     spot: Spot<'_>,
@@ -419,7 +450,7 @@ fn words_at(
         ),
         SourceCause::Token => {
             let character = first_character(word_from(source, spot, bad.at));
-            token_words(alloc, spot, character)
+            token_words(alloc, source, spot, character)
         }
         SourceCause::Syntax => syntax_words(alloc, source, found, spot),
         SourceCause::Return => String::from_str(

@@ -10,6 +10,7 @@ mod command;
 mod elses;
 mod explaining;
 mod fault;
+mod habits;
 mod kept;
 mod labels;
 mod line;
@@ -21,6 +22,7 @@ mod other_kinds;
 mod part;
 mod placing;
 mod program;
+mod refusing;
 mod runners;
 mod spans;
 mod spots;
@@ -33,7 +35,10 @@ pub use kept::{kept_text, spells};
 pub use labels::{CalledRunner, called_runners};
 pub use notes::notes_of;
 pub use part::{Part, Printed};
-pub use placing::{PlacedLine, SourcePlaces, placed_rule, placed_runner};
+pub use placing::{
+    PlacedLine, SourcePlaces, indices_in, placed_program, placed_rule, placed_runner,
+};
+pub use refusing::{Refused, refused_in};
 pub use runners::{NamedRunner, name_of_runner, named_runners, runners_named};
 pub use spans::event_lines;
 pub use stm_devices::{Sink, Source};

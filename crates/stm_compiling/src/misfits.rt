@@ -2,6 +2,7 @@
 
 use crate::spots::Spot;
 use std::alloc::{AllocError, Global};
+use stm_program::Operator;
 use stm_source::{Kind, kinds_wanted};
 use stm_tokens::{Symbol, Token, TokenKind};
 
@@ -18,7 +19,7 @@ struct Misfit {
 fn is_number(kind: &TokenKind) -> Option<bool> {
     match kind {
         TokenKind::Text(_) => Some(false),
-        TokenKind::Number(_) | TokenKind::Symbol(Symbol::Subtract) => Some(true),
+        TokenKind::Number(_) | TokenKind::Symbol(Symbol::Arithmetic(Operator::Sub)) => Some(true),
         _ => None,
     }
 }

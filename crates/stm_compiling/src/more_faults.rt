@@ -1,4 +1,4 @@
-//! The faults of a source behind its first one: those of what is left where each part with a fault is left out.
+//! The faults of a source behind its first one: those of what is left where the line of each fault is left out, if it has whole statements, and else the part.
 //!
 //! A part begins in the first column, with a word that begins an event, a program, a rule or a definition. Of one whose fault stands in braces the head stays,
 //! so that it can be named.
@@ -70,6 +70,87 @@ fn part_at(text: &str, at: usize) -> Part {
     }
 }
 
+/// The line in which a byte stands.
+fn line_at(text: &str, at: usize) -> Part {
+    let from = match between(text, 0, at).rsplit_once('\n') {
+        Some((front, _)) => front.len().saturating_add(1),
+        None => 0,
+    };
+    let length = match between(text, at, text.len()).split_once('\n') {
+        Some((rest, _)) => rest.len(),
+        None => text.len().saturating_sub(at),
+    };
+    Part {
+        from,
+        to: at.saturating_add(length),
+    }
+}
+
+/// What a bracket adds to and takes from those that are open; none, where one closes that was not opened.
+fn open_after(open: usize, byte: u8) -> Option<usize> {
+    match byte {
+        b'{' | b'(' => Some(open.saturating_add(1)),
+        b'}' | b')' => open.checked_sub(1),
+        _ => Some(open),
+    }
+}
+
+/// Whether a line opens as many brackets as it closes, none of them before it was opened.
+fn is_balanced(line: &str) -> bool {
+    let mut open = 0usize;
+    for byte in line.as_bytes() {
+        match open_after(open, *byte) {
+            Some(more) => open = more,
+            None => return false,
+        }
+    }
+    open == 0
+}
+
+/// Whether a byte can be the last one of a statement.
+fn can_end(byte: u8) -> bool {
+    byte.is_ascii_alphanumeric() || matches!(byte, b')' | b'}' | b'"' | b';')
+}
+
+/// Whether a line without a comment begins with a word, as a statement does, and ends as one can.
+fn is_between_words(line: &str) -> bool {
+    let (Some(first), Some(last)) = (line.as_bytes().first(), line.as_bytes().last()) else {
+        return false;
+    };
+    first.is_ascii_alphabetic() && can_end(*last) && !line.contains("//")
+}
+
+/// Whether what stands behind a line begins with a word, a comment or the end of a block.
+fn begins_anew(text: &str) -> bool {
+    match text.trim_start().as_bytes().first() {
+        Some(byte) => byte.is_ascii_alphabetic() || matches!(*byte, b'}' | b'/'),
+        None => false,
+    }
+}
+
+/// Whether a text closes all parentheses that it opens.
+fn closes_all(text: &str) -> bool {
+    let mut open = 0usize;
+    for byte in text.as_bytes() {
+        if *byte == b'(' {
+            open = open.saturating_add(1);
+        }
+        if *byte == b')' {
+            open = open.saturating_sub(1);
+        }
+    }
+    open == 0
+}
+
+/// Whether a line of a part of a text has whole statements: none goes on into it, and none behind it.
+fn is_whole(text: &str, part: Part, line: Part) -> bool {
+    let words = between(text, line.from, line.to).trim();
+    is_balanced(words)
+        && is_between_words(words)
+        && closes_all(between(text, part.from, line.from))
+        && begins_anew(between(text, line.to, text.len()))
+}
+
 /// What stays of a part with a fault so many bytes behind its beginning, and what may have been named elsewhere of that which does not.
 fn parted(part: &str, fault: usize) -> (&str, &'static str, &str) {
     if part.starts_with(START) && part.len() > EMPTY_START.len() {
@@ -79,6 +160,40 @@ fn parted(part: &str, fault: usize) -> (&str, &'static str, &str) {
         Some((head, _)) if head.len() < fault => (head, "{}", ""),
         Some((head, _)) => ("", "", head),
         None => ("", "", part),
+    }
+}
+
+/// What is left out of a text.
+#[derive(Clone, Copy)]
+struct Cut<'a> {
+    /// Where it stands.
+    part: Part,
+    /// The front of it that stays, and what stands for the rest.
+    head: &'a str,
+    sign: &'static str,
+    /// What of it may have been named elsewhere.
+    gone: &'a str,
+}
+
+/// What is left out for a fault at a byte: its line, where that has whole statements and does not begin a part, else the part in which it stands.
+fn cut_at(text: &str, at: usize) -> Cut<'_> {
+    let part = part_at(text, at);
+    let line = line_at(text, at);
+    if part.from < line.from && is_whole(text, part, line) {
+        return Cut {
+            part: line,
+            head: "",
+            sign: "",
+            gone: between(text, line.from, line.to),
+        };
+    }
+    let within = at.saturating_sub(part.from);
+    let (head, sign, gone) = parted(between(text, part.from, part.to), within);
+    Cut {
+        part,
+        head,
+        sign,
+        gone,
     }
 }
 
@@ -147,17 +262,13 @@ impl Rest {
         })
     }
 
-    /// Leaves out the part in which a byte stands.
+    /// Leaves out the line of a byte, where it has whole statements and does not begin a part, else the part in which it stands.
     fn leave_out(&mut self, alloc: Global, at: usize) -> Result<(), AllocError> {
         let text = self.text.as_str();
-        let part = part_at(text, at);
-        let (head, sign, gone) = parted(
-            between(text, part.from, part.to),
-            at.saturating_sub(part.from),
-        );
+        let cut = cut_at(text, at);
         self.gone.push_str(" ")?;
-        self.gone.push_str(gone)?;
-        self.text = without(alloc, text, part, head, sign)?;
+        self.gone.push_str(cut.gone)?;
+        self.text = without(alloc, text, cut.part, cut.head, cut.sign)?;
         Ok(())
     }
 

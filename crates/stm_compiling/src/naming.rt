@@ -2,6 +2,7 @@
 
 use crate::calls::{is_argument, is_lease, is_listed, is_parameter};
 use crate::spots::{Event, Place, Spot};
+use stm_program::Operator;
 use stm_tokens::{Symbol, Token, TokenKind, Word};
 
 /// What is said of a function that people know from elsewhere, by its name.
@@ -40,10 +41,35 @@ fn is_of_a_program(spot: Spot<'_>) -> bool {
         || spot.is_behind_word(0, Word::Finally)
 }
 
+/// Whether a place is in the value of a definition with parameters.
+fn is_in_definition(spot: Spot<'_>) -> bool {
+    for (index, token) in spot.before.iter().enumerate().rev() {
+        if token.kind.is_word(Word::Let) {
+            return match spot.before.get(index.saturating_add(2)) {
+                Some(behind) => behind.kind.is_symbol(Symbol::LeftParenthesis),
+                None => false,
+            };
+        }
+        if matches!(
+            token.kind,
+            TokenKind::Word(Word::Program | Word::Rule | Word::Finally)
+        ) {
+            return false;
+        }
+        if token.kind.is_named("start") || token.kind.is_symbol(Symbol::LeftBrace) {
+            return false;
+        }
+    }
+    false
+}
+
 /// What is said of a name that stands outside of programs.
 fn said_in_event(spot: Spot<'_>) -> &'static str {
     if spot.is_in_list() || spot.is_behind_word(2, Word::Let) {
         return "is no constant above: an item is a text or a number as it stands, or the name of one";
+    }
+    if is_in_definition(spot) {
+        return "is no parameter, and no constant or definition above";
     }
     if spot.is_behind(0, "start") || spot.is_behind_symbol(0, Symbol::Assign) {
         return "is no program above: program NAME(PARAMETER, ..) { .. } stands before what starts it";
@@ -80,7 +106,9 @@ fn is_before_dots(spot: Spot<'_>) -> bool {
 fn is_list_from(before: Option<&TokenKind>, from: &[Token]) -> bool {
     match (before, from) {
         (Some(TokenKind::Word(Word::Let)), [_, _, sign, _, comma, ..])
-            if sign.kind.is_symbol(Symbol::Subtract) => { comma.kind.is_symbol(Symbol::Comma) }
+            if sign.kind.is_symbol(Symbol::Arithmetic(Operator::Sub)) => {
+            comma.kind.is_symbol(Symbol::Comma)
+        }
         (Some(TokenKind::Word(Word::Let)), [_, _, _, comma, ..]) => {
             comma.kind.is_symbol(Symbol::Comma)
         }

@@ -4,6 +4,7 @@ use crate::calls::given_at;
 use crate::explaining::is_comparison;
 use crate::spots::{Call, Spot};
 use std::alloc::{AllocError, Global};
+use stm_program::Operator;
 use stm_tokens::{Symbol, TokenKind, Word};
 
 /// A line of more bytes than this is not shown.
@@ -14,7 +15,7 @@ fn is_number(kind: Option<&TokenKind>) -> Option<bool> {
     match kind {
         Some(
             TokenKind::Number(_)
-            | TokenKind::Symbol(Symbol::Subtract)
+            | TokenKind::Symbol(Symbol::Arithmetic(Operator::Sub))
             | TokenKind::Word(Word::NumOf | Word::Rev),
         ) => Some(true),
         Some(TokenKind::Text(_) | TokenKind::Word(Word::Get | Word::TextOf)) => Some(false),
@@ -27,14 +28,7 @@ fn wants_number_beside(kind: Option<&TokenKind>) -> Option<bool> {
     match kind {
         Some(
             TokenKind::Symbol(
-                Symbol::Add
-                | Symbol::Subtract
-                | Symbol::Multiply
-                | Symbol::Divide
-                | Symbol::Remainder
-                | Symbol::AddAssign
-                | Symbol::SubtractAssign
-                | Symbol::Dots,
+                Symbol::Arithmetic(_) | Symbol::AddAssign | Symbol::SubtractAssign | Symbol::Dots,
             ),
         ) => Some(true),
         Some(TokenKind::Symbol(Symbol::Concatenate | Symbol::ConcatenateAssign)) => Some(false),
@@ -73,10 +67,10 @@ fn wants_number(spot: Spot<'_>) -> Option<bool> {
 /// Whether a `+` stands beside a value of one token.
 fn is_beside_add(spot: Spot<'_>) -> bool {
     let is_next = match spot.next() {
-        Some(kind) => kind.is_symbol(Symbol::Add),
+        Some(kind) => kind.is_symbol(Symbol::Arithmetic(Operator::Add)),
         None => false,
     };
-    is_next || spot.is_behind_symbol(0, Symbol::Add)
+    is_next || spot.is_behind_symbol(0, Symbol::Arithmetic(Operator::Add))
 }
 
 /// Whether a comparison stands before a value.

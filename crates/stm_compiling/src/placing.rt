@@ -1,6 +1,7 @@
 //! Places of a source in what is said of the runs of its scenario.
 
 use crate::fault::position_in;
+use crate::program::started;
 use std::alloc::{AllocError, Global};
 use stm_events::WorldEvent;
 use stm_history::Sequence;
@@ -134,6 +135,14 @@ fn parts_of(words: &str) -> Option<(&str, &str, &str)> {
     let (head, more) = words.split_once(AT)?;
     let (pointer, reason) = more.split_once(BEHIND)?;
     Some((head, pointer, reason))
+}
+
+/// The indices of a node in a line that explains a run, `WORDS at POINTER: REASON`; none, where it says no place of a node.
+pub fn indices_in(alloc: Global, line: &str) -> Result<Vec<usize>, AllocError> {
+    match parts_of(line) {
+        Some((_, pointer, _)) => indices_of(alloc, pointer),
+        None => Ok(Vec::new(alloc)),
+    }
 }
 
 /// The same in a line under a name.
@@ -275,5 +284,64 @@ pub fn placed_runner<'a>(
     let places = SourcePlaces::of(alloc, name, text)?;
     let indices = indices_of(alloc, pointer)?;
     let at = places.place_in_start(alloc, element, indices.as_slice())?;
+    places.placed_at(alloc, at, head, reason)
+}
+
+/// The programs of a source of this text, with the line behind it that starts the program of a name, with these words as its arguments.
+fn programs_started(
+    alloc: Global,
+    text: &str,
+    program: &str,
+    words: &[String],
+) -> Result<MarkedPrograms, AllocError> {
+    let started = started(alloc, text.as_bytes(), program, words)?;
+    let programs = programs_of(alloc, str::from_utf8(started.as_slice()).unwrap_or(""));
+    drop(started);
+    programs
+}
+
+/// The program of the rule of a name, or else the one that is started last.
+fn program_named<'a>(programs: &'a MarkedPrograms, name: &str) -> Option<&'a MarkedProgram> {
+    match program_of_rule(programs.rules.as_slice(), name) {
+        Some(program) => Some(program),
+        None => {
+            let start = programs.starts.as_slice().last()?;
+            Some(&start.program)
+        }
+    }
+}
+
+/// Where in the source the node begins to which these indices lead in the JSON of the rule of a name, or else of the program that is started last.
+fn place_named(
+    alloc: Global,
+    programs: &MarkedPrograms,
+    name: &str,
+    indices: &[usize],
+) -> Result<Option<usize>, AllocError> {
+    match program_named(programs, name) {
+        Some(program) => place_in(alloc, program, indices),
+        None => Ok(None),
+    }
+}
+
+/// The same of a line `FAULT at POINTER: REASON` of a run of the rule or the program of a name, with these words as its arguments.
+pub fn placed_program<'a>(
+    alloc: Global,
+    name: &'a str,
+    text: &'a str,
+    program: &str,
+    words: &[String],
+    line: &str,
+) -> Result<Option<PlacedLine<'a>>, AllocError> {
+    let Some((head, pointer, reason)) = parts_of(line) else {
+        return Ok(None);
+    };
+    let places = SourcePlaces {
+        name,
+        text,
+        programs: programs_started(alloc, text, program, words)?,
+    };
+    let indices = indices_of(alloc, pointer)?;
+    let at = place_named(alloc, &places.programs, program, indices.as_slice())?;
     places.placed_at(alloc, at, head, reason)
 }

@@ -1,5 +1,6 @@
 //! Where in a source a token stands: between which brackets, and behind which words.
 
+use stm_program::Operator;
 use stm_tokens::{Symbol, Token, TokenKind, Word};
 
 /// What the brackets that are open before a token belong to.
@@ -46,6 +47,14 @@ pub(crate) struct Spot<'a> {
     pub(crate) before: &'a [Token],
     /// It and those behind it.
     pub(crate) from: &'a [Token],
+}
+
+/// The name in a place; an empty one where none stands there.
+pub(crate) fn name_in(spot: Spot<'_>) -> &str {
+    match spot.kind() {
+        Some(TokenKind::Name(name)) => name.as_str(),
+        _ => "",
+    }
 }
 
 /// How many of these tokens begin before a byte.
@@ -263,7 +272,9 @@ impl<'a> Spot<'a> {
             match &token.kind {
                 TokenKind::Word(word) => return Some(*word),
                 TokenKind::Text(_) | TokenKind::Number(_) | TokenKind::Name(_) => {}
-                TokenKind::Symbol(Symbol::Comma | Symbol::Assign | Symbol::Subtract) => {}
+                TokenKind::Symbol(
+                    Symbol::Comma | Symbol::Assign | Symbol::Arithmetic(Operator::Sub),
+                ) => {}
                 _ => return None,
             }
         }

@@ -1,8 +1,10 @@
 //! The names that a source gives to its programs, rules and runners.
 
+use crate::calls::is_asked;
+use crate::kept::items_of;
 use crate::naming::is_awaited;
 use crate::spots::{Event, Place, Spot};
-use crate::wanted::allowed;
+use crate::wanted::{allowed, nearest};
 use std::alloc::{AllocError, Global};
 use stm_tokens::{Symbol, Token, TokenKind, Word, tokens_of};
 
@@ -63,6 +65,76 @@ fn runners_of(alloc: Global, tokens: &[Token]) -> Result<Vec<&str>, AllocError> 
     Ok(runners)
 }
 
+/// Whether a name that stands behind this token is given there.
+fn gives_name(kind: &TokenKind) -> bool {
+    matches!(kind, TokenKind::Word(Word::Let | Word::For))
+}
+
+/// Whether a head with parameters is that of the item which these tokens begin.
+fn has_parameters(item: &[Token]) -> bool {
+    match item.first() {
+        Some(token) => matches!(token.kind, TokenKind::Word(Word::Let | Word::Program)),
+        None => false,
+    }
+}
+
+/// Adds the names that the head of an item gives to parameters, and its statements to variables.
+fn push_inner<'a>(names: &mut Vec<&'a str>, item: &'a [Token]) -> Result<(), AllocError> {
+    let mut is_head = has_parameters(item);
+    let mut gives = false;
+    for token in item.iter().skip(2) {
+        let ends = token.kind.is_symbol(Symbol::LeftBrace) || token.kind.is_symbol(Symbol::Assign);
+        is_head = is_head && !ends;
+        if let (true, TokenKind::Name(name)) = (is_head || gives, &token.kind) {
+            names.push(name.as_str())?;
+        }
+        gives = gives_name(&token.kind);
+    }
+    Ok(())
+}
+
+/// Adds the name that a `let` outside of programs gives.
+fn push_outer<'a>(names: &mut Vec<&'a str>, item: &'a [Token]) -> Result<(), AllocError> {
+    if let [first, second, ..] = item {
+        if let (true, TokenKind::Name(name)) = (first.kind.is_word(Word::Let), &second.kind) {
+            names.push(name.as_str())?;
+        }
+    }
+    Ok(())
+}
+
+/// The names that are given before a token in the item to which it belongs, and outside of programs in those before that.
+fn given_names<'a>(alloc: Global, spot: Spot<'a>) -> Result<Vec<&'a str>, AllocError> {
+    let items = items_of(alloc, spot.before)?;
+    let mut names = Vec::new(alloc);
+    let mut from = 0usize;
+    for begun in items.as_slice() {
+        push_outer(
+            &mut names,
+            spot.before.get(from..begun.place).unwrap_or(&[]),
+        )?;
+        from = begun.place;
+    }
+    push_inner(&mut names, spot.before.get(from..).unwrap_or(&[]))?;
+    Ok(names)
+}
+
+/// The name given before it that is nearest to one that stands there, if it has at least three characters; an empty one where none is near.
+pub(crate) fn near_name<'a>(
+    alloc: Global,
+    name: &str,
+    spot: Spot<'a>,
+) -> Result<&'a str, AllocError> {
+    if name.len() < 3 {
+        return Ok("");
+    }
+    let names = given_names(alloc, spot)?;
+    if is_among(names.as_slice(), name) {
+        return Ok("");
+    }
+    nearest(alloc, names.as_slice(), name)
+}
+
 /// Whether a name is among these.
 fn is_among(names: &[&str], name: &str) -> bool {
     for known in names {
@@ -82,6 +154,19 @@ fn others_of(alloc: Global, names: &[&str], name: &str) -> Result<Option<String>
     Ok(Some(words))
 }
 
+/// Which names the programs, rules and finals among tokens have, of which this is none.
+pub(crate) fn titles_but(
+    alloc: Global,
+    tokens: &[Token],
+    name: &str,
+) -> Result<String, AllocError> {
+    let titles = titles_of(alloc, tokens)?;
+    match others_of(alloc, titles.as_slice(), name)? {
+        Some(words) => Ok(words),
+        None => String::from_str(alloc, "there are none"),
+    }
+}
+
 /// What is said of a name that is none of a source's programs, rules and finals: which those are; nothing, where it is one of them. It fails only when out
 /// of memory.
 pub fn unknown_in(alloc: Global, source: &[u8], name: &str) -> Result<Option<String>, AllocError> {
@@ -89,16 +174,6 @@ pub fn unknown_in(alloc: Global, source: &[u8], name: &str) -> Result<Option<Str
     let titles = titles_of(alloc, tokens.as_slice())?;
     let words = others_of(alloc, titles.as_slice(), name)?;
     Ok(words)
-}
-
-/// Whether a place is that of a runner whose end is asked.
-fn is_asked(spot: Spot<'_>) -> bool {
-    match spot.call() {
-        Some(call) => {
-            call.word.is_named("end") || call.word.is_named("why") || call.word.is_named("out")
-        }
-        None => false,
-    }
 }
 
 /// Whether a place is that of a runner.

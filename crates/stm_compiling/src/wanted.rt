@@ -1,8 +1,9 @@
 //! What is wanted in a place of a source.
 
-use crate::calls::{behind_value, is_parameter, value_in};
+use crate::calls::{behind_asked, behind_value, is_asked, is_parameter, value_in};
 use crate::spots::{Event, Place, Spot};
 use std::alloc::{AllocError, Global};
+use stm_program::Operator;
 use stm_tokens::{Symbol, TokenKind, Word};
 use strsim::levenshtein;
 
@@ -38,6 +39,11 @@ const LEVELS: [&str; 4] = [
     "Serializable",
     "SerializableSnapshot",
 ];
+
+/// Whether a word is a level.
+pub(crate) fn is_level(word: &str) -> bool {
+    LEVELS.iter().any(|level| *level == word)
+}
 
 /// What is wanted in a place.
 #[derive(Clone, Copy)]
@@ -151,11 +157,7 @@ pub(crate) fn is_behind_operator(spot: Spot<'_>) -> bool {
                 | Symbol::LessOrEqual
                 | Symbol::Greater
                 | Symbol::GreaterOrEqual
-                | Symbol::Add
-                | Symbol::Subtract
-                | Symbol::Multiply
-                | Symbol::Divide
-                | Symbol::Remainder
+                | Symbol::Arithmetic(_)
                 | Symbol::Concatenate
         ),
         _ => false,
@@ -271,6 +273,9 @@ fn in_parentheses(spot: Spot<'_>) -> Wanted {
     if is_behind_operator(spot) {
         return Wanted::Said("a value");
     }
+    if is_asked(spot) {
+        return Wanted::Said(behind_asked(spot));
+    }
     if is_parameter(spot) {
         return Wanted::Said(
             "a comma, or the ) behind the parameters, which have names and no types,",
@@ -291,7 +296,8 @@ fn is_behind_else_of_look_up(spot: Spot<'_>) -> bool {
 fn is_behind_sign(spot: Spot<'_>) -> bool {
     match spot.back(1) {
         Some(TokenKind::Symbol(symbol)) => {
-            *symbol != Symbol::RightParenthesis && spot.is_behind_symbol(0, Symbol::Subtract)
+            *symbol != Symbol::RightParenthesis
+                && spot.is_behind_symbol(0, Symbol::Arithmetic(Operator::Sub))
         }
         _ => false,
     }

@@ -1,9 +1,14 @@
 -- The tables of words have the words that the readers know.
-use Rattle.std.proofs.Common.{◌≡◌, ◌||◌, ℕ, List, Bool, true, false, cond, Option, Some, None, Result, Ok, is_some, is_ok, refl, ap, true≢false, codes}
+use Rattle.std.proofs.Common.{◌≡◌, ◌||◌, ℕ, List, [], ◌∷◌, ◌++◌, map, Bool, true, false, cond, Option, Some, None, Result, Ok, is_some, is_ok, refl}
+use Rattle.std.proofs.Common.{ap, sym, ◌∙◌, true≢false, codes}
 use Rattle.serde_json.specs.Data.{Data, Items}
 use Rattle.stm_json.specs.Outcome.{bad}
 use Rattle.stm_json.specs.declared.cause.Cause.TheVariants.{Shape}
-use Rattle.stm_program_json.specs.Words.{statement_word, expression_word, condition_word}
+use Rattle.stm_program.specs.declared.operator.Operator.{Operator}
+use Rattle.stm_program.specs.declared.operator.TheConstants.{OPERATORS}
+use Rattle.stm_program.specs.Operators.{operator_word, named_in}
+use Rattle.stm_program_json.specs.declared.words.ExprWord.{ExprWord}
+use Rattle.stm_program_json.specs.Words.{statement_word, expression_word, other_word, operator_or, condition_word}
 use Rattle.stm_json.specs.Parts.{same}
 use Rattle.stm_txn_json.specs.Words.{order_named, target_named}
 use Rattle.stm_txn_json.specs.Reading.{operation_worded}
@@ -38,20 +43,53 @@ statements word =
 firsts : (word : List ℕ) → (same word (codes "prefetch") || is_some (statement_word word)) ≡ is_among word first_words
 firsts word = ap (λ (b : Bool). same word (codes "prefetch") || b) (statements word)
 
+-- ---- the words of operators stand behind those of other expressions
+
+or_true : (a : Bool) → true ≡ (a || true)
+or_true true = refl
+or_true false = refl
+
+or_false : (a : Bool) → a ≡ (a || false)
+or_false true = refl
+or_false false = refl
+
+mutual
+  among_operators : (os : List Operator) (word : List ℕ) (other : Option ExprWord)
+      → is_some (operator_or other (named_in os word)) ≡ (is_some other || is_among word (map operator_word os))
+  among_operators [] word other = or_false (is_some other)
+  among_operators (o ∷ os) word other = by_test os word other o (same word (operator_word o))
+
+  by_test : (os : List Operator) (word : List ℕ) (other : Option ExprWord) (o : Operator) (b : Bool)
+      → is_some (operator_or other (cond b (Some o) (named_in os word))) ≡ (is_some other || (b || is_among word (map operator_word os)))
+  by_test os word other o true = or_true (is_some other)
+  by_test os word other o false = among_operators os word other
+
+one_more : (b c d e : Bool) → c ≡ (d || e) → (b || c) ≡ ((b || d) || e)
+one_more true c d e is = refl
+one_more false c d e is = is
+
+among_both : (word : List ℕ) (xs ys : List (List ℕ)) → is_among word (xs ++ ys) ≡ (is_among word xs || is_among word ys)
+among_both word [] ys = refl
+among_both word (x ∷ xs) ys = one_more (same word x) _ _ _ (among_both word xs ys)
+
+operators : (os : List Operator) (word : List ℕ) (other : Option ExprWord) (others : List (List ℕ)) → is_some other ≡ is_among word others
+    → is_some (operator_or other (named_in os word)) ≡ is_among word (others ++ map operator_word os)
+operators os word other others known =
+    among_operators os word other
+    ∙ ap (λ (b : Bool). b || is_among word (map operator_word os)) known
+    ∙ sym (among_both word others (map operator_word os))
+
 expressions : (word : List ℕ) → is_some (expression_word word) ≡ is_among word expression_words
 unfolding expression_word
 expressions word =
-    some (same word (codes "var")) _ _ _
+    operators OPERATORS word (other_word word)
+    (codes "var" ∷ codes "get" ∷ codes "rev" ∷ codes "text_of" ∷ codes "num_of" ∷ codes "cat" ∷ [])
+    (some (same word (codes "var")) _ _ _
     (some (same word (codes "get")) _ _ _
     (some (same word (codes "rev")) _ _ _
     (some (same word (codes "text_of")) _ _ _
     (some (same word (codes "num_of")) _ _ _
-    (some (same word (codes "cat")) _ _ _
-    (some (same word (codes "add")) _ _ _
-    (some (same word (codes "sub")) _ _ _
-    (some (same word (codes "mul")) _ _ _
-    (some (same word (codes "div")) _ _ _
-    (some (same word (codes "rem")) _ None false refl))))))))))
+    (some (same word (codes "cat")) _ None false refl))))))
 
 conditions : (word : List ℕ) → is_some (condition_word word) ≡ is_among word condition_words
 unfolding condition_word

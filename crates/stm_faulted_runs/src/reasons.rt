@@ -29,21 +29,20 @@ fn spelled_at(alloc: Global, values: &[Value], index: usize) -> Result<String, A
     }
 }
 
-/// What the result of an operator is called, and its sign.
-fn operation(operator: Operator) -> (&'static str, &'static str) {
+/// What the result of an operator is called, of a remainder that of its division.
+fn result_name(operator: Operator) -> &'static str {
     match operator {
-        Operator::Add => ("sum", "+"),
-        Operator::Sub => ("difference", "-"),
-        Operator::Mul => ("product", "*"),
-        Operator::Div => ("quotient", "/"),
-        Operator::Rem => ("quotient", "rem"),
+        Operator::Add => "sum",
+        Operator::Sub => "difference",
+        Operator::Mul => "product",
+        Operator::Div | Operator::Rem => "quotient",
     }
 }
 
 /// What the result of a node is called, and the sign of its operator.
 fn operation_of(node: Node) -> (&'static str, &'static str) {
     match node {
-        Node::Operation(operator) => operation(operator),
+        Node::Operation(operator) => (result_name(operator), operator.sign()),
         _ => ("result", "and"),
     }
 }

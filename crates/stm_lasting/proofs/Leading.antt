@@ -1,6 +1,6 @@
 -- What records lead to, with one more record.
 use Rattle.std.proofs.Common.{◌≡◌, ◌⊎◌, inl, inr, ⊎_elim, ℕ, suc, ◌+◌, ◌^◌, ◌<◌, ◌≤◌, get_or, List, [], ◌∷◌, ◌++◌, length, take, drop, refl, sym, ◌∙◌, ap, arith}
-use Rattle.std.specs.Prelude.{Option, Some, option_and_then, Ok, Err}
+use Rattle.std.specs.Prelude.{Option, None, Some, option_and_then, Ok, Err}
 use Rattle.std.proofs.lemmas.List.{drop_all}
 use Rattle.std.proofs.Math.Seq.{drop-cons}
 use Rattle.std.proofs.lemmas.Option.{none-some}
@@ -13,7 +13,7 @@ use Rattle.stm_frames.specs.Frame.{frame, log, at_places}
 use Rattle.stm_frames.proofs.Frames.{log-push}
 use Rattle.stm_frames.proofs.Unique.{opens_one, opens_log}
 use Rattle.stm_records.specs.RecordFiles.{IsBeforeOrAfter}
-use Rattle.stm_lasting.specs.Kept.{taken, led, begun, world_in, IsKept, LeadsTo, IsReady, IsWorldBeforeOrAfter}
+use Rattle.stm_lasting.specs.Kept.{taken, led, begun_with, world_in, IsKept, LeadsTo, IsReady, IsWorldBeforeOrAfter}
 
 -- ---- one record more ----
 
@@ -31,20 +31,21 @@ led_on [] text scenario from to spelled leads =
 led_on (first ∷ texts) text scenario from to spelled leads =
     led_by (scenario_in first) texts (texts ++ text ∷ []) from to (world_after scenario.events to) (λ w is. led_on texts text scenario w to spelled is) leads
 
-begun_by : (read : Outcome Scenario) (texts more : List (List ℕ)) (to next : World) → ((w : World) → led texts w ≡ Some to → led more w ≡ Some next)
-    → option_and_then (led texts) (begun read) ≡ Some to → option_and_then (led more) (begun read) ≡ Some next
-begun_by (Ok s) texts more to next on leads = on (world_after s.events (opened (setup_of s.opening))) leads
-begun_by (Err fault) texts more to next on leads = absurd (none-some to leads)
+begun_by : (first : Option World) (texts more : List (List ℕ)) (to next : World) → ((w : World) → led texts w ≡ Some to → led more w ≡ Some next)
+    → option_and_then (led texts) first ≡ Some to → option_and_then (led more) first ≡ Some next
+begun_by (Some w) texts more to next on leads = on w leads
+begun_by None texts more to next on leads = absurd (none-some to leads)
 
 world_on : (texts : List (List ℕ)) (text : List ℕ) (scenario : Scenario) (to : World) → (texts ≡ [] → ⊥) → scenario_in text ≡ Ok scenario
     → world_in texts ≡ Some to → world_in (texts ++ text ∷ []) ≡ Some (world_after scenario.events to)
 world_on [] text scenario to some spelled leads = absurd (some refl)
 world_on (first ∷ texts) text scenario to some spelled leads =
-    begun_by (scenario_in first) texts (texts ++ text ∷ []) to (world_after scenario.events to) (λ w is. led_on texts text scenario w to spelled is) leads
+    begun_by (begun_with (scenario_in first) first) texts (texts ++ text ∷ []) to (world_after scenario.events to) (λ w is. led_on texts text scenario w to spelled is)
+    leads
 
 first_world : (text : List ℕ) (scenario : Scenario) → scenario_in text ≡ Ok scenario
     → world_in (text ∷ []) ≡ Some (world_after scenario.events (opened (setup_of scenario.opening)))
-first_world text scenario spelled = ap (λ (o : Outcome Scenario). option_and_then (led []) (begun o)) spelled
+first_world text scenario spelled = ap (λ (o : Outcome Scenario). option_and_then (led []) (begun_with o text)) spelled
 
 -- what is ready leads to the world after the scenario
 pub ready_leads : (file text : List ℕ) (world : World) (scenario : Scenario) → scenario_in text ≡ Ok scenario → IsReady file world scenario

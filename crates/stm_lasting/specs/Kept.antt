@@ -2,13 +2,17 @@
 --
 -- A world that lasts is kept as what it was asked: each record of its file is the text of a scenario, in their order. That the events of a log are
 -- taken again, in order, is how a store comes back from its log ("command logging"); which texts are scenarios is `stm_texts`.
-use Rattle.std.specs.Prelude.{◌≡◌, ◌⊎◌, ℕ, List, [], ◌∷◌, ◌++◌, Option, None, Some, option_and_then, Ok, Err}
+use Rattle.std.specs.Prelude.{◌≡◌, ◌⊎◌, ℕ, if◌then◌else◌, List, [], ◌∷◌, ◌++◌, Option, None, Some, option_and_then, Ok, Err}
 use Rattle.stm_txn.specs.Standing.{at_revision}
 use Rattle.stm_json.specs.Outcome.{Outcome}
 use Rattle.stm_texts.specs.declared.scenario.Scenario.{Scenario}
 use Rattle.stm_texts.specs.Opens.{setup_of}
 use Rattle.stm_texts.specs.Reading.{scenario_in}
 use Rattle.stm_world.specs.World.{World, opened, world_after}
+use Rattle.stm_world.specs.Restored.{restored_world}
+use Rattle.stm_txn.specs.declared.restored.Checkpoint.{Checkpoint}
+use Rattle.stm_txn.specs.Restored.{can_restore}
+use Rattle.stm_lasting.specs.CheckpointText.{checkpoint_in}
 use Rattle.stm_frames.specs.Frame.{log, Opens}
 use Rattle.stm_records.specs.RecordFiles.{NoChance}
 
@@ -27,10 +31,21 @@ abbrev pub begun : Outcome Scenario → Option World
 begun (Ok scenario) = Some (world_after scenario.events (opened (setup_of scenario.opening)))
 begun (Err fault) = None
 
--- The world that records lead to. No records lead to one with an empty store at revision 1; where a record spells no scenario, they lead to none.
+-- the world after the scenario of a checkpoint, where a store can open with what it has
+abbrev pub resumed : Option (Checkpoint × Scenario) → Option World
+resumed None = None
+resumed (Some kept) = if can_restore kept.0 then Some (world_after (kept.1).events (restored_world kept.0)) else None
+
+-- The world that the first record leads to. A text that is no scenario may be a checkpoint.
+abbrev pub begun_with : Outcome Scenario → List ℕ → Option World
+begun_with (Ok scenario) text = begun (Ok scenario)
+begun_with (Err fault) text = resumed (checkpoint_in text)
+
+-- The world that records lead to. No records lead to one with an empty store at revision 1; where a record spells no scenario, they lead to none. The first
+-- one may be a checkpoint.
 abbrev pub world_in : List (List ℕ) → Option World
 world_in [] = Some (opened (at_revision 1))
-world_in (first ∷ texts) = option_and_then (led texts) (begun (scenario_in first))
+world_in (first ∷ texts) = option_and_then (led texts) (begun_with (scenario_in first) first)
 
 -- the file has these records and nothing else, and they lead to this world
 pub record IsKept (file : List ℕ) (world : World) : Type 0 where
@@ -64,3 +79,7 @@ IsReady file world scenario =
 abbrev pub IsWorldBeforeOrAfter : List ℕ → List ℕ → World → List ℕ → Type 0
 IsWorldBeforeOrAfter file text after c =
     (before : World) → IsKept file before → NoChance file text c → OpensTo c before ⊎ OpensTo c after
+
+-- what a crash left opens to one of two worlds
+abbrev pub OpensToEither : World → World → List ℕ → Type 0
+OpensToEither before after c = OpensTo c before ⊎ OpensTo c after

@@ -1,2 +1,4 @@
+pub mod CheckpointText
 pub mod Kept
 pub mod Laws
+pub mod Stages

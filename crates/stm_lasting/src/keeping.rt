@@ -36,7 +36,7 @@ fn run<D: Disk>(
 }
 
 /// What a fault of the records is called here.
-fn fault_of(fault: DiskFault) -> KeepFault {
+pub(crate) fn fault_of(fault: DiskFault) -> KeepFault {
     match fault {
         DiskFault::OutOfMemory => KeepFault::OutOfMemory,
         DiskFault::Failed | DiskFault::Damaged(_) => KeepFault::Failed,

@@ -4,11 +4,14 @@ ghost use Rattle.stm_frames.specs.Frame.{at_places};
 ghost use Rattle.stm_texts.specs.Opens.{setup_of, IsOpening};
 ghost use Rattle.stm_texts.specs.Reading.{scenario_in};
 ghost use Rattle.stm_world.specs.World.{opened, world_after};
-ghost use Rattle.stm_lasting.specs.Kept.{taken, led, begun, world_in};
+ghost use Rattle.stm_lasting.specs.CheckpointText.{checkpoint_in};
+ghost use Rattle.stm_lasting.specs.Kept.{taken, led, begun, begun_with, resumed, world_in};
 
+use crate::checkpoint_text::read_checkpoint;
 use std::alloc::{AllocError, Global};
 use stm_retry::World;
 use stm_texts::{ReadError, Scenario, opens_with, read_scenario};
+use stm_txn::Checkpoint;
 
 /// Why records could not be run again.
 #[derive(Clone, Copy, Debug, PartialEq, Eq)]
@@ -17,6 +20,17 @@ pub(crate) enum ReplayFault {
     OutOfMemory,
     /// The record that stands at this offset spells no scenario.
     NoScenario(usize),
+}
+
+impl From<AllocError> for ReplayFault {
+    ghost use Rattle.std.specs.Prelude.{◌≡◌};
+    ghost use Rattle.stm_lasting.specs.declared.replay.ReplayFault.TheVariants.{OutOfMemory};
+
+    ghost from_gives = { λ _ e. e ≡ OutOfMemory };
+
+    fn from(_error: AllocError) -> ReplayFault {
+        ReplayFault::OutOfMemory
+    }
 }
 
 /// The bytes from an offset on: none, where it is past the end.
@@ -92,15 +106,69 @@ fn take_record(
     Ok(())
 }
 
-/// The world after the first record, which stands at this place.
-fn first_world(alloc: Global, bytes: &[u8], place: &(usize, usize)) -> Result<World, ReplayFault>
-    ensures { IfOk result (λ w. begun (scenario_in (take place.now.1 (drop place.now.0 bytes.now))) ≡ Some w) }
+/// The world after a scenario with which a file begins.
+fn begun_world(alloc: Global, scenario: &Scenario) -> Result<World, ReplayFault>
+    requires { IsOpening scenario.now.opening }
+    ensures { IfOk result (λ w. begun (OkOf scenario.now) ≡ Some w) }
 {
-    let scenario = read(alloc, record_at(bytes, place), place.0)?;
-    let Ok(mut world) = empty_world(alloc, &scenario) else {
+    let Ok(mut world) = empty_world(alloc, scenario) else {
         return Err(ReplayFault::OutOfMemory);
     };
-    run_again(&mut world, &scenario)?;
+    run_again(&mut world, scenario)?;
+    Ok(world)
+}
+
+/// The world that a checkpoint leads to, and then its scenario.
+#[tactic(auto, using(crate::proofs::Resuming::resumes))]
+fn restored_world(
+    alloc: Global,
+    checkpoint: Checkpoint,
+    scenario: &Scenario,
+    at: usize,
+) -> Result<World, ReplayFault>
+    ensures { IfOk result (λ w. resumed (Some (checkpoint, scenario.now)) ≡ Some w) }
+{
+    let Some(mut world) = World::restored(alloc, checkpoint)? else {
+        return Err(ReplayFault::NoScenario(at));
+    };
+    run_again(&mut world, scenario)?;
+    Ok(world)
+}
+
+/// The world that the text of a checkpoint leads to.
+fn resumed_world(alloc: Global, text: &[u8], at: usize) -> Result<World, ReplayFault>
+    ensures { IfOk result (λ w. resumed (checkpoint_in text.now) ≡ Some w) }
+{
+    let Some((checkpoint, scenario)) = read_checkpoint(alloc, text)? else {
+        return Err(ReplayFault::NoScenario(at));
+    };
+    let world = restored_world(alloc, checkpoint, &scenario, at)?;
+    Ok(world)
+}
+
+/// The world that a text leads to with which a file begins, at this offset: a scenario, or a checkpoint.
+pub(crate) fn world_begun(alloc: Global, text: &[u8], at: usize) -> Result<World, ReplayFault>
+    ensures { IfOk result (λ w. begun_with (scenario_in text.now) text.now ≡ Some w) }
+{
+    match read_scenario(alloc, text) {
+        Ok(scenario) => {
+            let world = begun_world(alloc, &scenario)?;
+            Ok(world)
+        }
+        Err(ReadError::OutOfMemory) => Err(ReplayFault::OutOfMemory),
+        Err(ReadError::Bad(_)) => {
+            let world = resumed_world(alloc, text, at)?;
+            Ok(world)
+        }
+    }
+}
+
+/// The world after the first record, which stands at this place.
+fn first_world(alloc: Global, bytes: &[u8], place: &(usize, usize)) -> Result<World, ReplayFault>
+    ensures { IfOk result (λ w. begun_with (scenario_in (take place.now.1 (drop place.now.0 bytes.now))) (take place.now.1 (drop place.now.0 bytes.now))
+        ≡ Some w) }
+{
+    let world = world_begun(alloc, record_at(bytes, place), place.0)?;
     Ok(world)
 }
 

@@ -1,11 +1,12 @@
 -- A code for each kind of tree: the numbers and pairs that it can be got back from. A node is its number among the
 -- constructors, then its four parts.
-use Rattle.std.specs.Prelude.{◌≡◌, refl, ℕ, zero, suc, pos, negsuc, List, [], ◌∷◌}
+use Rattle.std.specs.Prelude.{◌≡◌, refl, ℕ, zero, suc, pos, negsuc, List, [], ◌∷◌, Option, unwrap_or}
 use Rattle.std.specs.Coded.{Coded, code_by}
-use Rattle.std.proofs.Common.{ap}
+use Rattle.std.proofs.Common.{ap, ◌∙◌}
 use base.Stored.{Gv, gnil, gnum, gcons}
 use Rattle.stm_program.specs.declared.operator.Operator.{Operator}
-use Rattle.stm_program.specs.declared.operator.Operator.TheVariants.{Add, Sub, Mul, Div, Rem}
+use Rattle.stm_program.specs.declared.operator.Operator.TheVariants.{Add}
+use Rattle.stm_program.specs.Operators.{operator_word, operator_named, each_is_named}
 use Rattle.stm_program.specs.Syntax.{Expression, Text, Number, Variable, Get, Rev, Arithmetic, Cat, TextOf, NumOf, Condition, Equal, Less, Not, And, Or}
 use Rattle.stm_program.specs.Syntax.{Statement, Set, Put, Del, If, For, Emit, Abort, Block, End, Then, ProgramTree, of_statements}
 
@@ -57,12 +58,14 @@ decode_keys-encode (key ∷ keys) = λ i. decode_text-encode key i ∷ decode_ke
 
 -- ---- expressions
 
-abbrev pub operator_number : Operator → ℕ
-operator_number Add = 9
-operator_number Sub = 10
-operator_number Mul = 11
-operator_number Div = 12
-operator_number Rem = 13
+-- an operator is its word
+abbrev pub decode_operator : Gv → Operator
+decode_operator g = unwrap_or (operator_named (decode_text g)) Add
+
+pub decode_operator-encode : (o : Operator) → decode_operator (encode_text (operator_word o)) ≡ o
+decode_operator-encode o =
+    ap (λ (w : List ℕ). unwrap_or (operator_named w) Add) (decode_text-encode (operator_word o))
+    ∙ ap (λ (found : Option Operator). unwrap_or found Add) (each_is_named o)
 
 abbrev pub encode_expression : Expression → Gv
 encode_expression (Text s) = node 0 (encode_text s) gnil gnil gnil
@@ -74,7 +77,7 @@ encode_expression (Rev e) = node 5 (encode_expression e) gnil gnil gnil
 encode_expression (Cat l r) = node 6 (encode_expression l) (encode_expression r) gnil gnil
 encode_expression (TextOf e) = node 7 (encode_expression e) gnil gnil gnil
 encode_expression (NumOf e) = node 8 (encode_expression e) gnil gnil gnil
-encode_expression (Arithmetic o l r) = node (operator_number o) (encode_expression l) (encode_expression r) gnil gnil
+encode_expression (Arithmetic o l r) = node 9 (encode_expression l) (encode_expression r) (encode_text (operator_word o)) gnil
 
 abbrev pub decode_expression : Gv → Expression
 decode_expression (gcons (gnum t) (gcons a (gcons b (gcons c d)))) =
@@ -82,8 +85,7 @@ decode_expression (gcons (gnum t) (gcons a (gcons b (gcons c d)))) =
     let y = decode_expression b in
     alternative (Text [])
     (Text (decode_text a) ∷ Number (pos (number_in a)) ∷ Number (negsuc (number_in a)) ∷ Variable (number_in a)
-    ∷ Get x ∷ Rev x ∷ Cat x y ∷ TextOf x ∷ NumOf x
-    ∷ Arithmetic Add x y ∷ Arithmetic Sub x y ∷ Arithmetic Mul x y ∷ Arithmetic Div x y ∷ Arithmetic Rem x y ∷ []) t
+    ∷ Get x ∷ Rev x ∷ Cat x y ∷ TextOf x ∷ NumOf x ∷ Arithmetic (decode_operator c) x y ∷ []) t
 decode_expression _ = Text []
 
 pub decode_expression-encode : (e : Expression) → decode_expression (encode_expression e) ≡ e
@@ -96,11 +98,8 @@ decode_expression-encode (Rev e) = ap Rev (decode_expression-encode e)
 decode_expression-encode (Cat l r) = λ i. Cat (decode_expression-encode l i) (decode_expression-encode r i)
 decode_expression-encode (TextOf e) = ap TextOf (decode_expression-encode e)
 decode_expression-encode (NumOf e) = ap NumOf (decode_expression-encode e)
-decode_expression-encode (Arithmetic Add l r) = λ i. Arithmetic Add (decode_expression-encode l i) (decode_expression-encode r i)
-decode_expression-encode (Arithmetic Sub l r) = λ i. Arithmetic Sub (decode_expression-encode l i) (decode_expression-encode r i)
-decode_expression-encode (Arithmetic Mul l r) = λ i. Arithmetic Mul (decode_expression-encode l i) (decode_expression-encode r i)
-decode_expression-encode (Arithmetic Div l r) = λ i. Arithmetic Div (decode_expression-encode l i) (decode_expression-encode r i)
-decode_expression-encode (Arithmetic Rem l r) = λ i. Arithmetic Rem (decode_expression-encode l i) (decode_expression-encode r i)
+decode_expression-encode (Arithmetic o l r) =
+    λ i. Arithmetic (decode_operator-encode o i) (decode_expression-encode l i) (decode_expression-encode r i)
 
 abbrev pub coded_expression : Coded Expression
 coded_expression = code_by Gv coded_tree encode_expression decode_expression decode_expression-encode

@@ -1,4 +1,5 @@
 pub mod Syntax
+pub mod Operators
 pub mod Size
 pub mod Coding
 pub mod ExpressionView

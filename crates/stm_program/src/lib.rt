@@ -23,7 +23,7 @@ pub use limits::{
     MAX_DEPTH, MAX_LEASE, MAX_NODES, MAX_PREFETCH, MAX_TEXT, MAX_TURNS, MAX_VARIABLE, fits,
 };
 pub use list::{is_listed, list_fits};
-pub use operator::Operator;
+pub use operator::{OPERATORS, Operator};
 pub use program::Program;
 pub use statement::{Block, Stmt, StmtNode};
 // A write of a program is the change that it asks for.

@@ -1,5 +1,6 @@
 -- The marks by the table of words are those that are spelled out for each word.
-use Rattle.std.proofs.Common.{◌≡◌, ℕ, suc, List, [], ◌∷◌, ◌++◌, Bool, true, false, cond, Option, Some, None, refl, sym, ap, ◌∙◌, map, codes}
+use Rattle.std.proofs.Common.{◌≡◌, ℕ, suc, List, [], ◌∷◌, ◌++◌, Bool, true, false, cond, Option, Some, None, bytes_eq, refl, sym, ap, ◌∙◌, map, codes}
+use Rattle.std.specs.Map.{lookup}
 use Rattle.std.proofs.lemmas.List.{append-nil}
 use Rattle.serde_json.specs.Data.{Data, string, number, array, Items, no_items, item}
 use Rattle.stm_json.specs.declared.cause.Cause.TheVariants.{Shape}
@@ -9,16 +10,18 @@ use Rattle.stm_program_json.specs.declared.words.CondWord.{CondWord}
 use Rattle.stm_program_json.specs.declared.words.CondWord.TheVariants as condition
 use Rattle.stm_program_json.specs.declared.words.StmtWord.{StmtWord}
 use Rattle.stm_program_json.specs.declared.words.StmtWord.TheVariants as statement
-use Rattle.stm_program.specs.declared.operator.Operator.TheVariants.{Add, Sub, Mul, Div, Rem}
+use Rattle.stm_program.specs.declared.operator.Operator.{Operator}
+use Rattle.stm_program.specs.declared.operator.TheConstants.{OPERATORS}
+use Rattle.stm_program.specs.Operators.{operator_word, named_in}
 use Rattle.stm_program_json.specs.declared.words.Unary.TheVariants as unary
 use Rattle.stm_program_json.specs.declared.words.Binary.TheVariants as binary
 use Rattle.stm_program_json.specs.declared.words.Comparison.TheVariants as comparison
 use Rattle.stm_program_json.specs.declared.words.Connective.TheVariants as connective
 use Rattle.stm_program_json.specs.declared.words.Simple.TheVariants as simple
 use Rattle.stm_json.specs.Parts.{same}
-use Rattle.stm_program_json.specs.Words.{expression_word, condition_word, statement_word}
+use Rattle.stm_program_json.specs.Words.{operator_or, other_word, expression_word, condition_word, statement_word}
 use Rattle.stm_json.specs.Faults.{at}
-use Rattle.stm_program_json.specs.FirstFault.{Mark, Node, Sort, Value, Test, Step, Block, Count, wrong, number_marks, parts_after, marks_if, marks_in}
+use Rattle.stm_program_json.specs.FirstFault.{Table, other_value_words, Mark, Node, Sort, Value, Test, Step, Block, Count, wrong, number_marks, parts_after, marks_if, marks_in}
 use Rattle.stm_program_json.specs.FirstFault.{marks_of_parts, marks_of_steps}
 use Rattle.stm_program_json.proofs.ReaderMarks.{expression_of_one, expression_of_two, expression_inner, condition_of_one, condition_of_two, condition_inner}
 use Rattle.stm_program_json.proofs.ReaderMarks.{statement_of_one, statement_of_two, statement_of_three, statement_of_four, statement_inner, block_marks}
@@ -62,16 +65,24 @@ statement_parts (Some statement.If) = Some (Test ∷ Block ∷ Block ∷ [])
 statement_parts (Some statement.For) = Some (Count MAX_VARIABLE ∷ Value ∷ Count MAX_TURNS ∷ Block ∷ [])
 statement_parts (Some (statement.Simple s)) = Some (Value ∷ [])
 
+-- two values stand after the word of an operator, where another table says what stands after other words
+operators_table : (os : List Operator) (w : List ℕ) (others : Table) (other : Option ExprWord) → lookup (bytes_eq w) others ≡ expression_parts other
+    → lookup (bytes_eq w) (map (λ (o : Operator). (operator_word o, Value ∷ Value ∷ [])) os ++ others) ≡ expression_parts (operator_or other (named_in os w))
+operators_table [] w others other known = known
+operators_table (o ∷ os) w others other known =
+    tried (λ (found : Option Operator). expression_parts (operator_or other found)) (bytes_eq w (operator_word o)) (Some o) (named_in os w) _
+    (sym (operators_table os w others other known))
+
+others_table : (w : List ℕ) → lookup (bytes_eq w) other_value_words ≡ expression_parts (other_word w)
+others_table w =
+    picked expression_parts
+    (same w (codes "var") ∷ same w (codes "get") ∷ same w (codes "rev") ∷ same w (codes "text_of") ∷ same w (codes "num_of") ∷ same w (codes "cat") ∷ [])
+    (Some expression.Var ∷ Some (expression.Unary unary.Get) ∷ Some (expression.Unary unary.Rev)
+    ∷ Some (expression.Unary unary.TextOf) ∷ Some (expression.Unary unary.NumOf) ∷ Some (expression.Binary binary.Cat) ∷ []) None
+
 expression_table : (w : List ℕ) → parts_after Value w ≡ expression_parts (expression_word w)
 unfolding parts_after expression_word
-expression_table w =
-    picked expression_parts
-    (same w (codes "var") ∷ same w (codes "get") ∷ same w (codes "rev") ∷ same w (codes "text_of") ∷ same w (codes "num_of")
-    ∷ same w (codes "cat") ∷ same w (codes "add") ∷ same w (codes "sub") ∷ same w (codes "mul") ∷ same w (codes "div") ∷ same w (codes "rem") ∷ [])
-    (Some expression.Var ∷ Some (expression.Unary unary.Get) ∷ Some (expression.Unary unary.Rev)
-    ∷ Some (expression.Unary unary.TextOf) ∷ Some (expression.Unary unary.NumOf) ∷ Some (expression.Binary binary.Cat)
-    ∷ Some (expression.Binary (binary.Arithmetic Add)) ∷ Some (expression.Binary (binary.Arithmetic Sub)) ∷ Some (expression.Binary (binary.Arithmetic Mul))
-    ∷ Some (expression.Binary (binary.Arithmetic Div)) ∷ Some (expression.Binary (binary.Arithmetic Rem)) ∷ []) None
+expression_table w = operators_table OPERATORS w other_value_words (other_word w) (others_table w)
 
 condition_table : (w : List ℕ) → parts_after Test w ≡ condition_parts (condition_word w)
 unfolding parts_after condition_word

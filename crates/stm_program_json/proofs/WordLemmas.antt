@@ -1,11 +1,13 @@
 -- A word is found by its own text and by no other.
-use Rattle.std.proofs.Common.{◌≡◌, ℕ, List, Bool, true, false, cond, Option, Some, None, refl, ap, ◌∙◌, sym, codes}
+use Rattle.std.proofs.Common.{◌≡◌, ℕ, List, [], ◌∷◌, Bool, true, false, cond, Option, Some, None, refl, ap, ◌∙◌, sym, codes}
 use Rattle.std.proofs.lemmas.Slice.Eq.{bytes_eq-Decides}
 use Rattle.stm_program_json.specs.declared.words.ExprWord.{ExprWord}
 use Rattle.stm_program_json.specs.declared.words.ExprWord.TheVariants as expression
 use Rattle.stm_program_json.specs.declared.words.Unary.TheVariants as unary
 use Rattle.stm_program_json.specs.declared.words.Binary.TheVariants as binary
-use Rattle.stm_program.specs.declared.operator.Operator.TheVariants.{Add, Sub, Mul, Div, Rem}
+use Rattle.stm_program.specs.declared.operator.Operator.{Operator}
+use Rattle.stm_program.specs.declared.operator.TheConstants.{OPERATORS}
+use Rattle.stm_program.specs.Operators.{operator_word, named_in, each_is_named}
 use Rattle.stm_program_json.specs.declared.words.CondWord.{CondWord}
 use Rattle.stm_program_json.specs.declared.words.CondWord.TheVariants as condition
 use Rattle.stm_program_json.specs.declared.words.Comparison.TheVariants as comparison
@@ -14,7 +16,7 @@ use Rattle.stm_program_json.specs.declared.words.StmtWord.{StmtWord}
 use Rattle.stm_program_json.specs.declared.words.StmtWord.TheVariants as statement
 use Rattle.stm_program_json.specs.declared.words.Simple.TheVariants as simple
 use Rattle.stm_json.specs.Parts.{same}
-use Rattle.stm_program_json.specs.Words.{expression_word, condition_word, statement_word}
+use Rattle.stm_program_json.specs.Words.{operator_or, other_word, expression_word, condition_word, statement_word}
 use Rattle.stm_program_json.specs.WordTexts.{expression_text, condition_text, statement_text}
 
 -- the answer of one test, or of the tests after it
@@ -29,22 +31,34 @@ chosen : {W : Type 0} (text : W → List ℕ) (w t : List ℕ) (y x : W) (rest :
     → cond (same w t) (Some y) rest ≡ Some x → w ≡ text x
 chosen text w t y x rest named others h = chosen_by text w t (same w t) y x rest (bytes_eq-Decides w t).0 named others h
 
-pub expression_word-is : (w : List ℕ) (x : ExprWord) → expression_word w ≡ Some x → w ≡ expression_text x
-unfolding expression_word
-expression_word-is w x h =
+other_word-is : (w : List ℕ) (x : ExprWord) → other_word w ≡ Some x → w ≡ expression_text x
+other_word-is w x h =
     chosen expression_text w (codes "var") expression.Var x _ refl
     (chosen expression_text w (codes "get") (expression.Unary unary.Get) x _ refl
     (chosen expression_text w (codes "rev") (expression.Unary unary.Rev) x _ refl
     (chosen expression_text w (codes "text_of") (expression.Unary unary.TextOf) x _ refl
     (chosen expression_text w (codes "num_of") (expression.Unary unary.NumOf) x _ refl
     (chosen expression_text w (codes "cat") (expression.Binary binary.Cat) x _ refl
-    (chosen expression_text w (codes "add") (expression.Binary (binary.Arithmetic Add)) x _ refl
-    (chosen expression_text w (codes "sub") (expression.Binary (binary.Arithmetic Sub)) x _ refl
-    (chosen expression_text w (codes "mul") (expression.Binary (binary.Arithmetic Mul)) x _ refl
-    (chosen expression_text w (codes "div") (expression.Binary (binary.Arithmetic Div)) x _ refl
-    (chosen expression_text w (codes "rem") (expression.Binary (binary.Arithmetic Rem)) x _ refl
-    (λ (n : None ≡ Some x). cc)))))))))))
+    (λ (n : None ≡ Some x). cc))))))
     h
+
+-- the first of these that has the word, or what else it is
+mutual
+  operator_or-is : (os : List Operator) (w : List ℕ) (x : ExprWord) (other : Option ExprWord) → (other ≡ Some x → w ≡ expression_text x)
+      → operator_or other (named_in os w) ≡ Some x → w ≡ expression_text x
+  operator_or-is [] w x other others h = others h
+  operator_or-is (o ∷ os) w x other others h = by_test os w x other others o (same w (operator_word o)) (bytes_eq-Decides w (operator_word o)).0 h
+
+  by_test : (os : List Operator) (w : List ℕ) (x : ExprWord) (other : Option ExprWord) → (other ≡ Some x → w ≡ expression_text x)
+      → (o : Operator) (b : Bool) → (b ≡ true → w ≡ operator_word o) → operator_or other (cond b (Some o) (named_in os w)) ≡ Some x → w ≡ expression_text x
+  by_test os w x other others o true found h =
+      let e : expression.Binary (binary.Arithmetic o) ≡ x = cc in
+      found refl ∙ ap expression_text e
+  by_test os w x other others o false found h = operator_or-is os w x other others h
+
+pub expression_word-is : (w : List ℕ) (x : ExprWord) → expression_word w ≡ Some x → w ≡ expression_text x
+unfolding expression_word
+expression_word-is w x h = operator_or-is OPERATORS w x (other_word w) (other_word-is w x) h
 
 pub condition_word-is : (w : List ℕ) (x : CondWord) → condition_word w ≡ Some x → w ≡ condition_text x
 unfolding condition_word
@@ -78,11 +92,8 @@ expression_word-text (expression.Unary unary.Rev) = refl
 expression_word-text (expression.Unary unary.TextOf) = refl
 expression_word-text (expression.Unary unary.NumOf) = refl
 expression_word-text (expression.Binary binary.Cat) = refl
-expression_word-text (expression.Binary (binary.Arithmetic Add)) = refl
-expression_word-text (expression.Binary (binary.Arithmetic Sub)) = refl
-expression_word-text (expression.Binary (binary.Arithmetic Mul)) = refl
-expression_word-text (expression.Binary (binary.Arithmetic Div)) = refl
-expression_word-text (expression.Binary (binary.Arithmetic Rem)) = refl
+expression_word-text (expression.Binary (binary.Arithmetic o)) =
+    ap (λ (found : Option Operator). operator_or (other_word (operator_word o)) found) (each_is_named o)
 
 pub condition_word-text : (x : CondWord) → condition_word (condition_text x) ≡ Some x
 unfolding condition_word

@@ -1,6 +1,6 @@
 -- The first fault of data in a program's place, apart from reading: the marks of all the data in the order of reading, none
 -- left out after a fault, and then the first of them that is a fault.
-use Rattle.std.specs.Prelude.{ℕ, zero, suc, ℤ, pos, negsuc, Bool, true, false, bytes_eq, List, [], ◌∷◌, ◌++◌, length, Option, Some, None, nat_le}
+use Rattle.std.specs.Prelude.{ℕ, zero, suc, ℤ, pos, negsuc, Bool, true, false, bytes_eq, List, [], ◌∷◌, ◌++◌, length, map, Option, Some, None, nat_le}
 use Rattle.std.specs.Prelude.{if◌then◌else◌, option_and_then, codes, ◌||◌, nat_eq, nat_lt}
 use Rattle.std.specs.List.{list_any}
 use Rattle.std.specs.Map.{lookup}
@@ -9,6 +9,9 @@ use Rattle.serde_json.specs.Find.{as_number, as_integer}
 use Rattle.stm_json.specs.declared.cause.Cause.{Cause}
 use Rattle.stm_json.specs.declared.cause.Cause.TheVariants.{Shape, Range, TooDeep, TooManyNodes, TooLong, TooMany}
 use Rattle.stm_json.specs.declared.read_error.BadInput.{BadInput}
+use Rattle.stm_program.specs.declared.operator.Operator.{Operator}
+use Rattle.stm_program.specs.declared.operator.TheConstants.{OPERATORS}
+use Rattle.stm_program.specs.Operators.{operator_word}
 use Rattle.stm_program.specs.declared.limits.TheConstants.{MAX_DEPTH, MAX_NODES, MAX_PREFETCH, MAX_TEXT, MAX_TURNS, MAX_VARIABLE, MAX_LEASE}
 use Rattle.stm_json.specs.Elements.{is_64_bit}
 use Rattle.stm_json.specs.Faults.{at}
@@ -50,13 +53,15 @@ pub data Sort : Type 0 where
 abbrev pub Table : Type 0
 Table = List (List ℕ × List Sort)
 
-abbrev pub value_words : Table
-value_words =
+abbrev pub other_value_words : Table
+other_value_words =
     (codes "var", Count MAX_VARIABLE ∷ [])
     ∷ (codes "get", Value ∷ []) ∷ (codes "rev", Value ∷ []) ∷ (codes "text_of", Value ∷ []) ∷ (codes "num_of", Value ∷ [])
-    ∷ (codes "cat", Value ∷ Value ∷ [])
-    ∷ (codes "add", Value ∷ Value ∷ []) ∷ (codes "sub", Value ∷ Value ∷ []) ∷ (codes "mul", Value ∷ Value ∷ [])
-    ∷ (codes "div", Value ∷ Value ∷ []) ∷ (codes "rem", Value ∷ Value ∷ []) ∷ []
+    ∷ (codes "cat", Value ∷ Value ∷ []) ∷ []
+
+-- those of operators on two numbers, and others
+abbrev pub value_words : Table
+value_words = map (λ (o : Operator). (operator_word o, Value ∷ Value ∷ [])) OPERATORS ++ other_value_words
 
 abbrev pub test_words : Table
 test_words =

@@ -2,18 +2,10 @@
 use Rattle.std.specs.Prelude.{◌≡◌, ◌⊎◌, ℕ, pos, List, [], ◌∷◌, codes}
 use Rattle.serde_json.specs.Data.{Data, string, array, Items, no_items, item}
 use Rattle.stm_json.specs.Elements.{SpellsNumber}
-use Rattle.stm_program.specs.declared.operator.Operator.{Operator}
-use Rattle.stm_program.specs.declared.operator.Operator.TheVariants.{Add, Sub, Mul, Div, Rem}
+use Rattle.stm_program.specs.Operators.{operator_word}
 use Rattle.stm_program.specs.Syntax.{Expression, Text, Number, Variable, Get, Rev, Arithmetic, Cat, TextOf, NumOf, Condition, Equal, Less, Not, And, Or}
 use Rattle.stm_program.specs.Syntax.{Statement, Set, Put, Del, If, For, Emit, Abort, Block, End, Then, ProgramTree}
 use Rattle.stm_json.specs.Parts.{spelled}
-
-abbrev pub operator_text : Operator → List ℕ
-operator_text Add = codes "add"
-operator_text Sub = codes "sub"
-operator_text Mul = codes "mul"
-operator_text Div = codes "div"
-operator_text Rem = codes "rem"
 
 abbrev pub SpellsExpression : Data → Expression → Type 0
 SpellsExpression d (Text s) = d ≡ string s
@@ -21,7 +13,7 @@ SpellsExpression d (Number z) = SpellsNumber d z
 SpellsExpression d (Variable v) = (a : Data) × (d ≡ spelled (codes "var") (a ∷ [])) × SpellsNumber a (pos v)
 SpellsExpression d (Get e) = (a : Data) × (d ≡ spelled (codes "get") (a ∷ [])) × SpellsExpression a e
 SpellsExpression d (Rev e) = (a : Data) × (d ≡ spelled (codes "rev") (a ∷ [])) × SpellsExpression a e
-SpellsExpression d (Arithmetic o l r) = (a : Data) × (b : Data) × (d ≡ spelled (operator_text o) (a ∷ b ∷ [])) × SpellsExpression a l × SpellsExpression b r
+SpellsExpression d (Arithmetic o l r) = (a : Data) × (b : Data) × (d ≡ spelled (operator_word o) (a ∷ b ∷ [])) × SpellsExpression a l × SpellsExpression b r
 SpellsExpression d (Cat l r) = (a : Data) × (b : Data) × (d ≡ spelled (codes "cat") (a ∷ b ∷ [])) × SpellsExpression a l × SpellsExpression b r
 SpellsExpression d (TextOf e) = (a : Data) × (d ≡ spelled (codes "text_of") (a ∷ [])) × SpellsExpression a e
 SpellsExpression d (NumOf e) = (a : Data) × (d ≡ spelled (codes "num_of") (a ∷ [])) × SpellsExpression a e

@@ -16,7 +16,7 @@ use Rattle.stm_program_json.specs.declared.words.StmtWord.{StmtWord}
 use Rattle.stm_program_json.specs.declared.words.StmtWord.TheVariants as statement
 use Rattle.stm_program_json.specs.declared.words.Simple.{Simple}
 use Rattle.stm_program_json.specs.declared.words.Simple.TheVariants as simple
-use Rattle.stm_program_json.specs.Grammar.{operator_text}
+use Rattle.stm_program.specs.Operators.{operator_word}
 
 abbrev pub unary_text : Unary → List ℕ
 unary_text unary.Get = codes "get"
@@ -25,7 +25,7 @@ unary_text unary.TextOf = codes "text_of"
 unary_text unary.NumOf = codes "num_of"
 
 abbrev pub binary_text : Binary → List ℕ
-binary_text (binary.Arithmetic o) = operator_text o
+binary_text (binary.Arithmetic o) = operator_word o
 binary_text binary.Cat = codes "cat"
 
 abbrev pub expression_text : ExprWord → List ℕ

@@ -1,6 +1,7 @@
 -- The words that an expression, a condition and a statement begin with.
 use Rattle.std.specs.Prelude.{ℕ, List, Option, Some, None, if◌then◌else◌, codes}
-use Rattle.stm_program.specs.declared.operator.Operator.TheVariants.{Add, Sub, Mul, Div, Rem}
+use Rattle.stm_program.specs.declared.operator.Operator.{Operator}
+use Rattle.stm_program.specs.Operators.{operator_named}
 use Rattle.stm_program_json.specs.declared.words.ExprWord.{ExprWord}
 use Rattle.stm_program_json.specs.declared.words.ExprWord.TheVariants as expression
 use Rattle.stm_program_json.specs.declared.words.Unary.TheVariants as unary
@@ -14,20 +15,24 @@ use Rattle.stm_program_json.specs.declared.words.StmtWord.TheVariants as stateme
 use Rattle.stm_program_json.specs.declared.words.Simple.TheVariants as simple
 use Rattle.stm_json.specs.Parts.{same}
 
-unfoldable pub expression_word : List ℕ → Option ExprWord
-expression_word w =
+-- an operator on two numbers, where one was found, or what else it is
+abbrev pub operator_or : Option ExprWord → Option Operator → Option ExprWord
+operator_or other None = other
+operator_or other (Some o) = Some (expression.Binary (binary.Arithmetic o))
+
+-- the words of other expressions
+abbrev pub other_word : List ℕ → Option ExprWord
+other_word w =
     if same w (codes "var") then Some expression.Var
     else (if same w (codes "get") then Some (expression.Unary unary.Get)
     else (if same w (codes "rev") then Some (expression.Unary unary.Rev)
     else (if same w (codes "text_of") then Some (expression.Unary unary.TextOf)
     else (if same w (codes "num_of") then Some (expression.Unary unary.NumOf)
     else (if same w (codes "cat") then Some (expression.Binary binary.Cat)
-    else (if same w (codes "add") then Some (expression.Binary (binary.Arithmetic Add))
-    else (if same w (codes "sub") then Some (expression.Binary (binary.Arithmetic Sub))
-    else (if same w (codes "mul") then Some (expression.Binary (binary.Arithmetic Mul))
-    else (if same w (codes "div") then Some (expression.Binary (binary.Arithmetic Div))
-    else (if same w (codes "rem") then Some (expression.Binary (binary.Arithmetic Rem))
-    else None))))))))))
+    else None)))))
+
+unfoldable pub expression_word : List ℕ → Option ExprWord
+expression_word w = operator_or (other_word w) (operator_named w)
 
 unfoldable pub condition_word : List ℕ → Option CondWord
 condition_word w =

@@ -5,7 +5,7 @@ use Rattle.serde_json.specs.Find.{of_integer}
 use Rattle.stm_program.specs.Syntax.{Expression, Text, Number, Variable, Get, Rev, Arithmetic, Cat, TextOf, NumOf, Condition, Equal, Less, Not, And, Or}
 use Rattle.stm_program.specs.Syntax.{Statement, Set, Put, Del, If, For, Emit, Abort, Block, End, Then, ProgramTree}
 use Rattle.stm_json.specs.Parts.{spelled}
-use Rattle.stm_program_json.specs.Grammar.{operator_text}
+use Rattle.stm_program.specs.Operators.{operator_word}
 
 abbrev pub written_number : ℕ → Data
 written_number n = number (unsigned n)
@@ -16,7 +16,7 @@ written_expression (Number z) = number (of_integer z)
 written_expression (Variable v) = spelled (codes "var") (written_number v ∷ [])
 written_expression (Get e) = spelled (codes "get") (written_expression e ∷ [])
 written_expression (Rev e) = spelled (codes "rev") (written_expression e ∷ [])
-written_expression (Arithmetic o l r) = spelled (operator_text o) (written_expression l ∷ written_expression r ∷ [])
+written_expression (Arithmetic o l r) = spelled (operator_word o) (written_expression l ∷ written_expression r ∷ [])
 written_expression (Cat l r) = spelled (codes "cat") (written_expression l ∷ written_expression r ∷ [])
 written_expression (TextOf e) = spelled (codes "text_of") (written_expression e ∷ [])
 written_expression (NumOf e) = spelled (codes "num_of") (written_expression e ∷ [])

@@ -1,7 +1,6 @@
 //! The words that programs are spelled with.
-ghost use Rattle.std.specs.Prelude.{◌≡◌, codes, Some, None, if◌then◌else◌};
-ghost use Rattle.stm_json.specs.Parts.{same};
-ghost use Rattle.stm_program_json.specs.Words.{expression_word, condition_word, statement_word};
+ghost use Rattle.std.specs.Prelude.{◌≡◌};
+ghost use Rattle.stm_program_json.specs.Words.{expression_word, other_word, condition_word, statement_word};
 
 use stm_program::Operator;
 
@@ -21,7 +20,7 @@ pub enum Unary {
 /// An expression of two parts.
 #[derive(Clone, Copy, Debug, PartialEq, Eq)]
 pub enum Binary {
-    /// `add`, `sub`, `mul`, `div` and `rem`
+    /// The word of an operator on two numbers.
     Arithmetic(Operator),
     /// `cat`
     Cat,
@@ -93,10 +92,9 @@ pub enum StmtWord {
     Simple(Simple),
 }
 
-/// The expression that begins with a word, if there is one.
-#[tactic(auto, unfolding(crate::specs::Words::expression_word))]
-pub(crate) fn expression_word_of(word: &str) -> Option<ExprWord>
-    ensures { result ≡ expression_word word.now }
+/// The expression that is no operator on two numbers and begins with a word, if there is one.
+fn other_word_of(word: &str) -> Option<ExprWord>
+    ensures { result ≡ other_word word.now }
 {
     if word == "var" {
         Some(ExprWord::Var)
@@ -108,36 +106,21 @@ pub(crate) fn expression_word_of(word: &str) -> Option<ExprWord>
         Some(ExprWord::Unary(Unary::TextOf))
     } else if word == "num_of" {
         Some(ExprWord::Unary(Unary::NumOf))
+    } else if word == "cat" {
+        Some(ExprWord::Binary(Binary::Cat))
     } else {
-        binary_word_of(word)
+        None
     }
 }
 
-/// The expression of two parts that begins with a word, if there is one.
-fn binary_word_of(word: &str) -> Option<ExprWord>
-    ensures { result ≡
-        (if same word.now (codes "cat") then Some (ExprWord.Binary Binary.Cat)
-        else (if same word.now (codes "add") then Some (ExprWord.Binary (Binary.Arithmetic Operator.Add))
-        else (if same word.now (codes "sub") then Some (ExprWord.Binary (Binary.Arithmetic Operator.Sub))
-        else (if same word.now (codes "mul") then Some (ExprWord.Binary (Binary.Arithmetic Operator.Mul))
-        else (if same word.now (codes "div") then Some (ExprWord.Binary (Binary.Arithmetic Operator.Div))
-        else (if same word.now (codes "rem") then Some (ExprWord.Binary (Binary.Arithmetic Operator.Rem))
-        else None)))))) }
+/// The expression that begins with a word, if there is one.
+#[tactic(auto, unfolding(crate::specs::Words::expression_word))]
+pub(crate) fn expression_word_of(word: &str) -> Option<ExprWord>
+    ensures { result ≡ expression_word word.now }
 {
-    if word == "cat" {
-        Some(ExprWord::Binary(Binary::Cat))
-    } else if word == "add" {
-        Some(ExprWord::Binary(Binary::Arithmetic(Operator::Add)))
-    } else if word == "sub" {
-        Some(ExprWord::Binary(Binary::Arithmetic(Operator::Sub)))
-    } else if word == "mul" {
-        Some(ExprWord::Binary(Binary::Arithmetic(Operator::Mul)))
-    } else if word == "div" {
-        Some(ExprWord::Binary(Binary::Arithmetic(Operator::Div)))
-    } else if word == "rem" {
-        Some(ExprWord::Binary(Binary::Arithmetic(Operator::Rem)))
-    } else {
-        None
+    match Operator::named(word) {
+        Some(operator) => Some(ExprWord::Binary(Binary::Arithmetic(operator))),
+        None => other_word_of(word),
     }
 }
 

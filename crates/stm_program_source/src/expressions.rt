@@ -1,11 +1,11 @@
 //! Expressions.
 ghost use Rattle.std.specs.Prelude.{◌≡◌, ◌++◌, OnOk, string_bytes};
 ghost use Rattle.stm_program_source.specs.Texts.{call, bracketed};
-ghost use Rattle.stm_program_source.specs.Expressions.{sign, rank, rank_of, operation, variable_name, shown_expression};
+ghost use Rattle.stm_program_source.specs.Expressions.{rank_of, operation, variable_name, shown_expression};
 
 use crate::text::{push_number, push_quoted, push_signed};
 use std::alloc::{AllocError, Global};
-use stm_program::{Expr, ExprNode, Operator, Variable};
+use stm_program::{Expr, ExprNode, Variable};
 
 /// How tightly `++` binds: less than any other operator.
 const CAT: u8 = 1;
@@ -13,36 +13,13 @@ const CAT: u8 = 1;
 /// How tightly what is no operator binds.
 const OPERAND: u8 = 4;
 
-/// The sign of an operator, between spaces.
-fn sign(operator: Operator) -> &'static str
-    ensures { result.now ≡ sign operator }
-{
-    match operator {
-        Operator::Add => " + ",
-        Operator::Sub => " - ",
-        Operator::Mul => " * ",
-        Operator::Div => " / ",
-        Operator::Rem => " % ",
-    }
-}
-
-/// How tightly an operator binds.
-fn rank(operator: Operator) -> u8
-    ensures { result ≡ rank operator }
-{
-    match operator {
-        Operator::Add | Operator::Sub => 2,
-        Operator::Mul | Operator::Div | Operator::Rem => 3,
-    }
-}
-
 /// How tightly an expression binds.
 fn rank_of(expression: &Expr) -> u8
     ensures { result ≡ rank_of expression.now }
 {
     match &expression.node {
         ExprNode::Cat(_, _) => CAT,
-        ExprNode::Arithmetic(operator, _, _) => rank(*operator),
+        ExprNode::Arithmetic(operator, _, _) => operator.rank(),
         ExprNode::Text(_)
         | ExprNode::Number(_)
         | ExprNode::Variable(_)
@@ -101,15 +78,17 @@ fn push_operation(
     alloc: Global,
     out: &mut String,
     own: u8,
-    between: &str,
+    sign: &str,
     left: &Expr,
     right: &Expr,
 ) -> Result<(), AllocError>
     ensures { OnOk result (string_bytes out.new ≡ string_bytes out.old
-        ++ operation own between.now left.now (shown_expression left.now) right.now (shown_expression right.now)) }
+        ++ operation own sign.now left.now (shown_expression left.now) right.now (shown_expression right.now)) }
 {
     push_operand(alloc, out, left, rank_of(left) < own)?;
-    out.push_str(between)?;
+    out.push(' ')?;
+    out.push_str(sign)?;
+    out.push(' ')?;
     push_operand(alloc, out, right, rank_of(right) <= own)
 }
 
@@ -130,9 +109,9 @@ pub(crate) fn push_expression(
         ExprNode::Rev(key) => push_call(alloc, out, "rev", key),
         ExprNode::TextOf(number) => push_call(alloc, out, "text_of", number),
         ExprNode::NumOf(text) => push_call(alloc, out, "num_of", text),
-        ExprNode::Cat(left, right) => push_operation(alloc, out, CAT, " ++ ", left, right),
+        ExprNode::Cat(left, right) => push_operation(alloc, out, CAT, "++", left, right),
         ExprNode::Arithmetic(operator, left, right) => {
-            push_operation(alloc, out, rank(*operator), sign(*operator), left, right)
+            push_operation(alloc, out, operator.rank(), operator.sign(), left, right)
         }
     }
 }

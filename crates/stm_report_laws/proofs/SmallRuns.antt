@@ -2,13 +2,11 @@
 use Rattle.std.proofs.Common.{◌≡◌, ℕ, zero, suc, ◌+◌, ◌^◌, ◌<◌, ◌≤◌, Bool, true, false, cond, not, List, [], ◌∷◌, ◌++◌, ℤ, pos, negsuc, refl}
 use Rattle.std.proofs.Common.{subst, arith, length, Option, Some, None, Result, Ok, Err, lt-ltb}
 use Rattle.std.proofs.lemmas.Bool.{ltb-true, leb-true}
-use Rattle.std.proofs.lemmas.Int.{rem_below}
-use Rattle.std.specs.Prelude.{nat_eq, nat_lt, nat_le, slice_set, slice_index_or, neg_ℤ, ◌+ℤ◌, ◌-ℤ◌, ◌*ℤ◌, int_rem, int_div, unsigned_abs}
+use Rattle.std.specs.Prelude.{nat_eq, nat_lt, nat_le, slice_set, slice_index_or, neg_ℤ}
 use Rattle.std.specs.List.{AllByRecursion}
 use Rattle.std.specs.Str.Parse.{digits_value}
 use Rattle.stm_history.specs.declared.revisions.TheConstants.{HIGHEST_NUMBER}
 use Rattle.stm_program.specs.declared.operator.Operator.{Operator}
-use Rattle.stm_program.specs.declared.operator.Operator.TheVariants.{Add, Sub, Mul, Div, Rem}
 use Rattle.stm_program.specs.Syntax.{Expression, Condition, Statement, Block, Text, Number, Variable, Get, Rev, Arithmetic, Cat, TextOf, NumOf, Equal}
 use Rattle.stm_program.specs.Syntax.{Less, Not, And, Or, Set, Put, Del, If, For, Emit, Abort, End, Then}
 use Rattle.stm_program.specs.Limits.{ExpressionInRange, ConditionInRange, StatementInRange, BlockInRange}
@@ -20,13 +18,13 @@ use Rattle.stm_steps.specs.declared.value.Value.TheVariants.{Text as TextValue, 
 use Rattle.stm_steps.specs.declared.trace_item.TraceItem.{TraceItem}
 use Rattle.stm_steps.specs.declared.trace_item.TraceItem.TheVariants.{Get as GetItem, Rev as RevItem}
 use Rattle.stm_steps.specs.declared.fault.Fault.{Fault}
-use Rattle.stm_steps.specs.declared.fault.Fault.TheVariants.{TurnLimit, Overflow, ZeroDivisor, NotANumber, TextTooLong, LoopTooLong}
+use Rattle.stm_steps.specs.declared.fault.Fault.TheVariants.{TurnLimit, Overflow, NotANumber, TextTooLong, LoopTooLong}
 use Rattle.stm_steps.specs.declared.stop.Stop.TheVariants.{Aborted, Faulted, Wants}
 use Rattle.stm_steps.specs.declared.run.End.TheVariants.{Done, Aborted as EndAborted, Faulted as EndFaulted}
 use Rattle.stm_steps.specs.declared.run.Run.{Run}
 use Rattle.stm_steps.specs.declared.run.Answered.TheVariants.{Ended}
 use Rattle.stm_steps.specs.Answer.{Answer, Lookup}
-use Rattle.stm_steps.specs.Values.{text_in, key_in, is_in_range, number_or, is_zero, computed, as_number, arithmetic, longest_text, concatenated}
+use Rattle.stm_steps.specs.Values.{text_in, key_in, is_in_range, number_or, given_by, in_range_of, computed, as_number, arithmetic, longest_text, concatenated}
 use Rattle.stm_steps.specs.Values.{text_of, is_numeral, signed_number, written_number, num_of, equal, less, put_of, del_of, turns_of}
 use Rattle.stm_steps.specs.Session.{Session, fresh, with_variable, with_output, with_write, with_turn}
 use Rattle.stm_steps.specs.Outcome.{Outcome, Gives, Stops, and_then, given, turn_limit, begin_turn}
@@ -91,48 +89,15 @@ number_by fault z false is = tt
 number_fits : (fault : Fault) (z : ℤ) → ResultFits ValueFits (as_number (number_or fault z))
 number_fits fault z = number_by fault z (is_in_range z) refl
 
-few_fit : (z : ℤ) → unsigned_abs z < 2 ^ 63 → is_in_range z ≡ true
-few_fit (pos n) few = lt-ltb n (2 ^ 63) few
-few_fit (negsuc n) few = lt-ltb n (2 ^ 63) (omega (arith, few))
+result_fits : (r : Result ℤ Fault) → ResultFits ValueFits (as_number (in_range_of r))
+result_fits (Ok z) = number_fits Overflow z
+result_fits (Err fault) = tt
 
-few_at_most : (z : ℤ) → is_in_range z ≡ true → unsigned_abs z ≤ 2 ^ 63
-few_at_most (pos n) fits = let few : n < 2 ^ 63 = ltb-true n (2 ^ 63) fits in omega (arith, few)
-few_at_most (negsuc n) fits = let few : n < 2 ^ 63 = ltb-true n (2 ^ 63) fits in omega (arith, few)
-
-some_divisor : (z : ℤ) → is_zero z ≡ false → 0 < unsigned_abs z
-some_divisor (pos zero) is = absurd (cc)
-some_divisor (pos (suc n)) is = omega arith
-some_divisor (negsuc n) is = omega arith
-
-remainder_fits : (a b : ℤ) → is_zero b ≡ false → is_in_range b ≡ true → is_in_range (int_rem a b) ≡ true
-remainder_fits a b some fits =
-    let below : unsigned_abs (int_rem a b) < unsigned_abs b = rem_below a b (some_divisor b some) in
-    let few : unsigned_abs b ≤ 2 ^ 63 = few_at_most b fits in
-    few_fit (int_rem a b) (omega (arith, below, few))
-
-remainder_by : (a b : ℤ) (zero_one fitting : Bool) → is_zero b ≡ zero_one → is_in_range b ≡ true →
-    ResultFits ValueFits (as_number (cond zero_one (Err ZeroDivisor) (cond fitting (Ok (int_rem a b)) (Err Overflow))))
-remainder_by a b true fitting is fits = tt
-remainder_by a b false true is fits = remainder_fits a b is fits
-remainder_by a b false false is fits = tt
-
-quotient_by : (a b : ℤ) (zero_one : Bool) → ResultFits ValueFits (as_number (cond zero_one (Err ZeroDivisor) (number_or Overflow (int_div a b))))
-quotient_by a b true = tt
-quotient_by a b false = number_fits Overflow (int_div a b)
-
-computed_fits : (operator : Operator) (a b : ℤ) → is_in_range b ≡ true → ResultFits ValueFits (as_number (computed operator a b))
-unfolding computed
-computed_fits Add a b fits = number_fits Overflow (a +ℤ b)
-computed_fits Sub a b fits = number_fits Overflow (a -ℤ b)
-computed_fits Mul a b fits = number_fits Overflow (a *ℤ b)
-computed_fits Div a b fits = quotient_by a b (is_zero b)
-computed_fits Rem a b fits = remainder_by a b (is_zero b) (is_in_range (int_div a b)) refl fits
-
-arithmetic_fits : (operator : Operator) (x y : Value) → ValueFits y → ResultFits ValueFits (arithmetic operator x y)
-unfolding arithmetic
-arithmetic_fits operator (NumberValue a) (NumberValue b) fits = computed_fits operator a b fits
-arithmetic_fits operator (NumberValue a) (TextValue u) fits = tt
-arithmetic_fits operator (TextValue t) y fits = tt
+arithmetic_fits : (operator : Operator) (x y : Value) → ResultFits ValueFits (arithmetic operator x y)
+unfolding arithmetic computed
+arithmetic_fits operator (NumberValue a) (NumberValue b) = result_fits (given_by operator a b)
+arithmetic_fits operator (NumberValue a) (TextValue u) = tt
+arithmetic_fits operator (TextValue t) y = tt
 
 joined_by : (t : List ℕ) (b : Bool) → ResultFits ValueFits (cond b (Ok (TextValue t)) (Err TextTooLong))
 joined_by t true = tt
@@ -260,7 +225,7 @@ module _ (look : Lookup) (known : (key : List ℕ) (a : Answer) → look key ≡
       then_fits ValueFits ValueFits (evaluate look e s) (λ x t. and_then (evaluate look f t) (λ y. given (arithmetic operator x y)))
       (evaluate_fits e within.0 s fits)
       (λ x t _ h. then_fits ValueFits ValueFits (evaluate look f t) (λ y. given (arithmetic operator x y)) (evaluate_fits f within.1 t h)
-      (λ y u one k. given_fits ValueFits (arithmetic operator x y) u (arithmetic_fits operator x y one) k))
+      (λ y u _ k. given_fits ValueFits (arithmetic operator x y) u (arithmetic_fits operator x y) k))
   evaluate_fits (Cat e f) within s fits =
       then_fits ValueFits ValueFits (evaluate look e s) (λ x t. and_then (evaluate look f t) (λ y. given (concatenated x y)))
       (evaluate_fits e within.0 s fits)

@@ -8,7 +8,7 @@ use Rattle.stm_terms.specs.declared.arguments.Argument.TheVariants as argument
 use Rattle.stm_terms.specs.declared.faults.SourceCause.TheVariants as cause
 use Rattle.stm_terms.specs.declared.kinds.Kind.TheVariants.{Either}
 use Rattle.stm_terms.specs.declared.kinds.Valued.{Valued}
-use Rattle.stm_terms.specs.declared.limits.TheConstants.{MOST_BRACKETS}
+use Rattle.stm_terms.specs.declared.limits.TheConstants.{MOST_BRACKETS, MOST_KEPT}
 use Rattle.stm_terms.specs.declared.constants.Constant.{Constant}
 use Rattle.stm_terms.specs.declared.constants.Constant.TheVariants as constant
 use Rattle.stm_terms.specs.declared.constants.Constants.{Constants}
@@ -33,6 +33,7 @@ outside constants at = record {
   looks_at_kinds = true;
   kinds_at = None;
   program = at;
+  room = MOST_KEPT;
   items = [];
   arguments = no_arguments;
   constants = constants;
@@ -79,7 +80,7 @@ alone _ = None
 abbrev pub if_flat : Scope → Valued → Option ℕ → Outcome Constant
 if_flat scope x (Some at) = bad at cause.Syntax
 if_flat scope x None =
-    has_room scope x.expression >>= λ u. Ok (constant.Value (record { parameters = length scope.names; value = x }))
+    has_room scope x >>= λ u. Ok (constant.Value (record { parameters = length scope.names; value = x }))
 
 abbrev pub value_defined : Scope → Valued → Outcome Constant
 value_defined scope x = if_flat scope x (else_within x.look_ups)

@@ -21,6 +21,7 @@ use Rattle.stm_source.specs.declared.definitions.Meaning.{Meaning}
 use Rattle.stm_source.specs.declared.definitions.Meaning.TheVariants.{Program, Rule}
 use Rattle.stm_source.specs.declared.definitions.Definitions.{Definitions}
 use Rattle.stm_source.specs.declared.programs.Look.{Look}
+use Rattle.stm_source.specs.Bulk.{program_bulk}
 use Rattle.stm_source.specs.Programs.{parts_at, program_at, program_of}
 
 -- ---- arguments
@@ -113,12 +114,19 @@ definition_at constants at parameters takes_list body =
 abbrev pub with_meaning : Definitions → List ℕ → Meaning → Definitions
 with_meaning definitions name m = record definitions { names = definitions.names ++ name ∷ []; meanings = definitions.meanings ++ m ∷ [] }
 
+-- one more program, whose name begins at a byte
+abbrev pub with_program : Definitions → ℕ → List ℕ → Definition → Outcome Definitions
+with_program definitions at name d =
+    if nat_eq (definitions.room - program_bulk d.program) 0 then bad at cause.TooManyNodes
+    else Ok (record (with_meaning definitions name (Program d)) { room = definitions.room - program_bulk d.program })
+
 -- behind its word; programs and rules share their names
 abbrev pub define_at : Definitions → List Token → Outcome (Definitions × List Token)
 define_at definitions tokens =
     free_name_at definitions.names definitions.constants tokens >>= λ name.
     parameters_at definitions.constants name.1 >>= λ parameters.
-    definition_at definitions.constants (place tokens) parameters.0 parameters.1 parameters.2 >>= λ d. Ok (with_meaning definitions name.0 (Program d.0), d.1)
+    definition_at definitions.constants (place tokens) parameters.0 parameters.1 parameters.2 >>= λ d.
+    with_program definitions (place tokens) name.0 d.0 >>= λ all. Ok (all, d.1)
 
 -- ---- starts by a name
 

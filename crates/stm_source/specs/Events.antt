@@ -3,6 +3,7 @@ use Rattle.std.specs.Prelude.{ℕ, zero, suc, ◌+◌, ◌-◌, List, [], ◌∷
 use Rattle.std.specs.List.{list_any, position}
 use Rattle.stm_tokens.specs.declared.token.Token.{Token}
 use Rattle.stm_tokens.specs.declared.token.Symbol.TheVariants as symbol
+use Rattle.stm_program.specs.declared.operator.Operator.TheVariants.{Mul}
 use Rattle.stm_history.specs.declared.revisions.TheConstants.{HIGHEST_NUMBER, HIGHEST_REVISION}
 use Rattle.stm_outcome.specs.Terms.{most_operations}
 use Rattle.stm_program.specs.Syntax.{ProgramTree}
@@ -134,7 +135,7 @@ times_by tokens None = Ok (1, tokens)
 times_by tokens (Some rest) = plain_number HIGHEST_NUMBER rest
 
 abbrev pub times_at : List Token → Read ℕ
-times_at tokens = times_by tokens (after_symbol symbol.Multiply tokens)
+times_at tokens = times_by tokens (after_symbol (symbol.Arithmetic Mul) tokens)
 
 -- so many steps of a runner, which is named at a byte
 abbrev pub stepped : Story → ℕ → ℕ → Read ℕ → Outcome (Story × List Token)

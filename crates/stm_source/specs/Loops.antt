@@ -3,6 +3,7 @@ use Rattle.std.specs.Prelude.{ℕ, pos, negsuc, List, length, Bool, true, not, �
 use Rattle.std.specs.Prelude.{nat_eq, nat_le, if◌then◌else◌, codes}
 use Rattle.stm_tokens.specs.declared.token.Token.{Token}
 use Rattle.stm_tokens.specs.declared.token.Symbol.TheVariants as symbol
+use Rattle.stm_program.specs.declared.operator.Operator.TheVariants.{Sub}
 use Rattle.stm_program.specs.declared.limits.TheConstants.{MAX_DEPTH, MAX_TURNS}
 use Rattle.stm_program.specs.Syntax.{Expression, Number, Block, End, Then}
 use Rattle.stm_terms.specs.declared.arguments.Argument.{Argument}
@@ -78,7 +79,7 @@ after_zero tokens = dots_behind (next_number tokens)
 
 abbrev pub begins_item : List Token → Bool
 begins_item tokens =
-    is_some (next_name tokens) || is_some (next_text tokens) || is_some (next_number tokens) || is_some (after_symbol symbol.Subtract tokens)
+    is_some (next_name tokens) || is_some (next_text tokens) || is_some (next_number tokens) || is_some (after_symbol (symbol.Arithmetic Sub) tokens)
 
 -- the items of a loop, by the name that begins at a byte: that of a variable names none
 abbrev pub items_of : Scope → ℕ → List ℕ → List Token → Read (List Item)

@@ -9,7 +9,7 @@ use Rattle.stm_program.specs.Limits.{list_fits}
 use Rattle.stm_program.specs.Syntax.{Block, ProgramTree}
 use Rattle.stm_terms.specs.declared.faults.SourceCause.{SourceCause}
 use Rattle.stm_terms.specs.declared.faults.SourceCause.TheVariants as cause
-use Rattle.stm_terms.specs.declared.limits.TheConstants.{MOST_BRACKETS}
+use Rattle.stm_terms.specs.declared.limits.TheConstants.{MOST_BRACKETS, MOST_KEPT}
 use Rattle.stm_terms.specs.declared.scope.Scope.{Scope}
 use Rattle.stm_terms.specs.Outcome.{Outcome, Read, bad, ◌>>=◌}
 use Rattle.stm_terms.specs.Cursor.{place, unexpected, after_symbol, after_word, expect_symbol, skip_semicolon}
@@ -95,6 +95,7 @@ first_scope arguments look tokens = record {
   looks_at_kinds = look.at_kinds;
   kinds_at = look.kinds_at;
   program = look.program;
+  room = MOST_KEPT;
   items = [];
   arguments = arguments;
   constants = look.constants;

@@ -67,7 +67,7 @@ items_from all (suc more) definitions story tokens =
     if at_end tokens then Ok (definitions, story) else (item_at all definitions story tokens >>= λ x. items_from all more x.0 x.1 x.2)
 
 abbrev pub no_definitions : Definitions
-no_definitions = record { names = []; meanings = []; constants = no_constants }
+no_definitions = record { names = []; meanings = []; constants = no_constants; room = MOST_BULK }
 
 abbrev pub empty_story : Story
 empty_story = record {

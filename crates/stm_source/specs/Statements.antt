@@ -1,5 +1,5 @@
 -- Statements and blocks: what tokens spell, or the first fault.
-use Rattle.std.specs.Prelude.{ℕ, zero, suc, ◌+◌, ◌-◌, List, [], ◌∷◌, ◌++◌, length, map, Bool, false, Option, Some, None, Ok, Err, nat_eq, nat_lt, if◌then◌else◌}
+use Rattle.std.specs.Prelude.{ℕ, zero, suc, ◌+◌, ◌-◌, List, [], ◌∷◌, ◌++◌, length, map, Bool, ◌&&◌, false, Option, Some, None, Ok, Err, nat_eq, nat_lt, if◌then◌else◌}
 use Rattle.stm_tokens.specs.declared.token.Token.{Token}
 use Rattle.stm_tokens.specs.declared.token.TokenKind.{TokenKind}
 use Rattle.stm_tokens.specs.declared.token.TokenKind.TheVariants as kind
@@ -8,16 +8,17 @@ use Rattle.stm_tokens.specs.declared.token.Symbol.TheVariants as symbol
 use Rattle.stm_tokens.specs.declared.token.Word.{Word}
 use Rattle.stm_tokens.specs.declared.token.Word.TheVariants as word
 use Rattle.stm_tokens.specs.Same.{same_symbol, same_word}
-use Rattle.stm_program.specs.declared.limits.TheConstants.{MAX_LEASE, MAX_NODES}
+use Rattle.stm_program.specs.declared.limits.TheConstants.{MAX_DEPTH, MAX_LEASE, MAX_NODES}
+use Rattle.stm_program.specs.BlockView.{block_of}
 use Rattle.stm_program.specs.declared.operator.Operator.TheVariants.{Add, Sub}
 use Rattle.stm_program.specs.Syntax.{Expression, Variable, Statement, Set, Put, Del, Emit, Abort}
 use Rattle.stm_terms.specs.declared.faults.SourceCause.TheVariants as cause
 use Rattle.stm_terms.specs.declared.scope.Scope.{Scope}
 use Rattle.stm_terms.specs.declared.look_ups.Fronted.{Fronted}
 use Rattle.stm_terms.specs.LookUps.{with_front, pair_with_front}
-use Rattle.stm_terms.specs.declared.values.Join.{Join}
-use Rattle.stm_terms.specs.declared.values.Join.TheVariants as join
-use Rattle.stm_source.specs.Loops.{counted_in, limit_at, after_zero, items_of, unknown_item, room_behind}
+use Rattle.stm_terms.specs.declared.operators.Join.{Join}
+use Rattle.stm_terms.specs.declared.operators.Join.TheVariants as join
+use Rattle.stm_source.specs.Loops.{counted_in, limit_at, after_zero, items_of, unknown_item, left_by, room_behind}
 use Rattle.stm_leaving.specs.Source.{Source, Sources, Plain, Choice, Items, Count, Nil, Next}
 use Rattle.stm_leaving.specs.PartsView.{sources_of}
 use Rattle.stm_leaving.specs.CopiesView.{copies_of}
@@ -29,9 +30,8 @@ use Rattle.stm_source.specs.declared.leaving.Leave.{Leave}
 use Rattle.stm_source.specs.declared.leaving.Ending.{Ending}
 use Rattle.stm_source.specs.declared.leaving.Ending.TheVariants.{GoesOn, Leaves, Aborts}
 use Rattle.stm_source.specs.Leaving.{is_left, choice_ending, in_turns, in_items, leave_word, leaving_part}
-use Rattle.stm_source.specs.declared.statements.TheConstants.{MOST_STATEMENTS}
-use Rattle.stm_source.specs.declared.statements.Simple.{Simple}
-use Rattle.stm_source.specs.declared.statements.Simple.TheVariants as simple
+use Rattle.stm_source.specs.declared.simple.Simple.{Simple}
+use Rattle.stm_source.specs.declared.simple.Simple.TheVariants as simple
 use Rattle.stm_terms.specs.declared.limits.TheConstants.{MOST_BRACKETS}
 use Rattle.stm_terms.specs.Outcome.{Outcome, Read, bad, ◌>>=◌}
 use Rattle.stm_terms.specs.Cursor.{place, unexpected, after_symbol, after_word, expect_symbol, expect_word, skip_semicolon, next_name, open_bracket}
@@ -42,6 +42,8 @@ use Rattle.stm_terms.specs.declared.kinds.Kind.{Kind}
 use Rattle.stm_terms.specs.declared.kinds.Kind.TheVariants as value_kind
 use Rattle.stm_terms.specs.Kinds.{kind_of, want}
 use Rattle.stm_terms.specs.Values.{joined, join_kind, bracketed_at, value_at, value_of}
+use Rattle.stm_terms.specs.Room.{condition_room, block_room}
+use Rattle.stm_terms.specs.declared.conditions.Tested.{Tested}
 use Rattle.stm_terms.specs.Conditions.{condition_at}
 
 -- ---- statements of values
@@ -177,6 +179,29 @@ let_at levels scope at tokens = let_by levels scope at tokens (next_of scope)
 abbrev pub with_mark : Around → ℕ → List Source → List Source
 with_mark around at s = if around.marks then Plain (mark at) ∷ s else s
 
+-- ---- how many more nodes of a program are kept
+
+abbrev pub with_room : Scope → ℕ → Scope
+with_room scope room = record scope { room = room }
+
+-- behind statements: a program that has them has at least so many nodes more. Those with marks were read before without them
+abbrev pub left_behind : Around → ℕ → Sources → ℕ
+left_behind around room parts =
+    if around.marks then room
+    else (if is_too_long MAX_NODES parts then 0
+    else left_by (block_room MAX_DEPTH room (closed parts nothing)))
+
+-- behind a condition and what is set in front of it
+abbrev pub left_in_choice : Around → ℕ → Tested → ℕ
+left_in_choice around room t =
+    if around.marks then room else left_by (condition_room MAX_DEPTH (left_by (block_room MAX_DEPTH room (block_of t.front))) t.condition)
+
+abbrev pub in_choice : Around → Scope → Tested → Scope
+in_choice around scope t = with_room scope (left_in_choice around scope.room t)
+
+abbrev pub behind_block : Around → Scope → Sources → Scope
+behind_block around scope parts = with_room scope (left_behind around scope.room parts)
+
 -- ---- choices
 
 -- statements, how they end, and the tokens behind them
@@ -189,27 +214,35 @@ ReadBlock = Outcome (Sources × Ending × List Token)
 abbrev pub Blocks : Type 0
 Blocks = Scope → List Token → ReadBlock
 
+abbrev pub Choices : Type 0
+Choices = Scope → List Token → ReadParts
+
 -- a block alone, or another choice
-abbrev pub otherwise_by : Around → (List Token → ReadParts) → Blocks → Scope → List Token → Option (List Token) → ReadBlock
-otherwise_by around choice block scope tokens (Some rest) = choice rest >>= λ s. Ok (sources_of (with_mark around (place tokens) s.0), s.1, s.2)
+abbrev pub otherwise_by : Around → Choices → Blocks → Scope → List Token → Option (List Token) → ReadBlock
+otherwise_by around choice block scope tokens (Some rest) = choice scope rest >>= λ s. Ok (sources_of (with_mark around (place tokens) s.0), s.1, s.2)
 otherwise_by around choice block scope tokens None = block scope tokens
 
-abbrev pub else_by : Around → (List Token → ReadParts) → Blocks → Scope → List Token → Option (List Token) → ReadBlock
-else_by around choice block scope tokens None = Ok (Nil, GoesOn, tokens)
-else_by around choice block scope tokens (Some rest) = otherwise_by around choice block scope rest (after_word word.If rest)
+-- behind these
+abbrev pub else_by : Around → Choices → Blocks → Scope → Sources → List Token → Option (List Token) → ReadBlock
+else_by around choice block scope first tokens None = Ok (Nil, GoesOn, tokens)
+else_by around choice block scope first tokens (Some rest) = otherwise_by around choice block (behind_block around scope first) rest (after_word word.If rest)
+
+-- the blocks of a choice, behind its condition
+abbrev pub choice_of : Around → Choices → Blocks → Scope → Tested → List Token → ReadParts
+choice_of around choice block scope tested tokens =
+    block scope tokens >>= λ t.
+    else_by around choice block scope t.0 t.2 (after_word word.Else t.2) >>= λ e.
+    Ok (behind_front tested.front (Choice tested.condition t.0 e.0), choice_ending t.1 e.1, e.2)
 
 -- condition, block and else
-abbrev pub choice_by : Around → (List Token → ReadParts) → Blocks → ℕ → Scope → List Token → ReadParts
+abbrev pub choice_by : Around → Choices → Blocks → ℕ → Scope → List Token → ReadParts
 choice_by around choice block levels scope tokens =
-    condition_at levels scope tokens >>= λ c.
-    block scope c.1 >>= λ t.
-    else_by around choice block scope t.2 (after_word word.Else t.2) >>= λ e.
-    Ok (behind_front c.0.front (Choice c.0.condition t.0 e.0), choice_ending t.1 e.1, e.2)
+    condition_at levels scope tokens >>= λ c. choice_of around choice block (in_choice around scope c.0) c.0 c.1
 
 -- behind an `if`, with so many choices that may follow in its else: one more is too deep, whatever it is
-unfoldable pub choice_at : Around → Blocks → ℕ → Scope → ℕ → List Token → ReadParts
-choice_at around block levels scope zero tokens = bad scope.program cause.TooDeep
-choice_at around block levels scope (suc more) tokens = choice_by around (choice_at around block levels scope more) block levels scope tokens
+unfoldable pub choice_at : Around → Blocks → ℕ → ℕ → Choices
+choice_at around block levels zero scope tokens = bad scope.program cause.TooDeep
+choice_at around block levels (suc more) scope tokens = choice_by around (choice_at around block levels more) block levels scope tokens
 
 -- ---- loops
 
@@ -226,26 +259,26 @@ abbrev pub count_loop : Blocks → ℕ → Scope → ℕ → List ℕ → List T
 count_loop block levels scope at name tokens =
     counted_in scope name at >>= λ counted. counted_by block levels scope counted.0 counted.1 tokens
 
--- the statements of a block for one item
-abbrev pub copy_at : Blocks → Scope → List ℕ → Item → List Token → Read Sources
-copy_at block scope name item tokens = block (with_item scope name item) tokens >>= λ b. Ok (b.0, b.2)
+-- the statements of a block for one item, of which so many nodes are kept
+abbrev pub copy_at : Blocks → Scope → List ℕ → ℕ → Item → List Token → Read Sources
+copy_at block scope name room item tokens = block (with_room (with_item scope name item) room) tokens >>= λ b. Ok (b.0, b.2)
 
 -- how many nodes may follow a copy; those with marks were read before without them
 abbrev pub copy_room : Around → ℕ → Sources → ℕ
 copy_room around room copy = if around.marks then room else (if is_too_long MAX_NODES copy then 0 else room_behind room (closed copy nothing))
 
--- behind these, those for each item, read of the same tokens, while there may be more nodes
-abbrev pub copies_from : (Item → List Token → Read Sources) → Around → List Token → ℕ → List Sources → List Item → List Token → Read (List Sources)
+-- behind these, those for each item, read of the same tokens, while there may be more nodes; those for the first in any case
+abbrev pub copies_from : (ℕ → Item → List Token → Read Sources) → Around → List Token → ℕ → List Sources → List Item → List Token → Read (List Sources)
 copies_from copy around tokens room done [] rest = Ok (done, rest)
 copies_from copy around tokens room done (i ∷ is) rest =
-    if nat_eq room 0 then Ok (done, rest)
-    else (copy i tokens >>= λ c. copies_from copy around tokens (copy_room around room c.0) (done ++ c.0 ∷ []) is c.1)
+    if nat_eq room 0 && nat_lt 0 (length done) then Ok (done, rest)
+    else (copy room i tokens >>= λ c. copies_from copy around tokens (copy_room around room c.0) (done ++ c.0 ∷ []) is c.1)
 
 -- where there is no item, the block is read and left out
 abbrev pub copies_at : Around → Blocks → Scope → List ℕ → List Item → List Token → Read (List Source)
-copies_at around block scope name [] tokens = copy_at block scope name unknown_item tokens >>= λ c. Ok ([], c.1)
+copies_at around block scope name [] tokens = copy_at block scope name scope.room unknown_item tokens >>= λ c. Ok ([], c.1)
 copies_at around block scope name (i ∷ is) tokens =
-    copies_from (copy_at block scope name) around tokens MOST_STATEMENTS [] (i ∷ is) tokens >>= λ c. Ok (Items (copies_of c.0) ∷ [], c.1)
+    copies_from (copy_at block scope name) around tokens scope.room [] (i ∷ is) tokens >>= λ c. Ok (Items (copies_of c.0) ∷ [], c.1)
 
 -- behind its `in`
 abbrev pub item_loop : Around → Blocks → ℕ → Scope → ℕ → List ℕ → List Token → Read (List Source)
@@ -302,7 +335,7 @@ going_on read = read >>= λ x. Ok (x.0, GoesOn, x.1)
 
 abbrev pub plain_at : (Around → Blocks) → ℕ → Around → Scope → Word → List Token → List Token → ReadParts
 plain_at block levels around scope w tokens rest =
-    if same_word w word.If then choice_at around (block around) levels scope MOST_BRACKETS rest
+    if same_word w word.If then choice_at around (block around) levels MOST_BRACKETS scope rest
     else (if same_word w word.For then going_on (loop_at block levels around scope rest)
     else (if same_word w word.Put then going_on (put_at levels scope rest)
     else short_at levels around scope w tokens rest))
@@ -331,34 +364,37 @@ unfoldable pub statement_by : (Around → Blocks) → ℕ → Around → Scope �
 statement_by block levels around scope [] = Err (unexpected [])
 statement_by block levels around scope (t ∷ ts) = marked_at around t.at (statement_kind block levels around scope t.kind (t ∷ ts) ts)
 
--- a block with more statements than are kept has too many nodes, whatever they are
+-- a statement is kept where more nodes are
 abbrev pub then_all : List Source → Sources → Sources
 then_all [] b = b
 then_all (s ∷ ss) b = Next s (then_all ss b)
 
 abbrev pub then_up : ℕ → List Source → Sources → Sources
-then_up done ss b = if nat_lt done MOST_STATEMENTS then then_all ss b else b
+then_up room ss b = if nat_lt 0 room then then_all ss b else b
 
 -- behind a statement that leaves in any case the block is closed
 abbrev pub closed_or : ℕ → Ending → (List Token → ReadStatement) → (List Source × Ending × Scope × List Token → ReadBlock) → List Token → Option (List Token) → ReadBlock
-closed_or done ending statement more tokens (Some rest) = Ok (Nil, ending, rest)
-closed_or done ending statement more tokens None =
-    if is_left ending then Err (unexpected tokens) else (statement tokens >>= λ s. more s >>= λ b. Ok (then_up done s.0 b.0, b.1, b.2))
+closed_or room ending statement more tokens (Some rest) = Ok (Nil, ending, rest)
+closed_or room ending statement more tokens None =
+    if is_left ending then Err (unexpected tokens) else (statement tokens >>= λ s. more s >>= λ b. Ok (then_up room s.0 b.0, b.1, b.2))
 
--- the statements up to the brace that closes their block, behind so many, the last of which ends so, and at most so many more
-unfoldable pub statements_from : (Scope → List Token → ReadStatement) → ℕ → Ending → ℕ → Scope → List Token → ReadBlock
-statements_from statement done ending zero scope tokens = Err (unexpected tokens)
-statements_from statement done ending (suc more) scope tokens =
-    closed_or done ending (statement scope) (λ s. statements_from statement (done + 1) s.1 more s.2 (skip_semicolon s.3)) tokens (after_symbol symbol.RightBrace tokens)
+-- the statements up to the brace that closes their block, behind others, the last of which ends so, and at most so many more
+unfoldable pub statements_from : Around → (Scope → List Token → ReadStatement) → Ending → ℕ → Scope → List Token → ReadBlock
+statements_from around statement ending zero scope tokens = Err (unexpected tokens)
+statements_from around statement ending (suc more) scope tokens =
+    closed_or scope.room ending (statement scope)
+    (λ s. statements_from around statement s.1 more (with_room s.2 (left_behind around scope.room (sources_of s.0))) (skip_semicolon s.3)) tokens
+    (after_symbol symbol.RightBrace tokens)
 
 -- statements between braces
-abbrev pub block_by : (Scope → List Token → ReadStatement) → Scope → List Token → ReadBlock
-block_by statement scope tokens = expect_symbol symbol.LeftBrace tokens >>= λ inner. statements_from statement 0 GoesOn (length inner) scope inner
+abbrev pub block_by : Around → (Scope → List Token → ReadStatement) → Scope → List Token → ReadBlock
+block_by around statement scope tokens =
+    expect_symbol symbol.LeftBrace tokens >>= λ inner. statements_from around statement GoesOn (length inner) scope inner
 
 -- where so many brackets may still be opened
 unfoldable pub block_at : ℕ → Around → Scope → List Token → ReadBlock
 block_at zero around scope tokens = Err (unexpected tokens)
-block_at (suc levels) around scope tokens = block_by (statement_by (block_at levels) levels around) scope tokens
+block_at (suc levels) around scope tokens = block_by around (statement_by (block_at levels) levels around) scope tokens
 
 abbrev pub statements_at : ℕ → Around → Scope → List Token → ReadBlock
-statements_at levels around scope tokens = statements_from (statement_by (block_at levels) levels around) 0 GoesOn (length tokens) scope tokens
+statements_at levels around scope tokens = statements_from around (statement_by (block_at levels) levels around) GoesOn (length tokens) scope tokens

@@ -13,9 +13,9 @@ use std::mem;
 use stm_history::Sequence;
 use stm_program::{Expr, ExprNode};
 use stm_terms::{
-    Argument, Constant, Constants, Defined, Kind, MOST_BRACKETS, Scope, Shared, SourceCause,
-    SourceError, Valued, after_symbol, else_within, expect_symbol, fault, has_room, list_of_items,
-    next_name, place, unexpected, value,
+    Argument, Constant, Constants, Defined, Kind, MOST_BRACKETS, MOST_KEPT, Scope, Shared,
+    SourceCause, SourceError, Valued, after_symbol, else_within, expect_symbol, fault, has_room,
+    list_of_items, next_name, place, unexpected, value,
 };
 use stm_tokens::{Symbol, Token};
 
@@ -33,6 +33,7 @@ fn outside(alloc: Global, constants: &Shared<Constants>, at: usize) -> Result<Sc
         looks_at_kinds: true,
         kinds_at: None,
         program: at,
+        room: MOST_KEPT,
         items: Sequence::new(alloc),
         arguments,
         constants,
@@ -120,7 +121,7 @@ fn value_defined(scope: &Scope, value: Valued) -> Result<Constant, SourceError>
     if let Some(at) = else_within(value.look_ups.as_slice()) {
         return Err(fault(at, SourceCause::Syntax));
     }
-    has_room(scope, &value.expression)?;
+    has_room(scope, &value)?;
     let parameters = scope.names.len();
     Ok(Constant::Value(Defined { parameters, value }))
 }

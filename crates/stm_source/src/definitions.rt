@@ -6,6 +6,7 @@ ghost use Rattle.stm_source.specs.Definitions as spec;
 ghost use Rattle.stm_source.specs.Programs.{program_at};
 
 use crate::arguments::arguments;
+use crate::bulk::program_room;
 use crate::programs::{Look, parts, program, program_of};
 use std::alloc::{AllocError, Global};
 use stm_history::Sequence;
@@ -49,6 +50,8 @@ pub(crate) struct Definitions {
     pub meanings: Sequence<Meaning>,
     /// Its constants and lists.
     pub constants: Shared<Constants>,
+    /// How much more its programs may take.
+    pub room: usize,
 }
 
 impl Definitions {
@@ -251,6 +254,28 @@ fn defined<'a>(
     Ok((definition, rest))
 }
 
+/// Adds a program, whose name begins at a byte.
+fn push_program(
+    alloc: Global,
+    definitions: &mut Definitions,
+    at: usize,
+    name: &str,
+    definition: Definition,
+) -> Result<(), SourceError>
+    requires { list_any (bytes_eq name.now) definitions.old.names ≡ false }
+    ensures { Returns (λ _. definitions.new) result (spec.with_program definitions.old at name.now definition) }
+{
+    let room = program_room(&definition.program, definitions.room);
+    if room == 0 {
+        drop(definition);
+        return Err(fault(at, SourceCause::TooManyNodes));
+    }
+    definitions.names.push(alloc, name)?;
+    definitions.meanings.push(Meaning::Program(definition))?;
+    definitions.room = room;
+    Ok(())
+}
+
 /// Adds the program that is defined behind its word.
 pub(crate) fn define<'a>(
     alloc: Global,
@@ -264,8 +289,7 @@ pub(crate) fn define<'a>(
     let (parameters, takes_list, body) = parameters(alloc, constants.get(), rest)?;
     let at = place(tokens);
     let (definition, rest) = defined(alloc, constants, at, parameters, takes_list, body)?;
-    definitions.names.push(alloc, name)?;
-    definitions.meanings.push(Meaning::Program(definition))?;
+    push_program(alloc, definitions, at, name, definition)?;
     Ok(rest)
 }
 

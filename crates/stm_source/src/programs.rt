@@ -15,7 +15,7 @@ use stm_program::{
     MAX_DEPTH, MAX_NODES, MAX_PREFETCH, MAX_TEXT, Program, Stmt, is_listed, list_fits,
 };
 use stm_terms::{
-    Arguments, Constants, GivenText, MOST_BRACKETS, Runners, Scope, Shared, SourceCause,
+    Arguments, Constants, GivenText, MOST_BRACKETS, MOST_KEPT, Runners, Scope, Shared, SourceCause,
     SourceError, after_symbol, after_word, are_numbered, expect_symbol, fault, place,
     skip_semicolon, statements_room, unexpected,
 };
@@ -195,6 +195,7 @@ fn first_scope(alloc: Global, arguments: Shared<Arguments>, look: Look, tokens: 
         looks_at_kinds: at_kinds,
         kinds_at,
         program,
+        room: MOST_KEPT,
         items: Sequence::new(alloc),
         arguments,
         constants,

@@ -184,6 +184,7 @@ pub(crate) fn empty_definitions(alloc: Global) -> Result<Definitions, AllocError
         names: Names::new(alloc),
         meanings: Sequence::new(alloc),
         constants,
+        room: MOST_BULK,
     })
 }
 

@@ -1,356 +1,32 @@
 //! Reading statements and blocks.
-ghost use Rattle.std.specs.Prelude.{◌≡◌, ◌≤◌, [], ◌∷◌, map, option_map, Some, IfOk, OnOk};
-ghost use Rattle.stm_program.specs.declared.limits.TheConstants.{MAX_VARIABLE};
-ghost use Rattle.stm_tokens.specs.declared.token.Word.TheVariants.{Else};
+ghost use Rattle.std.specs.Prelude.{◌≡◌, ◌≤◌, [], ◌∷◌, IfOk};
+ghost use Rattle.stm_tokens.specs.declared.token.Word.TheVariants.{Else, If};
 ghost use Rattle.stm_terms.specs.Cursor as cursor;
 ghost use Rattle.stm_terms.specs.Outcome.{Returns};
+ghost use Rattle.stm_terms.specs.Scope.{with_item};
 ghost use Rattle.stm_source.specs.Statements as spec;
-ghost use Rattle.stm_source.specs.Kept.{pushed_up};
 ghost use Rattle.stm_source.specs.Leaving as leaving;
-ghost use Rattle.stm_source.specs.declared.statements.TheConstants.{MOST_STATEMENTS};
 ghost use Rattle.stm_leaving.specs.Source as tree;
 ghost use Rattle.stm_leaving.specs.Source.{Nil};
 ghost use Rattle.stm_leaving.specs.PartsView.{sources_of};
 ghost use Rattle.stm_leaving.specs.CopiesView.{copies_of};
 
-use crate::leaving::{Around, Ending, choice_ending, in_items, in_turns, leave_word, leaving_part};
-use crate::loops::{after_zero, counted, items, limit, room_behind, shared_name, unknown_item};
+use crate::kept::{behind_block, block_of_all, copy_room, in_choice, measured, push_up};
+use crate::leaving::{Around, Ending, choice_ending, in_items, in_turns};
+use crate::loops::{after_zero, counted, items, limit, shared_name, unknown_item};
+use crate::simple::{assignment, behind, let_statement, put, short_statement};
 use std::alloc::{AllocError, Global};
 use std::sync::Arc;
 use stm_history::Sequence;
-use stm_leaving::{Copies, Part, PartNode, Parts, closed_parts, is_too_long};
+use stm_leaving::{Copies, Part, PartNode, Parts};
 use stm_marks::mark;
-use stm_program::{Expr, ExprNode, MAX_LEASE, MAX_NODES, Operator, Stmt, StmtNode, Variable};
+use stm_program::Variable;
 use stm_terms::{
-    Fronted, FrontedPair, Item, Join, Kind, MOST_BRACKETS, Scope, SharedText, SourceCause,
-    SourceError, Tested, after_symbol, after_word, bracketed, condition, expect_symbol,
-    expect_word, fault, join_kind, join_node, next_name, open_bracket, pair_with_front, place, set,
-    skip_semicolon, unexpected, value, value_of, with_front,
+    Fronted, Item, Kind, MOST_BRACKETS, Scope, SharedText, SourceCause, SourceError, Tested,
+    after_symbol, after_word, condition, expect_symbol, expect_word, fault, next_name, place,
+    skip_semicolon, unexpected, value_of, with_front,
 };
 use stm_tokens::{Symbol, Token, TokenKind, Word};
-
-/// How many statements of a block are kept: with one more than a program may have nodes, it has too many.
-pub(crate) const MOST_STATEMENTS: usize = MAX_NODES + 1;
-
-/// A statement of one value.
-#[derive(Clone, Copy, PartialEq, Eq)]
-pub(crate) enum Simple {
-    /// `del`
-    Del,
-    /// `emit`
-    Emit,
-    /// `abort`
-    Abort,
-}
-
-/// What a statement of one value is of: `emit` puts out a value of either kind.
-fn simple_kind(simple: Simple) -> Kind
-    ensures { result ≡ spec.simple_kind simple }
-{
-    match simple {
-        Simple::Del | Simple::Abort => Kind::Text,
-        Simple::Emit => Kind::Either,
-    }
-}
-
-/// Statements of a program, as those of a source. It fails only when out of memory.
-fn plain_parts(alloc: Global, statements: &[Stmt]) -> Result<Sequence<Part>, AllocError>
-    ensures { IfOk result (λ parts. parts ≡ map tree.Plain statements.now) }
-{
-    let mut parts = Sequence::new(alloc);
-    for statement in statements {
-        let copy = statement.clone()?;
-        parts.push(Part {
-            node: PartNode::Plain(copy),
-        })?;
-    }
-    Ok(parts)
-}
-
-/// A statement behind what is set in front of it. It fails only when out of memory.
-fn behind(alloc: Global, front: Sequence<Stmt>, part: Part) -> Result<Sequence<Part>, AllocError>
-    ensures { IfOk result (λ all. all ≡ spec.behind_front front part) }
-{
-    let mut all = plain_parts(alloc, front.as_slice())?;
-    all.push(part)?;
-    Ok(all)
-}
-
-/// The same of a statement of a program.
-fn plain_behind(
-    alloc: Global,
-    front: Sequence<Stmt>,
-    statement: Stmt,
-) -> Result<Sequence<Part>, AllocError>
-    ensures { IfOk result (λ all. all ≡ spec.plain_behind front statement) }
-{
-    let node = PartNode::Plain(statement);
-    behind(alloc, front, Part { node })
-}
-
-fn simple_statement<'a>(
-    alloc: Global,
-    scope: &Scope,
-    levels: usize,
-    simple: Simple,
-    tokens: &'a [Token],
-) -> Result<(Sequence<Part>, &'a [Token]), SourceError>
-    ensures { Returns (λ x. (x.0, x.1.now)) result (spec.simple_at levels scope.now simple tokens.now) }
-{
-    let (value, rest) = bracketed(alloc, scope, levels, simple_kind(simple), tokens)?;
-    let Fronted { front, expression } = with_front(alloc, scope, value)?;
-    let value = Arc::new(alloc, expression)?;
-    let node = match simple {
-        Simple::Del => StmtNode::Del(value),
-        Simple::Emit => StmtNode::Emit(value),
-        Simple::Abort => StmtNode::Abort(value),
-    };
-    let all = plain_behind(alloc, front, Stmt { node })?;
-    Ok((all, rest))
-}
-
-/// How a statement of one value ends.
-fn simple_ending(simple: Simple) -> Ending
-    ensures { result ≡ spec.simple_ending simple }
-{
-    match simple {
-        Simple::Abort => Ending::Aborts,
-        Simple::Del | Simple::Emit => Ending::GoesOn,
-    }
-}
-
-/// The lease of a put: 0 where it does not say one.
-fn lease<'a>(scope: &Scope, tokens: &'a [Token]) -> Result<(u64, &'a [Token]), SourceError>
-    ensures { Returns (λ x. (x.0, x.1.now)) result (spec.lease_at scope.now tokens.now) }
-{
-    match after_symbol(tokens, Symbol::Comma) {
-        Some(rest) => scope.number_up_to(MAX_LEASE, rest),
-        None => Ok((0, tokens)),
-    }
-}
-
-/// A put, behind its word.
-fn put<'a>(
-    alloc: Global,
-    scope: &Scope,
-    levels: usize,
-    tokens: &'a [Token],
-) -> Result<(Sequence<Part>, &'a [Token]), SourceError>
-    ensures { Returns (λ x. (x.0, x.1.now)) result (spec.put_at levels scope.now tokens.now) }
-{
-    let inner = open_bracket(levels, tokens)?;
-    let (key, rest) = value_of(alloc, scope, levels - 1, Kind::Text, inner)?;
-    let rest = expect_symbol(rest, Symbol::Comma)?;
-    let (value, rest) = value_of(alloc, scope, levels - 1, Kind::Text, rest)?;
-    let FrontedPair {
-        front,
-        left,
-        right,
-        ..
-    } = pair_with_front(alloc, scope, key, value)?;
-    let (lease, rest) = lease(scope, rest)?;
-    let rest = expect_symbol(rest, Symbol::RightParenthesis)?;
-    let key = Arc::new(alloc, left)?;
-    let value = Arc::new(alloc, right)?;
-    let node = StmtNode::Put(key, value, lease);
-    let all = plain_behind(alloc, front, Stmt { node })?;
-    Ok((all, rest))
-}
-
-/// What an assignment joins to the variable, if anything; none, where the symbol assigns nothing.
-fn sign_of(symbol: Symbol) -> Option<Option<Join>>
-    ensures { result ≡ spec.sign_of symbol }
-{
-    if symbol.is(Symbol::Assign) {
-        Some(None)
-    } else if symbol.is(Symbol::AddAssign) {
-        Some(Some(Join::Arithmetic(Operator::Add)))
-    } else if symbol.is(Symbol::SubtractAssign) {
-        Some(Some(Join::Arithmetic(Operator::Sub)))
-    } else if symbol.is(Symbol::ConcatenateAssign) {
-        Some(Some(Join::Concatenate))
-    } else {
-        None
-    }
-}
-
-/// The sign of an assignment that is the next token.
-#[tactic(auto, unfolding(crate::specs::Statements::next_sign))]
-fn next_sign(tokens: &[Token]) -> Option<(Option<Join>, &[Token])>
-    ensures { option_map (λ p. (p.0, p.1.now)) result ≡ spec.next_sign tokens.now }
-{
-    let (first, rest) = tokens.split_first()?;
-    match &first.kind {
-        TokenKind::Symbol(symbol) => {
-            let join = sign_of(*symbol)?;
-            Some((join, rest))
-        }
-        _ => None,
-    }
-}
-
-/// The value that is assigned to a variable.
-fn assigned(
-    alloc: Global,
-    join: Option<Join>,
-    variable: Variable,
-    value: Expr,
-) -> Result<Expr, AllocError>
-    ensures { IfOk result (λ e. e ≡ spec.assigned join variable value) }
-{
-    let Some(join) = join else {
-        return Ok(value);
-    };
-    let left = Arc::new(
-        alloc,
-        Expr {
-            node: ExprNode::Variable(variable),
-        },
-    )?;
-    let right = Arc::new(alloc, value)?;
-    Ok(join_node(join, left, right))
-}
-
-/// What has to be assigned to a variable of a kind.
-fn assigned_kind(join: Option<Join>, kind: Kind) -> Kind
-    ensures { result ≡ spec.assigned_kind join kind }
-{
-    match join {
-        Some(join) => join_kind(join),
-        None => kind,
-    }
-}
-
-/// An assignment to a variable, behind its sign.
-fn set_to<'a>(
-    alloc: Global,
-    scope: &Scope,
-    levels: usize,
-    number: u64,
-    join: Option<Join>,
-    rest: &'a [Token],
-) -> Result<(Sequence<Part>, &'a [Token]), SourceError>
-    requires { number ≤ MAX_VARIABLE }
-    ensures { Returns (λ x. (x.0, x.1.now)) result (spec.set_at levels scope.now number join rest.now) }
-{
-    let variable = Variable::new(number as u8);
-    let wanted = assigned_kind(join, scope.kind_of(number));
-    let (value, rest) = value_of(alloc, scope, levels, wanted, rest)?;
-    let Fronted { front, expression } = with_front(alloc, scope, value)?;
-    let value = assigned(alloc, join, variable, expression)?;
-    let statement = set(alloc, variable, value)?;
-    let all = plain_behind(alloc, front, statement)?;
-    Ok((all, rest))
-}
-
-/// An assignment, whose name begins these tokens and stands before the others.
-fn assignment<'a>(
-    alloc: Global,
-    scope: &Scope,
-    levels: usize,
-    name: &str,
-    tokens: &'a [Token],
-    behind: &'a [Token],
-) -> Result<(Sequence<Part>, &'a [Token]), SourceError>
-    ensures { Returns (λ x. (x.0, x.1.now)) result (spec.assignment_at levels scope.now name.now tokens.now behind.now) }
-{
-    let Some((join, rest)) = next_sign(behind) else {
-        return Err(unexpected(tokens));
-    };
-    let Some(number) = scope.variable(name) else {
-        return Err(fault(place(tokens), SourceCause::Name));
-    };
-    let kind = scope.kind_of(number);
-    scope.want(assigned_kind(join, kind), kind, place(tokens))?;
-    set_to(alloc, scope, levels, number, join, rest)
-}
-
-/// Whether a value is a variable alone.
-fn is_variable(variable: Variable, value: &Expr) -> bool
-    ensures { result ≡ spec.is_variable variable value.now }
-{
-    match &value.node {
-        ExprNode::Variable(other) => other.number() == variable.number(),
-        _ => false,
-    }
-}
-
-/// That a new variable becomes a value: one to which it was set in front is not set again.
-fn set_new(alloc: Global, variable: Variable, value: Fronted) -> Result<Sequence<Part>, AllocError>
-    ensures { IfOk result (λ all. all ≡ spec.set_new variable value) }
-{
-    let Fronted { front, expression } = value;
-    if is_variable(variable, &expression) {
-        return plain_parts(alloc, front.as_slice());
-    }
-    let statement = set(alloc, variable, expression)?;
-    plain_behind(alloc, front, statement)
-}
-
-/// A new variable, behind its name.
-fn new_variable<'a>(
-    alloc: Global,
-    scope: &mut Scope,
-    levels: usize,
-    variable: Variable,
-    name: &str,
-    rest: &'a [Token],
-) -> Result<(Sequence<Part>, &'a [Token]), SourceError>
-    ensures { Returns (λ x. (x.0, scope.new, x.1.now)) result (spec.new_variable levels scope.old variable name.now rest.now) }
-{
-    let rest = expect_symbol(rest, Symbol::Assign)?;
-    let (value, rest) = value(alloc, scope, levels, rest)?;
-    let kind = value.kind;
-    let value = with_front(alloc, scope, value)?;
-    let all = set_new(alloc, variable, value)?;
-    scope.give(alloc, name, kind)?;
-    Ok((all, rest))
-}
-
-/// A `let` that begins at a byte, behind its word.
-fn let_statement<'a>(
-    alloc: Global,
-    scope: &mut Scope,
-    levels: usize,
-    at: usize,
-    tokens: &'a [Token],
-) -> Result<(Sequence<Part>, &'a [Token]), SourceError>
-    ensures { Returns (λ x. (x.0, scope.new, x.1.now)) result (spec.let_at levels scope.old at tokens.now) }
-{
-    let Some(variable) = scope.next_variable() else {
-        return Err(fault(at, SourceCause::TooMany));
-    };
-    let Some((name, rest)) = next_name(tokens) else {
-        return Err(unexpected(tokens));
-    };
-    if scope.may_give(name) {
-        new_variable(alloc, scope, levels, variable, name, rest)
-    } else {
-        Err(fault(place(tokens), SourceCause::Name))
-    }
-}
-
-fn simple_word(word: Word) -> Option<Simple>
-    ensures { result ≡ spec.simple_word word }
-{
-    if word.is(Word::Del) {
-        Some(Simple::Del)
-    } else if word.is(Word::Emit) {
-        Some(Simple::Emit)
-    } else if word.is(Word::Abort) {
-        Some(Simple::Abort)
-    } else {
-        None
-    }
-}
-
-/// The block of statements.
-fn block_of_all(alloc: Global, parts: Sequence<Part>) -> Result<Parts, AllocError>
-    ensures { IfOk result (λ b. b ≡ sources_of parts) }
-{
-    let parts = Arc::new(alloc, parts.into_vec())?;
-    Ok(Parts { parts })
-}
 
 /// The block of no statements.
 fn empty_block(alloc: Global) -> Result<Parts, AllocError>
@@ -401,21 +77,6 @@ fn with_mark(
     Ok(Sequence::of(all))
 }
 
-/// How many nodes may follow a copy of a loop's block, of which there may be so many with its own. Marks are not counted: all that were read before
-/// without them are read.
-fn copy_room(alloc: Global, around: Around, copy: &Parts, room: usize) -> Result<usize, AllocError>
-    ensures { IfOk result (λ left. left ≡ spec.copy_room around room copy.now) }
-{
-    if around.marks {
-        return Ok(room);
-    }
-    if is_too_long(copy, MAX_NODES) {
-        return Ok(0);
-    }
-    let statements = closed_parts(alloc, copy)?;
-    Ok(room_behind(statements.as_slice(), room))
-}
-
 /// A loop over items, as a statement.
 fn items_part(alloc: Global, copies: Vec<Parts>) -> Result<Sequence<Part>, AllocError>
     ensures { IfOk result (λ all. all ≡ tree.Items (copies_of copies.items) ∷ []) }
@@ -428,7 +89,7 @@ fn items_part(alloc: Global, copies: Vec<Parts>) -> Result<Sequence<Part>, Alloc
     Ok(all)
 }
 
-/// What runs where the condition of a choice does not hold.
+/// What runs where the condition of a choice does not hold, behind its `else`.
 #[cycle(read_statements)]
 fn otherwise<'a>(
     alloc: Global,
@@ -439,22 +100,40 @@ fn otherwise<'a>(
     tokens: &'a [Token],
 ) -> Result<(Parts, Ending, &'a [Token]), SourceError>
     requires { more ≤ 127 }
-    ensures { Returns (λ x. (x.0, x.1, x.2.now)) result (spec.else_by around (spec.choice_at around (spec.block_at levels around) levels scope.now more) (spec.block_at levels around) scope.now tokens.now (cursor.after_word Else tokens.now)) }
+    ensures { Returns (λ x. (x.0, x.1, x.2.now)) result (spec.otherwise_by around (spec.choice_at around (spec.block_at levels around) levels more) (spec.block_at levels around) scope.now tokens.now (cursor.after_word If tokens.now)) }
 {
-    let Some(rest) = after_word(tokens, Word::Else) else {
-        let block = empty_block(alloc)?;
-        return Ok((block, Ending::GoesOn, tokens));
-    };
-    let at = place(rest);
-    match after_word(rest, Word::If) {
+    let at = place(tokens);
+    match after_word(tokens, Word::If) {
         Some(rest) => {
             let (parts, ending, rest) = choice(alloc, scope, levels, around, more, rest)?;
             let parts = with_mark(alloc, around, at, parts)?;
             let block = block_of_all(alloc, parts)?;
             Ok((block, ending, rest))
         }
-        None => block(alloc, scope, levels, around, rest),
+        None => block(alloc, scope, levels, around, tokens),
     }
+}
+
+/// What runs where the condition of a choice does not hold, whose block is this.
+#[cycle(read_statements)]
+fn else_behind<'a>(
+    alloc: Global,
+    scope: &Scope,
+    levels: usize,
+    around: Around,
+    more: usize,
+    yes: &Parts,
+    tokens: &'a [Token],
+) -> Result<(Parts, Ending, &'a [Token]), SourceError>
+    requires { more ≤ 127 }
+    ensures { Returns (λ x. (x.0, x.1, x.2.now)) result (spec.else_by around (spec.choice_at around (spec.block_at levels around) levels more) (spec.block_at levels around) scope.now yes.now tokens.now (cursor.after_word Else tokens.now)) }
+{
+    let Some(rest) = after_word(tokens, Word::Else) else {
+        let block = empty_block(alloc)?;
+        return Ok((block, Ending::GoesOn, tokens));
+    };
+    let inner = behind_block(alloc, scope, around, yes)?;
+    otherwise(alloc, &inner, levels, around, more, rest)
 }
 
 /// A choice, behind its `if`, in whose else so many may follow.
@@ -468,7 +147,7 @@ fn choice<'a>(
     tokens: &'a [Token],
 ) -> Result<(Sequence<Part>, Ending, &'a [Token]), SourceError>
     requires { more ≤ 127 }
-    ensures { Returns (λ x. (x.0, x.1, x.2.now)) result (spec.choice_at around (spec.block_at levels around) levels scope.now more tokens.now) }
+    ensures { Returns (λ x. (x.0, x.1, x.2.now)) result (spec.choice_at around (spec.block_at levels around) levels more scope.now tokens.now) }
 {
     if more == 0 {
         return Err(fault(scope.program, SourceCause::TooDeep));
@@ -487,11 +166,29 @@ fn choice_between<'a>(
     tokens: &'a [Token],
 ) -> Result<(Sequence<Part>, Ending, &'a [Token]), SourceError>
     requires { more ≤ 127 }
-    ensures { Returns (λ x. (x.0, x.1, x.2.now)) result (spec.choice_by around (spec.choice_at around (spec.block_at levels around) levels scope.now more) (spec.block_at levels around) levels scope.now tokens.now) }
+    ensures { Returns (λ x. (x.0, x.1, x.2.now)) result (spec.choice_by around (spec.choice_at around (spec.block_at levels around) levels more) (spec.block_at levels around) levels scope.now tokens.now) }
 {
     let (tested, rest) = condition(alloc, scope, levels, tokens)?;
-    let (yes, yes_ending, rest) = block(alloc, scope, levels, around, rest)?;
-    let (no, no_ending, rest) = otherwise(alloc, scope, levels, around, more, rest)?;
+    let inner = in_choice(alloc, scope, around, &tested)?;
+    choice_of(alloc, &inner, levels, around, more, tested, rest)
+}
+
+/// The blocks of a choice, behind its condition.
+#[cycle(read_statements)]
+fn choice_of<'a>(
+    alloc: Global,
+    scope: &Scope,
+    levels: usize,
+    around: Around,
+    more: usize,
+    tested: Tested,
+    tokens: &'a [Token],
+) -> Result<(Sequence<Part>, Ending, &'a [Token]), SourceError>
+    requires { more ≤ 127 }
+    ensures { Returns (λ x. (x.0, x.1, x.2.now)) result (spec.choice_of around (spec.choice_at around (spec.block_at levels around) levels more) (spec.block_at levels around) scope.now tested tokens.now) }
+{
+    let (yes, yes_ending, rest) = block(alloc, scope, levels, around, tokens)?;
+    let (no, no_ending, rest) = else_behind(alloc, scope, levels, around, more, &yes, rest)?;
     let all = chosen(alloc, tested, yes, no)?;
     Ok((all, choice_ending(yes_ending, no_ending), rest))
 }
@@ -519,20 +216,36 @@ fn counted_loop<'a>(
     Ok((all, rest))
 }
 
-/// The statements of a loop's block for one item.
+/// What is in sight in a loop's block for one item, of which so many nodes are kept.
+fn in_copy(
+    alloc: Global,
+    scope: &Scope,
+    room: usize,
+    name: &SharedText,
+    item: &Item,
+) -> Result<Scope, AllocError>
+    ensures { IfOk result (λ inner. inner ≡ spec.with_room (with_item scope.now name.now item.now) room) }
+{
+    let mut inner = scope.with_item(alloc, name, item)?;
+    inner.room = room;
+    Ok(inner)
+}
+
+/// The statements of a loop's block for one item, of which so many nodes are kept.
 #[cycle(read_statements)]
 fn copy<'a>(
     alloc: Global,
     scope: &Scope,
     levels: usize,
     around: Around,
+    room: usize,
     name: &SharedText,
     item: &Item,
     tokens: &'a [Token],
 ) -> Result<(Parts, &'a [Token]), SourceError>
-    ensures { Returns (λ x. (x.0, x.1.now)) result (spec.copy_at (spec.block_at levels (leaving.in_items around)) scope.now name.now item.now tokens.now) }
+    ensures { Returns (λ x. (x.0, x.1.now)) result (spec.copy_at (spec.block_at levels (leaving.in_items around)) scope.now name.now room item.now tokens.now) }
 {
-    let inner = scope.with_item(alloc, name, item)?;
+    let inner = in_copy(alloc, scope, room, name, item)?;
     let (parts, _, rest) = block(alloc, &inner, levels, in_items(around), tokens)?;
     Ok((parts, rest))
 }
@@ -549,16 +262,16 @@ fn copies<'a>(
     tokens: &'a [Token],
 ) -> Result<(Vec<Parts>, &'a [Token]), SourceError>
     ensures { Returns (λ x. (x.0.items, x.1.now)) result
-        (spec.copies_from (spec.copy_at (spec.block_at levels (leaving.in_items around)) scope.now name.now) around tokens.now MOST_STATEMENTS [] items.now tokens.now) }
+        (spec.copies_from (spec.copy_at (spec.block_at levels (leaving.in_items around)) scope.now name.now) around tokens.now scope.now.room [] items.now tokens.now) }
 {
     let mut all = Vec::new(alloc);
-    let mut room = MOST_STATEMENTS;
+    let mut room = scope.room;
     let mut rest = tokens;
     for item in items {
-        if room == 0 {
+        if room == 0 && all.len() > 0 {
             return Ok((all, rest));
         }
-        let (parts, behind) = copy(alloc, scope, levels, around, name, item, tokens)?;
+        let (parts, behind) = copy(alloc, scope, levels, around, room, name, item, tokens)?;
         room = copy_room(alloc, around, &parts, room)?;
         all.push(parts)?;
         rest = behind;
@@ -581,7 +294,9 @@ fn all_copies<'a>(
 {
     if items.is_empty() {
         let item = unknown_item(alloc)?;
-        let (parts, rest) = copy(alloc, scope, levels, around, name, &item, tokens)?;
+        let (parts, rest) = copy(
+            alloc, scope, levels, around, scope.room, name, &item, tokens,
+        )?;
         drop(parts);
         return Ok((Sequence::new(alloc), rest));
     }
@@ -664,30 +379,6 @@ fn repetition_behind<'a>(
         Some(bound) => count_loop(alloc, scope, levels, around, at, name, bound),
         None => item_loop(alloc, scope, levels, around, at, name, rest),
     }
-}
-
-/// A statement that leaves its block, or one of one value, behind the word that begins it.
-fn short_statement<'a>(
-    alloc: Global,
-    scope: &Scope,
-    levels: usize,
-    around: Around,
-    word: Word,
-    tokens: &'a [Token],
-    rest: &'a [Token],
-) -> Result<(Sequence<Part>, Ending, &'a [Token]), SourceError>
-    ensures { Returns (λ x. (x.0, x.1, x.2.now)) result (spec.short_at levels around scope.now word tokens.now rest.now) }
-{
-    if let Some(leave) = leave_word(word) {
-        let part = leaving_part(around, leave, place(tokens))?;
-        let all = behind(alloc, Sequence::new(alloc), part)?;
-        return Ok((all, Ending::Leaves, rest));
-    }
-    let Some(simple) = simple_word(word) else {
-        return Err(unexpected(tokens));
-    };
-    let (all, rest) = simple_statement(alloc, scope, levels, simple, rest)?;
-    Ok((all, simple_ending(simple), rest))
 }
 
 /// A statement that gives no name, behind the word that begins it.
@@ -791,17 +482,6 @@ fn statement<'a>(
     Ok((parts, ending, rest))
 }
 
-/// Adds a statement, and what is set in front of it, behind so many, where that many are kept.
-fn push_up(done: usize, parts: &mut Vec<Part>, more: Sequence<Part>) -> Result<(), AllocError>
-    ensures { OnOk result (parts.new.items ≡ pushed_up done parts.old.items more) }
-{
-    if done < MOST_STATEMENTS {
-        let mut more = more.into_vec();
-        parts.append(&mut more)?;
-    }
-    Ok(())
-}
-
 /// The statements up to the brace that closes their block, with these names in sight before the first.
 #[cycle(read_statements)]
 pub(crate) fn statements<'a>(
@@ -817,15 +497,18 @@ pub(crate) fn statements<'a>(
     let mut parts = Vec::new(alloc);
     let mut ending = Ending::GoesOn;
     let mut rest = tokens;
-    for done in 0..tokens.len() {
+    for _turn in 0..tokens.len() {
         if let Some(behind) = after_symbol(rest, Symbol::RightBrace) {
             return Ok((parts, ending, behind));
         }
         if ending.is_left() {
             return Err(unexpected(rest));
         }
+        let room = scope.room;
         let (statement, next, behind) = statement(alloc, &mut scope, levels, around, rest)?;
-        push_up(done, &mut parts, statement)?;
+        let (more, left) = measured(alloc, around, room, statement)?;
+        push_up(room, &mut parts, more)?;
+        scope.room = left;
         ending = next;
         rest = skip_semicolon(behind);
     }
@@ -858,7 +541,7 @@ fn block_between<'a>(
     around: Around,
     tokens: &'a [Token],
 ) -> Result<(Parts, Ending, &'a [Token]), SourceError>
-    ensures { Returns (λ x. (x.0, x.1, x.2.now)) result (spec.block_by (spec.statement_by (spec.block_at levels) levels around) scope.now tokens.now) }
+    ensures { Returns (λ x. (x.0, x.1, x.2.now)) result (spec.block_by around (spec.statement_by (spec.block_at levels) levels around) scope.now tokens.now) }
 {
     let inner = expect_symbol(tokens, Symbol::LeftBrace)?;
     let (parts, ending, rest) = statements(alloc, scope, levels, around, inner)?;

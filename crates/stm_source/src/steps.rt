@@ -11,6 +11,7 @@ use crate::words::event_word;
 use std::alloc::AllocError;
 use stm_events::WorldEvent;
 use stm_history::{HIGHEST_NUMBER, Sequence};
+use stm_program::Operator;
 use stm_terms::{
     SourceCause, SourceError, after_symbol, fault, next_name, next_number, place, unexpected,
 };
@@ -86,7 +87,7 @@ fn runner<'a>(story: &Story, tokens: &'a [Token]) -> Result<(u64, &'a [Token]), 
 fn times(tokens: &[Token]) -> Result<(u64, &[Token]), SourceError>
     ensures { Returns (λ x. (x.0, x.1.now)) result (spec.times_at tokens.now) }
 {
-    let Some(rest) = after_symbol(tokens, Symbol::Multiply) else {
+    let Some(rest) = after_symbol(tokens, Symbol::Arithmetic(Operator::Mul)) else {
         return Ok((1, tokens));
     };
     let (times, rest) = plain_number(HIGHEST_NUMBER, rest)?;

@@ -3,9 +3,9 @@ ghost use Rattle.std.specs.Prelude.{◌≡◌, ◌+◌, length, option_map, IfOk
 ghost use Rattle.stm_source.specs.Definitions.{look_for_arguments};
 ghost use Rattle.stm_source.specs.Wanted as spec;
 
-use crate::definitions::{Definition, Definitions, alone, look_of, open_arguments};
+use crate::definitions::{Definition, alone, look_of, open_arguments};
 use crate::programs::{Look, parts};
-use crate::sources::{empty_story, items};
+use crate::sources::{empty_definitions, empty_story, items};
 use std::alloc::{AllocError, Global};
 use stm_history::{Sequence, Text};
 use stm_terms::{
@@ -161,11 +161,7 @@ fn wanted_of_tokens(
 ) -> Result<Sequence<Kind>, AllocError>
     ensures { IfOk result (λ kinds. kinds ≡ spec.wanted_of_tokens tokens.now name.now) }
 {
-    let mut definitions = Definitions {
-        names: Names::new(alloc),
-        meanings: Sequence::new(alloc),
-        constants: Shared::new(alloc, Constants::new(alloc))?,
-    };
+    let mut definitions = empty_definitions(alloc)?;
     let mut story = empty_story(alloc);
     match items(alloc, &mut definitions, &mut story, tokens) {
         Ok(()) => wanted_of(

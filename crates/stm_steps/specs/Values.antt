@@ -55,14 +55,22 @@ abbrev pub is_zero : ℤ → Bool
 is_zero (pos n) = nat_eq n 0
 is_zero (negsuc n) = false
 
--- a quotient is truncated towards zero, and a remainder has the sign of the left number; a zero divisor is checked first, and
--- a remainder whose quotient is out of range is refused with it
+-- what an operator gives, of any size: a quotient is truncated towards zero, and a remainder has the sign of the left number; a zero divisor is
+-- checked first, and a remainder whose quotient is out of range is refused with it
+abbrev pub given_by : Operator → ℤ → ℤ → Result ℤ Fault
+given_by Add a b = Ok (a +ℤ b)
+given_by Sub a b = Ok (a -ℤ b)
+given_by Mul a b = Ok (a *ℤ b)
+given_by Div a b = if is_zero b then Err ZeroDivisor else Ok (int_div a b)
+given_by Rem a b = if is_zero b then Err ZeroDivisor else (if is_in_range (int_div a b) then Ok (int_rem a b) else Err Overflow)
+
+abbrev pub in_range_of : Result ℤ Fault → Result ℤ Fault
+in_range_of (Ok z) = number_or Overflow z
+in_range_of (Err fault) = Err fault
+
+-- that, in range
 unfoldable pub computed : Operator → ℤ → ℤ → Result ℤ Fault
-computed Add a b = number_or Overflow (a +ℤ b)
-computed Sub a b = number_or Overflow (a -ℤ b)
-computed Mul a b = number_or Overflow (a *ℤ b)
-computed Div a b = if is_zero b then Err ZeroDivisor else number_or Overflow (int_div a b)
-computed Rem a b = if is_zero b then Err ZeroDivisor else (if is_in_range (int_div a b) then Ok (int_rem a b) else Err Overflow)
+computed operator a b = in_range_of (given_by operator a b)
 
 -- a result that is a number or a text, as a value
 abbrev pub as_number : Result ℤ Fault → Result Value Fault

@@ -3,3 +3,4 @@ pub mod JobLemmas
 pub mod PastKeys
 pub mod Ready
 pub mod Texts
+pub mod CompactLemmas

@@ -1,3 +1,4 @@
+pub mod Compacting
 pub mod Faults
 pub mod Jobs
 pub mod Past

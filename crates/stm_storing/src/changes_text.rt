@@ -1,8 +1,9 @@
 //! The text of a scenario that makes the calls and the changes of a run of jobs again: no clause speaks of it, since what it comes to is looked at before it
 //! is kept.
-ghost use Rattle.std.specs.Prelude.{◌≡◌, false};
+ghost use Rattle.std.specs.Prelude.{◌≡◌, ◌≤◌, false};
 ghost use Rattle.serde_json.specs.View.{view};
 ghost use Rattle.serde_json.specs.Written.{has_float};
+ghost use Rattle.stm_history.specs.History.{now};
 
 use serde_json::Value as Json;
 use std::alloc::{AllocError, Global};
@@ -50,7 +51,11 @@ fn push_element(alloc: Global, text: &mut String, element: &Json) -> Result<(), 
 }
 
 /// Adds an event.
-fn push_event(alloc: Global, text: &mut String, event: &WorldEvent) -> Result<(), AllocError> {
+pub(crate) fn push_event(
+    alloc: Global,
+    text: &mut String,
+    event: &WorldEvent,
+) -> Result<(), AllocError> {
     let element = event_json(alloc, event)?;
     push_element(alloc, text, &element)
 }
@@ -63,6 +68,19 @@ fn push_events(alloc: Global, text: &mut String, events: &[WorldEvent]) -> Resul
     Ok(())
 }
 
+/// Adds the transaction that makes the changes of a revision.
+pub(crate) fn push_revision(
+    alloc: Global,
+    text: &mut String,
+    keys: &Keys,
+    revision: u64,
+) -> Result<(), AllocError>
+    requires { revision ≤ now keys.now.history }
+{
+    let txn = txn_of(alloc, keys.events_at(revision))?;
+    push_event(alloc, text, &txn)
+}
+
 /// Adds a transaction for each revision above this one.
 fn push_changes(
     alloc: Global,
@@ -71,8 +89,7 @@ fn push_changes(
     since: u64,
 ) -> Result<(), AllocError> {
     for revision in since..keys.revision() {
-        let txn = txn_of(alloc, keys.events_at(revision + 1))?;
-        push_event(alloc, text, &txn)?;
+        push_revision(alloc, text, keys, revision + 1)?;
     }
     Ok(())
 }

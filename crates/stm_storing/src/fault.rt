@@ -26,6 +26,8 @@ pub enum StoreFault {
     FutureRevision,
     /// The revision that was asked for is below the lowest one that can be read.
     Compacted,
+    /// No checkpoint at that revision shows the same, or it would be longer than 16 MiB, or a runner runs, or a watcher is open.
+    CannotCompact,
     /// The report could not be written.
     Output,
     /// A thread could not be started.
@@ -99,6 +101,11 @@ impl fmt::Display for StoreFault {
             }
             StoreFault::FutureRevision => f.write_str("the store has not come to that revision"),
             StoreFault::Compacted => f.write_str("that revision is compacted"),
+            StoreFault::CannotCompact => {
+                f.write_str(
+                    "cannot be compacted there: a runner runs, a watcher is open, a lease that has ended since was granted again, or what is left is longer than 16 MiB",
+                )
+            }
             StoreFault::Output => f.write_str("the report could not be written"),
             StoreFault::NoThread => f.write_str("no thread"),
             StoreFault::Audit(job) => write!(f, "audit {job}"),

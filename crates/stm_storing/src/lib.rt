@@ -5,6 +5,9 @@
 #![tactic(auto)]
 
 mod changes_text;
+mod checkpoint_text;
+mod compacting;
+mod ended_leases;
 mod fault;
 mod input;
 mod jobs;
@@ -15,6 +18,7 @@ mod running;
 mod scripting;
 mod showing;
 
+pub use compacting::compact_kept;
 pub use fault::StoreFault;
 pub use input::{InputFault, read_input, read_program};
 pub use jobs::threads_kept;

@@ -20,7 +20,7 @@ use stm_report_lines::{Event, Spelled, key_json, push_line};
 use stm_txn::{KeyState, Keys, Store, Text, Watched};
 
 /// The keys that were present at a revision, each with its state then.
-type Past = BTreeMap<Text, KeyState>;
+pub(crate) type Past = BTreeMap<Text, KeyState>;
 
 /// A copy of a state.
 fn copy_of(state: &KeyState) -> Result<KeyState, AllocError>
@@ -98,7 +98,7 @@ fn add_changed_since(
 }
 
 /// The keys that were present at a revision: each of them is present now, or was changed since.
-fn past_of(alloc: Global, keys: &Keys, revision: u64) -> Result<Past, AllocError>
+pub(crate) fn past_of(alloc: Global, keys: &Keys, revision: u64) -> Result<Past, AllocError>
     requires { revision ≤ now keys.now.history }
     ensures { IfOk result (λ past. IsPast keys.now.history revision past.entries) }
 {
@@ -133,7 +133,7 @@ fn push_past(alloc: Global, text: &mut String, past: &Past) -> Result<(), AllocE
 }
 
 /// A line for each key that was present at a revision.
-fn text_at(alloc: Global, keys: &Keys, revision: u64) -> Result<String, AllocError>
+pub(crate) fn text_at(alloc: Global, keys: &Keys, revision: u64) -> Result<String, AllocError>
     requires { revision ≤ now keys.now.history }
     ensures { IfOk result (λ text. IsTextAt keys.now.history revision (string_bytes text)) }
 {

@@ -1,10 +1,10 @@
 -- Reading values one operator after the other, as a loop does.
-use Rattle.std.proofs.Common.{◌≡◌, ℕ, suc, ◌-◌, ◌+◌, ◌<◌, ◌≤◌, List, [], ◌∷◌, ◌++◌, Some, None, Ok, Err, refl, sym, ap, ◌∙◌, arith}
+use Rattle.std.proofs.Common.{◌≡◌, ℕ, suc, ◌-◌, ◌+◌, ◌<◌, ◌≤◌, List, Some, None, Ok, Err, refl, sym, ap, ◌∙◌, arith}
 use Rattle.stm_tokens.specs.declared.token.Token.{Token}
 use Rattle.stm_terms.specs.declared.scope.Scope.{Scope}
 use Rattle.stm_terms.specs.declared.kinds.Kind.{Kind}
 use Rattle.stm_terms.specs.declared.kinds.Valued.{Valued}
-use Rattle.stm_terms.specs.declared.values.Join.{Join}
+use Rattle.stm_terms.specs.declared.operators.Join.{Join}
 use Rattle.stm_terms.specs.declared.faults.SourceCause.TheVariants.{TooDeep}
 use Rattle.stm_terms.specs.declared.limits.TheConstants.{MOST_BRACKETS}
 use Rattle.stm_tokens.specs.declared.token.Symbol.TheVariants.{Comma, RightParenthesis}
@@ -12,6 +12,7 @@ use Rattle.stm_terms.specs.Cursor.{unexpected, after_symbol, expect_symbol}
 use Rattle.stm_terms.specs.declared.faults.SourceError.{SourceError}
 use Rattle.stm_terms.specs.declared.faults.SourceError.TheVariants.{OutOfMemory, Bad}
 use Rattle.stm_terms.specs.Outcome.{Read, ReturnsFault}
+use Rattle.stm_terms.specs.Uses.{with_argument_added}
 use Rattle.stm_terms.specs.Values.{Right, next_join, chain, behind_by, tier_behind, tier_by, operand_by, operand_within, value_by, bracketed_by, bracketed_at, Bracketed, Uses, uses_by, uses_at, uses_from}
 
 pub behind_none : (operand : List Token → Read Valued) (scope : Scope) (tier at : ℕ) (first : Valued) (tokens : List Token) → tier ≡ 0
@@ -101,53 +102,64 @@ unfolding uses_at
 uses_none levels scope tokens e none is = rw (is, none) refl
 
 pub uses_some : (levels : ℕ) (scope : Scope) (tokens : List Token) → 0 < levels
-    → uses_at levels scope tokens ≡ uses_by (value_by (levels - 1) (bracketed_at (levels - 1) scope) (uses_at (levels - 1) scope) scope) tokens
+    → uses_at levels scope tokens ≡ uses_by scope (value_by (levels - 1) (bracketed_at (levels - 1) scope) (uses_at (levels - 1) scope) scope) tokens
 unfolding uses_at
 uses_some levels scope tokens some =
     let e : levels ≡ suc (levels - 1) = omega arith in
     ap (λ (n : ℕ). uses_at n scope tokens) e
 
-pub uses_fault : (e : SourceError) (value : List Token → Read Valued) (n i : ℕ) (xs : List Valued) (tokens : List Token) (total : Read (List Valued)) → i < n
-    → ReturnsFault e (value tokens) → uses_from value (n - i) xs tokens ≡ total → ReturnsFault e total
+pub uses_fault : (e : SourceError) (scope : Scope) (value : List Token → Read Valued) (n i : ℕ) (xs : List Valued) (tokens : List Token) (total : Read (List Valued))
+    → i < n → ReturnsFault e (value tokens) → uses_from scope value (n - i) xs tokens ≡ total → ReturnsFault e total
 unfolding uses_from
-uses_fault OutOfMemory value n i xs tokens total less is so_far = tt
-uses_fault (Bad f) value n i xs tokens total less is so_far =
+uses_fault OutOfMemory scope value n i xs tokens total less is so_far = tt
+uses_fault (Bad f) scope value n i xs tokens total less is so_far =
     let k : n - i ≡ suc (n - (i + 1)) = omega arith in
-    let one : uses_from value (n - i) xs tokens ≡ Err f = rw (k, is) refl in
+    let one : uses_from scope value (n - i) xs tokens ≡ Err f = rw (k, is) refl in
     sym so_far ∙ one
 
-pub uses_more : (value : List Token → Read Valued) (n i : ℕ) (xs : List Valued) (x : Valued) (tokens behind next : List Token) (total : Read (List Valued)) → i < n
-    → value tokens ≡ Ok (x, behind) → after_symbol Comma behind ≡ Some next → uses_from value (n - i) xs tokens ≡ total
-    → uses_from value (n - (i + 1)) (xs ++ x ∷ []) next ≡ total
+pub uses_refused : (e : SourceError) (scope : Scope) (value : List Token → Read Valued) (n i : ℕ) (xs : List Valued) (x : Valued) (tokens behind : List Token)
+    (total : Read (List Valued)) → i < n → value tokens ≡ Ok (x, behind) → ReturnsFault e (with_argument_added scope xs tokens x behind)
+    → uses_from scope value (n - i) xs tokens ≡ total → ReturnsFault e total
 unfolding uses_from
-uses_more value n i xs x tokens behind next total less is follows so_far =
+uses_refused OutOfMemory scope value n i xs x tokens behind total less is refused so_far = tt
+uses_refused (Bad f) scope value n i xs x tokens behind total less is refused so_far =
     let k : n - i ≡ suc (n - (i + 1)) = omega arith in
-    let one : uses_from value (n - i) xs tokens ≡ uses_from value (n - (i + 1)) (xs ++ x ∷ []) next = rw (k, is, follows) refl in
+    let one : uses_from scope value (n - i) xs tokens ≡ Err f = rw (k, is, refused) refl in
+    sym so_far ∙ one
+
+pub uses_more : (scope : Scope) (value : List Token → Read Valued) (n i : ℕ) (xs ys : List Valued) (x : Valued) (tokens behind next : List Token)
+    (total : Read (List Valued)) → i < n → value tokens ≡ Ok (x, behind) → with_argument_added scope xs tokens x behind ≡ Ok ys
+    → after_symbol Comma behind ≡ Some next → uses_from scope value (n - i) xs tokens ≡ total → uses_from scope value (n - (i + 1)) ys next ≡ total
+unfolding uses_from
+uses_more scope value n i xs ys x tokens behind next total less is added follows so_far =
+    let k : n - i ≡ suc (n - (i + 1)) = omega arith in
+    let one : uses_from scope value (n - i) xs tokens ≡ uses_from scope value (n - (i + 1)) ys next = rw (k, is, added, follows) refl in
     sym one ∙ so_far
 
-pub uses_over : (e : SourceError) (value : List Token → Read Valued) (n i : ℕ) (xs : List Valued) (tokens : List Token) (total : Read (List Valued)) → n ≤ i
-    → e ≡ Bad (unexpected tokens) → uses_from value (n - i) xs tokens ≡ total → ReturnsFault e total
+pub uses_over : (e : SourceError) (scope : Scope) (value : List Token → Read Valued) (n i : ℕ) (xs : List Valued) (tokens : List Token) (total : Read (List Valued))
+    → n ≤ i → e ≡ Bad (unexpected tokens) → uses_from scope value (n - i) xs tokens ≡ total → ReturnsFault e total
 unfolding uses_from
-uses_over e value n i xs tokens total over is so_far =
+uses_over e scope value n i xs tokens total over is so_far =
     let k : n - i ≡ 0 = omega arith in
-    let one : uses_from value (n - i) xs tokens ≡ Err (unexpected tokens) = rw k refl in
+    let one : uses_from scope value (n - i) xs tokens ≡ Err (unexpected tokens) = rw k refl in
     rw is (sym so_far ∙ one)
 
-pub uses_last : (value : List Token → Read Valued) (n i : ℕ) (xs : List Valued) (x : Valued) (tokens behind rest : List Token) (total : Read (List Valued)) → i < n
-    → value tokens ≡ Ok (x, behind) → after_symbol Comma behind ≡ None → expect_symbol RightParenthesis behind ≡ Ok rest
-    → uses_from value (n - i) xs tokens ≡ total → total ≡ Ok (xs ++ x ∷ [], rest)
+pub uses_last : (scope : Scope) (value : List Token → Read Valued) (n i : ℕ) (xs ys : List Valued) (x : Valued) (tokens behind rest : List Token)
+    (total : Read (List Valued)) → i < n → value tokens ≡ Ok (x, behind) → with_argument_added scope xs tokens x behind ≡ Ok ys
+    → after_symbol Comma behind ≡ None → expect_symbol RightParenthesis behind ≡ Ok rest → uses_from scope value (n - i) xs tokens ≡ total → total ≡ Ok (ys, rest)
 unfolding uses_from
-uses_last value n i xs x tokens behind rest total less is ends closed so_far =
+uses_last scope value n i xs ys x tokens behind rest total less is added ends closed so_far =
     let k : n - i ≡ suc (n - (i + 1)) = omega arith in
-    let one : uses_from value (n - i) xs tokens ≡ Ok (xs ++ x ∷ [], rest) = rw (k, is, ends, closed) refl in
+    let one : uses_from scope value (n - i) xs tokens ≡ Ok (ys, rest) = rw (k, is, added, ends, closed) refl in
     sym so_far ∙ one
 
-pub uses_unclosed : (e : SourceError) (value : List Token → Read Valued) (n i : ℕ) (xs : List Valued) (x : Valued) (tokens behind : List Token)
-    (total : Read (List Valued)) → i < n → value tokens ≡ Ok (x, behind) → after_symbol Comma behind ≡ None
-    → ReturnsFault e (expect_symbol RightParenthesis behind) → uses_from value (n - i) xs tokens ≡ total → ReturnsFault e total
+pub uses_unclosed : (e : SourceError) (scope : Scope) (value : List Token → Read Valued) (n i : ℕ) (xs ys : List Valued) (x : Valued) (tokens behind : List Token)
+    (total : Read (List Valued)) → i < n → value tokens ≡ Ok (x, behind) → with_argument_added scope xs tokens x behind ≡ Ok ys
+    → after_symbol Comma behind ≡ None → ReturnsFault e (expect_symbol RightParenthesis behind) → uses_from scope value (n - i) xs tokens ≡ total
+    → ReturnsFault e total
 unfolding uses_from
-uses_unclosed OutOfMemory value n i xs x tokens behind total less is ends unclosed so_far = tt
-uses_unclosed (Bad f) value n i xs x tokens behind total less is ends unclosed so_far =
+uses_unclosed OutOfMemory scope value n i xs ys x tokens behind total less is added ends unclosed so_far = tt
+uses_unclosed (Bad f) scope value n i xs ys x tokens behind total less is added ends unclosed so_far =
     let k : n - i ≡ suc (n - (i + 1)) = omega arith in
-    let one : uses_from value (n - i) xs tokens ≡ Err f = rw (k, is, ends, unclosed) refl in
+    let one : uses_from scope value (n - i) xs tokens ≡ Err f = rw (k, is, added, ends, unclosed) refl in
     sym so_far ∙ one

@@ -1,10 +1,11 @@
 -- Conditions: the condition that tokens spell, or the first fault.
-use Rattle.std.specs.Prelude.{ℕ, zero, suc, ◌+◌, List, [], ◌∷◌, drop, length, Option, Some, None, Ok, Err, nat_eq, nat_lt, if◌then◌else◌}
+use Rattle.std.specs.Prelude.{ℕ, zero, suc, ◌+◌, ◌-◌, ◌*◌, List, [], ◌∷◌, drop, length, Bool, ◌&&◌, not, Option, Some, None, Ok, Err, is_ok, nat_eq, nat_lt, if◌then◌else◌}
 use Rattle.stm_tokens.specs.declared.token.Token.{Token}
 use Rattle.stm_tokens.specs.declared.token.Symbol.{Symbol}
 use Rattle.stm_tokens.specs.declared.token.Symbol.TheVariants as symbol
 use Rattle.stm_tokens.specs.Same.{is_symbol}
 use Rattle.stm_program.specs.Syntax.{Condition, Not, And, Or}
+use Rattle.stm_program.specs.declared.limits.TheConstants.{MAX_NODES}
 use Rattle.stm_terms.specs.declared.faults.SourceCause.TheVariants as cause
 use Rattle.stm_terms.specs.declared.scope.Scope.{Scope}
 use Rattle.stm_terms.specs.declared.kinds.Valued.{Valued}
@@ -20,6 +21,7 @@ use Rattle.stm_terms.specs.Outcome.{Outcome, Read, bad, ◌>>=◌}
 use Rattle.stm_terms.specs.Comparisons.{compared, next_comparison}
 use Rattle.stm_terms.specs.LookUps.{pair_with_front}
 use Rattle.stm_terms.specs.Cursor.{place, unexpected, after_symbol, expect_symbol}
+use Rattle.stm_terms.specs.Room.{condition_room}
 use Rattle.stm_terms.specs.Scope.{without_else}
 use Rattle.stm_terms.specs.Values.{operand_at, value_of, value_behind}
 
@@ -106,38 +108,56 @@ tier_symbol tier = if nat_eq tier 1 then symbol.And else symbol.Or
 abbrev pub tier_connective : ℕ → Connective
 tier_connective tier = if nat_eq tier 1 then connective.And else connective.Or
 
-abbrev pub connected_with : (List Token → Read Condition) → (Condition × List Token → Read Condition) → Condition → List Token
+-- a program may have so many nodes
+abbrev pub fits : Condition → Bool
+fits c = is_ok (condition_room (MAX_NODES + 1) MAX_NODES c)
+
+-- of these tokens up to the rest a condition was read that has more than twice as many nodes: definitions are copied in there
+abbrev pub is_copied : List Token → List Token → Condition → Bool
+is_copied tokens rest c = not (is_ok (condition_room (2 * length tokens + 1) (2 * (length tokens - length rest)) c))
+
+-- what is copied in is refused at once, where it is not kept and where there are more nodes than a program has
+abbrev pub may_connect : Scope → Bool → Bool → Condition → Outcome (Unit {0})
+may_connect scope kept copied c = if copied && not (kept && fits c) then bad scope.program cause.TooManyNodes else Ok tt
+
+-- a condition that was read of these tokens up to the rest, behind another one
+abbrev pub connected_right : Scope → ℕ → Connective → Condition → Condition → List Token → List Token → Outcome Condition
+connected_right scope done j left right tokens rest =
+    may_connect scope (nat_lt done MOST_JOINS) (is_copied tokens rest right) (connected_up done j left right) >>= λ u. Ok (connected_up done j left right)
+
+abbrev pub connected_with : (List Token → Read Condition) → (List Token → Condition × List Token → Read Condition) → Condition → List Token
     → Option (List Token) → Read Condition
 connected_with part more left tokens None = Ok (left, tokens)
-connected_with part more left tokens (Some behind) = part behind >>= λ x. more x
+connected_with part more left tokens (Some behind) = part behind >>= λ x. more behind x
 
 -- the connectives of a tier, from left to right, behind a condition, at most so many
-unfoldable pub connection : (List Token → Read Condition) → ℕ → ℕ → ℕ → Condition → List Token → Read Condition
-connection part tier zero done left tokens = Ok (left, tokens)
-connection part tier (suc more) done left tokens =
-    connected_with part (λ x. connection part tier more (done + 1) (connected_up done (tier_connective tier) left x.0) x.1) left tokens
+unfoldable pub connection : Scope → (List Token → Read Condition) → ℕ → ℕ → ℕ → Condition → List Token → Read Condition
+connection scope part tier zero done left tokens = Ok (left, tokens)
+connection scope part tier (suc more) done left tokens =
+    connected_with part
+    (λ behind x. connected_right scope done (tier_connective tier) left x.0 behind x.1 >>= λ c. connection scope part tier more (done + 1) c x.1) left tokens
     (after_symbol (tier_symbol tier) tokens)
 
 -- those of a tier, behind a condition
-abbrev pub connections_behind : (List Token → Read ValueOrCondition) → ℕ → Tested → List Token → Read ValueOrCondition
-connections_behind part tier t tokens =
-    connection (part_by part) (tier + 1) (length tokens) 0 t.condition tokens >>= λ x. Ok (found.Condition (with_condition t x.0), x.1)
+abbrev pub connections_behind : Scope → (List Token → Read ValueOrCondition) → ℕ → Tested → List Token → Read ValueOrCondition
+connections_behind scope part tier t tokens =
+    connection scope (part_by part) (tier + 1) (length tokens) 0 t.condition tokens >>= λ x. Ok (found.Condition (with_condition t x.0), x.1)
 
 -- behind a part, which begins at a byte
-abbrev pub joined_from : (List Token → Read ValueOrCondition) → ℕ → ℕ → ValueOrCondition → List Token → Option (List Token) → Read ValueOrCondition
-joined_from part tier at left rest None = Ok (left, rest)
-joined_from part tier at left rest (Some behind) =
-    wanted at left >>= λ t. connections_behind part tier t rest
+abbrev pub joined_from : Scope → (List Token → Read ValueOrCondition) → ℕ → ℕ → ValueOrCondition → List Token → Option (List Token) → Read ValueOrCondition
+joined_from scope part tier at left rest None = Ok (left, rest)
+joined_from scope part tier at left rest (Some behind) =
+    wanted at left >>= λ t. connections_behind scope part tier t rest
 
 -- parts of the tier below, the first of which is read otherwise than those behind the connectives of this one
-abbrev pub connections_above : (List Token → Read ValueOrCondition) → (List Token → Read ValueOrCondition) → ℕ → List Token → Read ValueOrCondition
-connections_above first part tier tokens =
-    first tokens >>= λ x. joined_from part tier (place tokens) x.0 x.1 (after_symbol (tier_symbol (tier + 1)) x.1)
+abbrev pub connections_above : Scope → (List Token → Read ValueOrCondition) → (List Token → Read ValueOrCondition) → ℕ → List Token → Read ValueOrCondition
+connections_above scope first part tier tokens =
+    first tokens >>= λ x. joined_from scope part tier (place tokens) x.0 x.1 (after_symbol (tier_symbol (tier + 1)) x.1)
 
-unfoldable pub connections_by : (List Token → Read ValueOrCondition) → (List Token → Read ValueOrCondition) → ℕ → List Token → Read ValueOrCondition
-connections_by first primary zero tokens = first tokens
-connections_by first primary (suc tier) tokens =
-    connections_above (connections_by first primary tier) (connections_by primary primary tier) tier tokens
+unfoldable pub connections_by : Scope → (List Token → Read ValueOrCondition) → (List Token → Read ValueOrCondition) → ℕ → List Token → Read ValueOrCondition
+connections_by scope first primary zero tokens = first tokens
+connections_by scope first primary (suc tier) tokens =
+    connections_above scope (connections_by scope first primary tier) (connections_by scope primary primary tier) tier tokens
 
 -- ---- brackets
 
@@ -153,10 +173,10 @@ no_bracket tokens = Err (unexpected tokens)
 -- a value or a condition, where so many brackets may still be opened
 unfoldable pub found_at : ℕ → Scope → List Token → Read ValueOrCondition
 found_at zero scope tokens =
-    connections_by (λ ts. primary_by no_bracket no_bracket zero scope (negations ts) ts)
+    connections_by (without_else scope) (λ ts. primary_by no_bracket no_bracket zero scope (negations ts) ts)
     (λ ts. primary_by no_bracket no_bracket zero (without_else scope) (negations ts) ts) 2 tokens
 found_at (suc levels) scope tokens =
-    connections_by
+    connections_by (without_else scope)
     (λ ts. primary_by (between (found_at levels scope)) (between (condition_by (found_at levels scope))) (suc levels) scope (negations ts) ts)
     (λ ts. primary_by (between (found_at levels (without_else scope))) (between (condition_by (found_at levels (without_else scope)))) (suc levels)
     (without_else scope) (negations ts) ts) 2 tokens
@@ -174,7 +194,7 @@ abbrev pub primary_at : ℕ → Scope → List Token → Read ValueOrCondition
 primary_at levels scope tokens = primary_by (bracket_at levels scope) (condition_bracket_at levels scope) levels scope (negations tokens) tokens
 
 abbrev pub connections_at : ℕ → Scope → ℕ → List Token → Read ValueOrCondition
-connections_at levels scope tier = connections_by (primary_at levels scope) (primary_at levels (without_else scope)) tier
+connections_at levels scope tier = connections_by (without_else scope) (primary_at levels scope) (primary_at levels (without_else scope)) tier
 
 -- a condition
 abbrev pub condition_at : ℕ → Scope → List Token → Read Tested

@@ -1,5 +1,5 @@
 -- Items: what a loop goes over, and what a list is made of.
-use Rattle.std.specs.Prelude.{ℕ, zero, suc, List, [], ◌∷◌, ◌++◌, length, Bool, Option, Some, None, Ok, Err, unwrap_or, nat_lt, if◌then◌else◌}
+use Rattle.std.specs.Prelude.{ℕ, zero, suc, List, [], ◌∷◌, ◌++◌, length, take, Bool, Option, Some, None, Ok, Err, unwrap_or, nat_lt, if◌then◌else◌}
 use Rattle.stm_tokens.specs.declared.token.Token.{Token}
 use Rattle.stm_tokens.specs.declared.token.Symbol.TheVariants.{Comma}
 use Rattle.stm_program.specs.declared.limits.TheConstants.{MAX_TEXT}
@@ -8,6 +8,7 @@ use Rattle.stm_terms.specs.declared.arguments.Argument.TheVariants as argument
 use Rattle.stm_terms.specs.declared.constants.Item.{Item}
 use Rattle.stm_terms.specs.declared.faults.SourceCause.TheVariants as cause
 use Rattle.stm_terms.specs.declared.items.Items.{Items}
+use Rattle.stm_terms.specs.declared.limits.TheConstants.{MOST_KEPT}
 use Rattle.stm_terms.specs.declared.kinds.Kind.{Kind}
 use Rattle.stm_terms.specs.declared.kinds.Kind.TheVariants.{Either, Text, Number}
 use Rattle.stm_terms.specs.declared.scope.Scope.{Scope}
@@ -59,8 +60,9 @@ alone_at at blamed (Some a) rest = Ok (item_as a blamed ∷ [], rest)
 abbrev pub list_if : Scope → Bool → List ℕ → Option (List Item)
 list_if scope lists name = if lists then list_in_sight scope name else None
 
+-- of a list so many that a program has fewer nodes than they have copies of a block
 abbrev pub named_by : Scope → ℕ → List ℕ → List Token → Option (List Item) → Read (List Item)
-named_by scope at name rest (Some items) = Ok (items, rest)
+named_by scope at name rest (Some items) = Ok (take MOST_KEPT items, rest)
 named_by scope at name rest None = alone_at at (blamed scope name) (argument_named scope name) rest
 
 abbrev pub named_items : Scope → Bool → ℕ → List ℕ → List Token → Read (List Item)

@@ -2,6 +2,7 @@
 use Rattle.std.specs.Prelude.{ℕ, ◌^◌, pos, neg_ℤ, List, Option, Some, None, Ok, Err, nat_le, nat_lt, if◌then◌else◌}
 use Rattle.stm_tokens.specs.declared.token.Token.{Token}
 use Rattle.stm_tokens.specs.declared.token.Symbol.TheVariants as symbol
+use Rattle.stm_program.specs.declared.operator.Operator.TheVariants.{Sub}
 use Rattle.stm_terms.specs.declared.arguments.Argument.{Argument}
 use Rattle.stm_terms.specs.declared.arguments.Argument.TheVariants.{Text, Number}
 use Rattle.stm_terms.specs.declared.arguments.Given.{Given}
@@ -44,7 +45,7 @@ argument_by constants tokens None None None None = Err (unexpected tokens)
 
 abbrev pub argument_at : Constants → List Token → Read Given
 argument_at constants tokens =
-    argument_by constants tokens (next_text tokens) (next_number tokens) (after_symbol symbol.Subtract tokens) (next_name tokens)
+    argument_by constants tokens (next_text tokens) (next_number tokens) (after_symbol (symbol.Arithmetic Sub) tokens) (next_name tokens)
 
 -- ---- in a program: a number up to a greatest one, and a text; what a name stands for is blamed where the scope says
 

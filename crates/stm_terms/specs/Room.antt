@@ -1,9 +1,12 @@
 -- What is wrong with a program that is too deep or has too many nodes, and how many nodes are left where it is neither. Each node is looked at
 -- before its parts, and these in order.
-use Rattle.std.specs.Prelude.{ℕ, ◌-◌, length, Result, Ok, Err, nat_eq, nat_le, if◌then◌else◌}
+use Rattle.std.specs.Prelude.{ℕ, ◌-◌, List, [], ◌∷◌, length, Option, Some, None, Result, Ok, Err, nat_eq, nat_le, if◌then◌else◌}
 use Rattle.stm_program.specs.declared.limits.TheConstants.{MAX_TEXT, MAX_TURNS, MAX_LEASE}
 use Rattle.stm_program.specs.Syntax.{Expression, Text, Number, Variable, Get, Rev, Arithmetic, Cat, TextOf, NumOf, Condition, Equal, Less, Not, And, Or}
 use Rattle.stm_program.specs.Syntax.{Statement, Set, Put, Del, If, For, Emit, Abort, Block, End, Then}
+use Rattle.stm_terms.specs.declared.kinds.Valued.{Valued}
+use Rattle.stm_terms.specs.declared.look_ups.LookUp.{LookUp}
+use Rattle.stm_terms.specs.declared.look_ups.Other.{Other}
 use Rattle.stm_terms.specs.declared.faults.SourceCause.{SourceCause}
 use Rattle.stm_terms.specs.declared.faults.SourceCause.TheVariants.{TooDeep, TooManyNodes, TooLong, Range}
 
@@ -33,6 +36,22 @@ expression_room levels room (TextOf e) = node levels room (λ l r. expression_ro
 expression_room levels room (NumOf e) = node levels room (λ l r. expression_room l r e)
 expression_room levels room (Arithmetic o a b) = node levels room (λ l r. expression_room l r a >>= λ left. expression_room l left b)
 expression_room levels room (Cat a b) = node levels room (λ l r. expression_room l r a >>= λ left. expression_room l left b)
+
+-- what stands behind an `else` is a part of the program, too
+abbrev pub other_room : ℕ → ℕ → Option Other → Room
+other_room levels room None = Ok room
+other_room levels room (Some o) = expression_room levels room o.value
+
+abbrev pub others_room : ℕ → ℕ → List LookUp → Room
+others_room levels room [] = Ok room
+others_room levels room (l ∷ ls) = other_room levels room l.other >>= λ left. others_room levels left ls
+
+abbrev pub value_room : ℕ → ℕ → Valued → Room
+value_room levels room x = expression_room levels room x.expression >>= λ left. others_room levels left x.look_ups
+
+abbrev pub values_room : ℕ → ℕ → List Valued → Room
+values_room levels room [] = Ok room
+values_room levels room (x ∷ xs) = value_room levels room x >>= λ left. values_room levels left xs
 
 abbrev pub condition_room : ℕ → ℕ → Condition → Room
 condition_room levels room (Equal a b) = node levels room (λ l r. expression_room l r a >>= λ left. expression_room l left b)

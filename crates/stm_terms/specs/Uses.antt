@@ -1,5 +1,6 @@
 -- Copying in what is defined outside of programs: a value whose parameters are its variables, in their order.
-use Rattle.std.specs.Prelude.{ℕ, ◌+◌, List, [], ◌∷◌, ◌++◌, Bool, true, false, ◌||◌, ◌&&◌, not, Option, Some, None, is_some, Ok, Err, Result, slice_get, unwrap_or, nat_lt, if◌then◌else◌}
+use Rattle.std.specs.Prelude.{ℕ, ◌+◌, ◌-◌, List, [], ◌∷◌, ◌++◌, length, Bool, true, false, ◌&&◌, not, Option, Some, None, is_some, Ok, Err, Result, is_ok, slice_get, unwrap_or, nat_eq, nat_lt, if◌then◌else◌}
+use Rattle.stm_tokens.specs.declared.token.Token.{Token}
 use Rattle.stm_program.specs.declared.limits.TheConstants.{MAX_NODES}
 use Rattle.stm_program.specs.Syntax.{Expression, Text, Number, Variable, Get, Rev, Arithmetic, Cat, TextOf, NumOf}
 use Rattle.stm_terms.specs.declared.faults.SourceCause.{SourceCause}
@@ -11,10 +12,11 @@ use Rattle.stm_terms.specs.declared.look_ups.LookUp.{LookUp}
 use Rattle.stm_terms.specs.declared.look_ups.Other.{Other}
 use Rattle.stm_terms.specs.declared.scope.Scope.{Scope}
 use Rattle.stm_terms.specs.declared.uses.Copying.{Copying}
+use Rattle.stm_terms.specs.declared.limits.TheConstants.{MOST_ARGUMENTS}
 use Rattle.stm_terms.specs.Kinds.{agrees, valued}
-use Rattle.stm_terms.specs.LookUps.{other_as, look_up_as, first_else, has_else}
+use Rattle.stm_terms.specs.LookUps.{other_as, look_up_as, with_look_up, first_else, has_else}
 use Rattle.stm_terms.specs.Outcome.{Outcome, bad, ◌>>=◌}
-use Rattle.stm_terms.specs.Room.{expression_room}
+use Rattle.stm_terms.specs.Room.{Room, value_room, values_room}
 
 -- ---- the value, with arguments in the places of its parameters
 
@@ -35,17 +37,39 @@ placed arguments (NumOf e) = NumOf (placed arguments e)
 
 -- ---- its look-ups, in the order in which they are evaluated: its own stand where its name does
 
-abbrev pub other_of : ℕ → List Valued → Option Other → Option Other
-other_of at arguments None = None
-other_of at arguments (Some o) = Some (other_as at (placed arguments o.value) 0)
+-- behind these, those of what a parameter stands for
+abbrev pub with_argument : Option Valued → List LookUp → List LookUp
+with_argument None ls = ls
+with_argument (Some x) ls = ls ++ x.look_ups
+
+-- behind these, those of a value in which no look-up has an `else`
+abbrev pub look_ups_in : ℕ → List Valued → Expression → List LookUp → List LookUp
+look_ups_in at arguments (Text t) ls = ls
+look_ups_in at arguments (Number z) ls = ls
+look_ups_in at arguments (Variable v) ls = with_argument (slice_get arguments v) ls
+look_ups_in at arguments (Get e) ls = with_look_up (look_ups_in at arguments e ls) at
+look_ups_in at arguments (Rev e) ls = with_look_up (look_ups_in at arguments e ls) at
+look_ups_in at arguments (Arithmetic o l r) ls = look_ups_in at arguments r (look_ups_in at arguments l ls)
+look_ups_in at arguments (Cat l r) ls = look_ups_in at arguments r (look_ups_in at arguments l ls)
+look_ups_in at arguments (TextOf e) ls = look_ups_in at arguments e ls
+look_ups_in at arguments (NumOf e) ls = look_ups_in at arguments e ls
+
+-- those of a value behind an `else` that follow it: none, where none has an `else`
+abbrev pub own_look_ups : ℕ → List Valued → Expression → List LookUp
+own_look_ups at arguments e = if has_else (look_ups_in at arguments e []) then look_ups_in at arguments e [] else []
+
+-- a look-up, and those that follow it
+abbrev pub look_up_of : ℕ → List Valued → Option Other → List LookUp
+look_up_of at arguments None = with_look_up [] at
+look_up_of at arguments (Some o) =
+    look_up_as at (Some (other_as at (placed arguments o.value) (length (own_look_ups at arguments o.value)))) ∷ own_look_ups at arguments o.value
 
 abbrev pub with_next : ℕ → List Valued → Option LookUp → Copying → Copying
 with_next at arguments None c = c
-with_next at arguments (Some l) c = record { done = c.done + 1; look_ups = c.look_ups ++ look_up_as at (other_of at arguments l.other) ∷ [] }
+with_next at arguments (Some l) c = record { done = c.done + 1; look_ups = c.look_ups ++ look_up_of at arguments l.other }
 
-abbrev pub with_argument : Option Valued → Copying → Copying
-with_argument None c = c
-with_argument (Some x) c = record c { look_ups = c.look_ups ++ x.look_ups }
+abbrev pub copied_argument : Option Valued → Copying → Copying
+copied_argument x c = record c { look_ups = with_argument x c.look_ups }
 
 abbrev pub next_of : List LookUp → ℕ → List Valued → Copying → Copying
 next_of defined at arguments c = with_next at arguments (slice_get defined c.done) c
@@ -53,7 +77,7 @@ next_of defined at arguments c = with_next at arguments (slice_get defined c.don
 abbrev pub walked : List LookUp → ℕ → List Valued → Expression → Copying → Copying
 walked defined at arguments (Text t) c = c
 walked defined at arguments (Number z) c = c
-walked defined at arguments (Variable v) c = with_argument (slice_get arguments v) c
+walked defined at arguments (Variable v) c = copied_argument (slice_get arguments v) c
 walked defined at arguments (Get e) c = next_of defined at arguments (walked defined at arguments e c)
 walked defined at arguments (Rev e) c = next_of defined at arguments (walked defined at arguments e c)
 walked defined at arguments (Arithmetic o l r) c = walked defined at arguments r (walked defined at arguments l c)
@@ -67,38 +91,12 @@ none_copied = record { done = 0; look_ups = [] }
 abbrev pub look_ups_of : ℕ → List Valued → Valued → List LookUp
 look_ups_of at arguments d = (walked d.look_ups at arguments d.expression none_copied).look_ups
 
--- ---- an argument with an `else` may not stand behind an `else` of it
-
-abbrev pub argument_has_else : Option Valued → Bool
-argument_has_else None = false
-argument_has_else (Some x) = has_else x.look_ups
-
-abbrev pub holds_else : List Valued → Expression → Bool
-holds_else arguments (Text t) = false
-holds_else arguments (Number z) = false
-holds_else arguments (Variable v) = argument_has_else (slice_get arguments v)
-holds_else arguments (Get e) = holds_else arguments e
-holds_else arguments (Rev e) = holds_else arguments e
-holds_else arguments (Arithmetic o l r) = holds_else arguments l || holds_else arguments r
-holds_else arguments (Cat l r) = holds_else arguments l || holds_else arguments r
-holds_else arguments (TextOf e) = holds_else arguments e
-holds_else arguments (NumOf e) = holds_else arguments e
-
-abbrev pub other_holds_else : List Valued → Option Other → Bool
-other_holds_else arguments None = false
-other_holds_else arguments (Some o) = holds_else arguments o.value
-
-abbrev pub others_hold_else : List Valued → List LookUp → Bool
-others_hold_else arguments [] = false
-others_hold_else arguments (l ∷ ls) = if other_holds_else arguments l.other then true else others_hold_else arguments ls
+-- ---- where a definition with an `else` may be named, by a name that begins at a byte
 
 abbrev pub may_stand : Scope → ℕ → Valued → Outcome (Unit {0})
 may_stand scope at d = if not scope.takes_else && has_else d.look_ups then bad at cause.Syntax else Ok tt
 
-abbrev pub may_hold : ℕ → Valued → List Valued → Outcome (Unit {0})
-may_hold at d arguments = if others_hold_else arguments d.look_ups then bad at cause.Syntax else Ok tt
-
--- ---- nor an `else` behind another one
+-- ---- an `else` of a definition behind another one of it
 
 abbrev pub has_own : Option Other → Bool
 has_own None = false
@@ -147,21 +145,50 @@ abbrev pub kind_of_use : Scope → List Valued → Valued → Option Kind
 kind_of_use scope arguments d =
     if scope.looks_at_kinds then (if others_are_texts arguments d.look_ups then kind_in arguments d.expression else None) else Some kind.Either
 
--- ---- the copy
+-- ---- how much is copied
 
-abbrev pub room_or : Scope → Result ℕ SourceCause → Outcome (Unit {0})
-room_or scope (Ok left) = Ok tt
-room_or scope (Err c) = bad scope.program cause.TooManyNodes
+-- a program may have so many nodes
+abbrev pub fits : Valued → Bool
+fits x = is_ok (value_room (MAX_NODES + 1) MAX_NODES x)
 
 -- a value of more nodes than a program has is refused where that begins
-abbrev pub has_room : Scope → Expression → Outcome (Unit {0})
-has_room scope e = room_or scope (expression_room (MAX_NODES + 1) MAX_NODES e)
+abbrev pub has_room : Scope → Valued → Outcome (Unit {0})
+has_room scope x = if not (fits x) then bad scope.program cause.TooManyNodes else Ok tt
+
+-- of these tokens up to the rest a value was read that has more nodes than they are: definitions are copied in there
+abbrev pub is_copied : List Token → List Token → Valued → Bool
+is_copied tokens rest x = not (is_ok (value_room (length tokens + 1) (length tokens - length rest) x))
+
+-- what is copied in is refused at once, where it is not kept and where there are more nodes than a program has
+abbrev pub may_join : Scope → Bool → Bool → Valued → Outcome (Unit {0})
+may_join scope kept copied x = if copied && not (kept && fits x) then bad scope.program cause.TooManyNodes else Ok tt
+
+abbrev pub room_for : Valued → Room → Bool
+room_for x (Ok left) = is_ok (value_room (MAX_NODES + 1) left x)
+room_for x (Err c) = false
+
+abbrev pub may_follow : List Valued → Valued → Bool
+may_follow xs x = if not (nat_lt (length xs) MOST_ARGUMENTS) then false else room_for x (values_room (MAX_NODES + 1) MAX_NODES xs)
+
+-- a definition has fewer parameters than arguments are kept
+abbrev pub kept_argument : List Valued → Valued → List Valued
+kept_argument xs x = if nat_lt (length xs) MOST_ARGUMENTS then xs ++ x ∷ [] else xs
+
+-- behind these arguments one more, that was read of these tokens up to the rest
+abbrev pub with_argument_added : Scope → List Valued → List Token → Valued → List Token → Outcome (List Valued)
+with_argument_added scope xs tokens x rest =
+    if is_copied tokens rest x && not (may_follow xs x) then bad scope.program cause.TooManyNodes else Ok (kept_argument xs x)
+
+-- ---- the copy
+
+abbrev pub within : Scope → Valued → Outcome Valued
+within scope x = has_room scope x >>= λ u. Ok x
 
 abbrev pub copied_by : Scope → ℕ → Valued → List Valued → Option Kind → Outcome Valued
 copied_by scope at d arguments None = bad (unwrap_or scope.kinds_at at) cause.Kind
-copied_by scope at d arguments (Some k) =
-    has_room scope (placed arguments d.expression) >>= λ u. Ok (valued scope (placed arguments d.expression) k (look_ups_of at arguments d))
+copied_by scope at d arguments (Some k) = within scope (valued scope (placed arguments d.expression) k (look_ups_of at arguments d))
 
--- by its name, which begins at a byte, with these arguments
+-- by its name, which begins at a byte, with these arguments; none where the program has too many nodes already
 abbrev pub copied_in : Scope → ℕ → Valued → List Valued → Outcome Valued
-copied_in scope at d arguments = may_hold at d arguments >>= λ u. copied_by scope at d arguments (kind_of_use scope arguments d)
+copied_in scope at d arguments =
+    if nat_eq scope.room 0 then bad scope.program cause.TooManyNodes else copied_by scope at d arguments (kind_of_use scope arguments d)

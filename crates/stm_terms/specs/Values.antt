@@ -1,5 +1,5 @@
 -- Values: the expression that tokens spell, or the first fault. A reader is given how many brackets may still be opened.
-use Rattle.std.specs.Prelude.{ℕ, zero, suc, ◌+◌, ◌^◌, pos, neg_ℤ, List, [], ◌∷◌, ◌++◌, length, Option, Some, None, Ok, Err, not, nat_eq, nat_le, nat_lt, if◌then◌else◌}
+use Rattle.std.specs.Prelude.{ℕ, zero, suc, ◌+◌, ◌-◌, ◌^◌, pos, neg_ℤ, List, [], ◌∷◌, ◌++◌, length, Option, Some, None, Ok, Err, not, nat_eq, nat_le, nat_lt, if◌then◌else◌}
 use Rattle.stm_tokens.specs.declared.token.Token.{Token}
 use Rattle.stm_tokens.specs.declared.token.TokenKind.{TokenKind}
 use Rattle.stm_tokens.specs.declared.token.TokenKind.TheVariants as kind
@@ -9,7 +9,8 @@ use Rattle.stm_tokens.specs.declared.token.Word.{Word}
 use Rattle.stm_tokens.specs.declared.token.Word.TheVariants as word
 use Rattle.stm_tokens.specs.Same.{same_symbol, same_word}
 use Rattle.stm_program.specs.declared.limits.TheConstants.{MAX_TEXT}
-use Rattle.stm_program.specs.declared.operator.Operator.TheVariants.{Add, Sub, Mul, Div, Rem}
+use Rattle.stm_program.specs.declared.operator.Operator.TheVariants.{Sub}
+use Rattle.stm_program.specs.Operators.{operator_rank}
 use Rattle.stm_program.specs.Syntax.{Expression, Text, Number, Variable, Get, Rev, Arithmetic, Cat, TextOf, NumOf}
 use Rattle.stm_terms.specs.declared.faults.SourceCause.TheVariants as cause
 use Rattle.stm_terms.specs.declared.scope.Scope.{Scope}
@@ -18,10 +19,10 @@ use Rattle.stm_terms.specs.declared.kinds.Kind.TheVariants as value_kind
 use Rattle.stm_terms.specs.declared.kinds.Valued.{Valued}
 use Rattle.stm_terms.specs.Kinds.{valued, kind_of, want}
 use Rattle.stm_terms.specs.Endings.{asked_of}
-use Rattle.stm_terms.specs.declared.values.Call.{Call}
-use Rattle.stm_terms.specs.declared.values.Call.TheVariants as call
-use Rattle.stm_terms.specs.declared.values.Join.{Join}
-use Rattle.stm_terms.specs.declared.values.Join.TheVariants as join
+use Rattle.stm_terms.specs.declared.operators.Call.{Call}
+use Rattle.stm_terms.specs.declared.operators.Call.TheVariants as call
+use Rattle.stm_terms.specs.declared.operators.Join.{Join}
+use Rattle.stm_terms.specs.declared.operators.Join.TheVariants as join
 use Rattle.stm_terms.specs.Outcome.{Outcome, Read, bad, ◌>>=◌}
 use Rattle.stm_terms.specs.Cursor.{place, unexpected, after_symbol, after_word, expect_symbol, next_number}
 use Rattle.stm_terms.specs.declared.look_ups.LookUp.{LookUp}
@@ -31,7 +32,7 @@ use Rattle.stm_terms.specs.declared.arguments.Argument.TheVariants as argument
 use Rattle.stm_terms.specs.declared.uses.Defined.{Defined}
 use Rattle.stm_terms.specs.Constants.{alone, constant_named, defined_value}
 use Rattle.stm_terms.specs.Scope.{argument_named, blame, variable_of}
-use Rattle.stm_terms.specs.Uses.{copied_in, may_stand}
+use Rattle.stm_terms.specs.Uses.{copied_in, may_stand, is_copied, may_join, with_argument_added}
 use Rattle.stm_terms.specs.declared.limits.TheConstants.{MOST_BRACKETS, MOST_JOINS}
 
 -- ---- operands
@@ -165,7 +166,7 @@ call_by bracketed others scope tokens rest (Some c) =
 abbrev pub signed : Bracketed → Scope → Symbol → List Token → List Token → Read Valued
 signed bracketed scope s tokens rest =
     if same_symbol s symbol.LeftParenthesis then bracketed value_kind.Either tokens
-    else (if same_symbol s symbol.Subtract then negation scope rest (next_number rest)
+    else (if same_symbol s (symbol.Arithmetic Sub) then negation scope rest (next_number rest)
     else (if same_symbol s symbol.Not then bad (place tokens) cause.Sort
     else Err (unexpected tokens)))
 
@@ -200,24 +201,11 @@ abbrev pub join_kind : Join → Kind
 join_kind (join.Arithmetic o) = value_kind.Number
 join_kind join.Concatenate = value_kind.Text
 
-abbrev pub strong_join : Symbol → Option Join
-strong_join s =
-    if same_symbol s symbol.Multiply then Some (join.Arithmetic Mul)
-    else (if same_symbol s symbol.Divide then Some (join.Arithmetic Div)
-    else (if same_symbol s symbol.Remainder then Some (join.Arithmetic Rem)
-    else None))
-
-abbrev pub sum_join : Symbol → Option Join
-sum_join s =
-    if same_symbol s symbol.Add then Some (join.Arithmetic Add)
-    else (if same_symbol s symbol.Subtract then Some (join.Arithmetic Sub)
-    else None)
-
-abbrev pub text_join : Symbol → Option Join
-text_join s = if same_symbol s symbol.Concatenate then Some join.Concatenate else None
-
+-- of a tier: an operator that binds more is of a lesser one
 abbrev pub join_of : ℕ → Symbol → Option Join
-join_of tier s = if nat_eq tier 1 then strong_join s else (if nat_eq tier 2 then sum_join s else text_join s)
+join_of tier (symbol.Arithmetic o) = if nat_eq tier (4 - operator_rank o) then Some (join.Arithmetic o) else None
+join_of tier symbol.Concatenate = if nat_eq tier 3 then Some join.Concatenate else None
+join_of tier other = None
 
 abbrev pub join_in : ℕ → TokenKind → Option Join
 join_in tier (kind.Symbol s) = join_of tier s
@@ -241,7 +229,9 @@ abbrev pub joined_right : Scope → ℕ → (List Token → Read Valued) → ℕ
 joined_right scope at operand done j left tokens =
     want scope (join_kind j) left.kind at >>= λ u.
     operand tokens >>= λ right.
-    want scope (join_kind j) right.0.kind (place tokens) >>= λ v. Ok (joined_up scope done j left right.0, right.1)
+    want scope (join_kind j) right.0.kind (place tokens) >>= λ v.
+    may_join scope (nat_lt done MOST_JOINS) (is_copied tokens right.1 right.0) (joined_up scope done j left right.0) >>= λ w.
+    Ok (joined_up scope done j left right.0, right.1)
 
 abbrev pub Right : Type 0
 Right = ℕ → Join → Valued → List Token → Read Valued
@@ -285,13 +275,14 @@ uses_behind more values tokens (Some rest) = more values rest
 uses_behind more values tokens None = expect_symbol symbol.RightParenthesis tokens >>= λ rest. Ok (values, rest)
 
 -- values behind these, at most so many
-unfoldable pub uses_from : (List Token → Read Valued) → ℕ → List Valued → List Token → Read (List Valued)
-uses_from value zero values tokens = Err (unexpected tokens)
-uses_from value (suc more) values tokens =
-    value tokens >>= λ x. uses_behind (uses_from value more) (values ++ x.0 ∷ []) x.1 (after_symbol symbol.Comma x.1)
+unfoldable pub uses_from : Scope → (List Token → Read Valued) → ℕ → List Valued → List Token → Read (List Valued)
+uses_from scope value zero values tokens = Err (unexpected tokens)
+uses_from scope value (suc more) values tokens =
+    value tokens >>= λ x.
+    with_argument_added scope values tokens x.0 x.1 >>= λ all. uses_behind (uses_from scope value more) all x.1 (after_symbol symbol.Comma x.1)
 
-abbrev pub uses_by : (List Token → Read Valued) → Uses
-uses_by value tokens = expect_symbol symbol.LeftParenthesis tokens >>= λ inner. uses_from value (length inner) [] inner
+abbrev pub uses_by : Scope → (List Token → Read Valued) → Uses
+uses_by scope value tokens = expect_symbol symbol.LeftParenthesis tokens >>= λ inner. uses_from scope value (length inner) [] inner
 
 abbrev pub value_by : ℕ → Bracketed → Uses → Scope → List Token → Read Valued
 value_by levels bracketed uses scope = tier_by (operand_within levels bracketed uses scope MOST_BRACKETS) scope 3
@@ -304,7 +295,7 @@ unfoldable mutual
 
   pub uses_at : ℕ → Scope → Uses
   uses_at zero scope tokens = Err (unexpected tokens)
-  uses_at (suc levels) scope tokens = uses_by (value_by levels (bracketed_at levels scope) (uses_at levels scope) scope) tokens
+  uses_at (suc levels) scope tokens = uses_by scope (value_by levels (bracketed_at levels scope) (uses_at levels scope) scope) tokens
 
 abbrev pub operand_at : ℕ → Scope → List Token → Read Valued
 operand_at levels scope = operand_within levels (bracketed_at levels scope) (uses_at levels scope) scope MOST_BRACKETS

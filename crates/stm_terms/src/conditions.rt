@@ -13,12 +13,13 @@ use crate::faults::{SourceCause, SourceError, fault};
 use crate::kinds::Valued;
 use crate::limits::MOST_JOINS;
 use crate::look_ups::{FrontedPair, pair_with_front};
+use crate::room::condition_room;
 use crate::scope::Scope;
 use crate::values::{first_operand, value_behind, value_of};
 use std::alloc::{AllocError, Global};
 use std::sync::Arc;
 use stm_history::Sequence;
-use stm_program::{Cond, CondNode, Stmt};
+use stm_program::{Cond, CondNode, MAX_NODES, Stmt};
 use stm_tokens::{Symbol, Token};
 
 /// A condition that was read.
@@ -165,6 +166,62 @@ fn connected_up(
     Ok(Cond { node })
 }
 
+/// Whether a program may have so many nodes as a condition has.
+fn fits(condition: &Cond) -> bool
+    ensures { result ≡ spec.fits condition.now }
+{
+    match condition_room(condition, MAX_NODES + 1, MAX_NODES) {
+        Ok(_) => true,
+        Err(_) => false,
+    }
+}
+
+/// Whether definitions were copied into a condition that stands before the rest of these tokens: it has more than twice as many nodes as it has tokens.
+fn is_copied(tokens: &[Token], rest: &[Token], condition: &Cond) -> bool
+    ensures { result ≡ spec.is_copied tokens.now rest.now condition.now }
+{
+    let written = tokens.len().saturating_sub(rest.len());
+    match condition_room(condition, 2 * tokens.len() + 1, 2 * written) {
+        Ok(_) => false,
+        Err(_) => true,
+    }
+}
+
+/// Refuses what a condition is joined to behind so many of a chain, as `TooManyNodes` at once where definitions were copied into that condition, and it is
+/// not kept or a program has fewer nodes.
+fn may_connect(
+    scope: &Scope,
+    is_kept: bool,
+    copied: bool,
+    connected: &Cond,
+) -> Result<(), SourceError>
+    ensures { Returns (λ u. u) result (spec.may_connect scope.now is_kept copied connected.now) }
+{
+    if copied && !(is_kept && fits(connected)) {
+        return Err(fault(scope.program, SourceCause::TooManyNodes));
+    }
+    Ok(())
+}
+
+/// A condition and what joins it to another one behind it, which stands before the rest of these tokens, and is the last one of a chain with so many before it.
+fn connected_right(
+    alloc: Global,
+    scope: &Scope,
+    done: usize,
+    connective: Connective,
+    left: Cond,
+    right: Cond,
+    tokens: &[Token],
+    rest: &[Token],
+) -> Result<Cond, SourceError>
+    ensures { Returns (λ c. c) result (spec.connected_right scope.now done connective left right tokens.now rest.now) }
+{
+    let copied = is_copied(tokens, rest, &right);
+    let connected = connected_up(alloc, done, connective, left, right)?;
+    may_connect(scope, done < MOST_JOINS, copied, &connected)?;
+    Ok(connected)
+}
+
 /// The sign of a tier.
 fn tier_symbol(tier: usize) -> Symbol
     ensures { result ≡ spec.tier_symbol tier }
@@ -288,7 +345,7 @@ fn connection<'a>(
     tokens: &'a [Token],
 ) -> Result<(Cond, &'a [Token]), SourceError>
     requires { tier ≤ 2 }
-    ensures { Returns (λ x. (x.0, x.1.now)) result (spec.connection (spec.part_by (spec.connections_at levels scope.now tier)) (tier + 1) (length tokens.now) 0 left tokens.now) }
+    ensures { Returns (λ x. (x.0, x.1.now)) result (spec.connection scope.now (spec.part_by (spec.connections_at levels scope.now tier)) (tier + 1) (length tokens.now) 0 left tokens.now) }
 {
     let mut left = left;
     let mut rest = tokens;
@@ -296,9 +353,10 @@ fn connection<'a>(
         let Some(behind) = after_symbol(rest, tier_symbol(tier + 1)) else {
             return Ok((left, rest));
         };
-        let (right, behind) = part(alloc, scope, levels, tier, behind)?;
-        left = connected_up(alloc, done, tier_connective(tier + 1), left, right)?;
-        rest = behind;
+        let (right, next) = part(alloc, scope, levels, tier, behind)?;
+        let connective = tier_connective(tier + 1);
+        left = connected_right(alloc, scope, done, connective, left, right, behind, next)?;
+        rest = next;
     }
     Ok((left, rest))
 }
@@ -331,7 +389,7 @@ fn next_connections<'a>(
     tokens: &'a [Token],
 ) -> Result<(ValueOrCondition, &'a [Token]), SourceError>
     requires { tier ≤ 2 }
-    ensures { Returns (λ x. (x.0, x.1.now)) result (spec.connections_above (spec.connections_at levels scope.now tier) (spec.connections_at levels (without_else scope.now) tier) tier tokens.now) }
+    ensures { Returns (λ x. (x.0, x.1.now)) result (spec.connections_above (without_else scope.now) (spec.connections_at levels scope.now tier) (spec.connections_at levels (without_else scope.now) tier) tier tokens.now) }
 {
     let (left, rest) = connections(alloc, scope, levels, tier, tokens)?;
     joined_from(alloc, scope, levels, tier, place(tokens), left, rest)
@@ -348,7 +406,7 @@ fn connected<'a>(
     tokens: &'a [Token],
 ) -> Result<(ValueOrCondition, &'a [Token]), SourceError>
     requires { tier ≤ 2 }
-    ensures { Returns (λ x. (x.0, x.1.now)) result (spec.connections_behind (spec.connections_at levels (without_else scope.now) tier) tier left tokens.now) }
+    ensures { Returns (λ x. (x.0, x.1.now)) result (spec.connections_behind (without_else scope.now) (spec.connections_at levels (without_else scope.now) tier) tier left tokens.now) }
 {
     let Tested { front, condition } = left;
     let inner = scope.without_else(alloc)?;
@@ -371,7 +429,7 @@ fn joined_from<'a>(
     tokens: &'a [Token],
 ) -> Result<(ValueOrCondition, &'a [Token]), SourceError>
     requires { tier ≤ 2 }
-    ensures { Returns (λ x. (x.0, x.1.now)) result (spec.joined_from (spec.connections_at levels (without_else scope.now) tier) tier at left tokens.now (cursor.after_symbol (spec.tier_symbol (tier + 1)) tokens.now)) }
+    ensures { Returns (λ x. (x.0, x.1.now)) result (spec.joined_from (without_else scope.now) (spec.connections_at levels (without_else scope.now) tier) tier at left tokens.now (cursor.after_symbol (spec.tier_symbol (tier + 1)) tokens.now)) }
 {
     match after_symbol(tokens, tier_symbol(tier + 1)) {
         None => Ok((left, tokens)),

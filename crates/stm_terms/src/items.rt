@@ -1,5 +1,6 @@
 //! Reading items: what a loop goes over, and what a list is made of.
-ghost use Rattle.std.specs.Prelude.{◌≡◌, ◌++◌, ◌∷◌, [], option_copied, IfOk};
+ghost use Rattle.std.specs.Prelude.{◌≡◌, ◌++◌, ◌∷◌, [], take, option_copied, IfOk};
+ghost use Rattle.stm_terms.specs.declared.limits.TheConstants.{MOST_KEPT};
 ghost use Rattle.stm_terms.specs.Items as spec;
 ghost use Rattle.stm_terms.specs.Outcome.{Returns};
 ghost use Rattle.stm_terms.specs.Scope.{argument_named, blamed};
@@ -9,6 +10,7 @@ use crate::constants::Item;
 use crate::cursor::{after_symbol, next_name, place, unexpected};
 use crate::faults::{SourceCause, SourceError, fault};
 use crate::kinds::Kind;
+use crate::limits::MOST_KEPT;
 use crate::literals::literal_argument;
 use crate::scope::Scope;
 use crate::shared::Shared;
@@ -24,6 +26,18 @@ pub(crate) struct Items {
     pub items: Sequence<Item>,
     /// What all of them are.
     pub kind: Kind,
+}
+
+/// The items of a list that a loop goes over: a program has fewer nodes than so many copies of a block.
+fn first_items(items: &[Item]) -> &[Item]
+    ensures { result.now ≡ take MOST_KEPT items.now }
+{
+    if MOST_KEPT <= items.len() {
+        let (first, _) = items.split_at(MOST_KEPT);
+        first
+    } else {
+        items
+    }
 }
 
 /// A copy of a list. It fails only when out of memory.
@@ -168,7 +182,7 @@ fn named_items<'a>(
 {
     match list_if(scope, lists, name) {
         Some(items) => {
-            let items = copy_of_list(alloc, items.as_slice())?;
+            let items = copy_of_list(alloc, first_items(items.as_slice()))?;
             Ok((items, rest))
         }
         None => alone(alloc, scope, at, name, rest),

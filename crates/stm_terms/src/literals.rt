@@ -13,6 +13,7 @@ use crate::faults::{SourceCause, SourceError, fault};
 use crate::scope::Scope;
 use std::alloc::Global;
 use stm_history::Text;
+use stm_program::Operator;
 use stm_tokens::{Symbol, Token};
 
 /// A number that begins at a byte.
@@ -92,7 +93,7 @@ pub fn literal_argument<'a>(
     if let Some((number, rest)) = next_number(tokens) {
         return positive(at, number, rest);
     }
-    if let Some(rest) = after_symbol(tokens, Symbol::Subtract) {
+    if let Some(rest) = after_symbol(tokens, Symbol::Arithmetic(Operator::Sub)) {
         return negation(at, rest);
     }
     if let Some((name, rest)) = next_name(tokens) {

@@ -6,6 +6,8 @@ ghost use Rattle.stm_program.specs.Size.{expression_nodes, condition_nodes, stat
 ghost use Rattle.stm_terms.specs.Room as spec;
 
 use crate::faults::SourceCause;
+use crate::kinds::Valued;
+use crate::look_ups::{LookUp, Other};
 use stm_program::{
     Block, Cond, CondNode, Expr, ExprNode, MAX_LEASE, MAX_TEXT, MAX_TURNS, Stmt, StmtNode,
 };
@@ -56,8 +58,58 @@ pub(crate) fn expression_room(
     }
 }
 
+/// The same of what stands behind an `else`.
+fn other_room(other: &Option<Other>, levels: usize, room: usize) -> Result<usize, SourceCause>
+    ensures { result ≡ spec.other_room levels room other.now }
+{
+    match other {
+        Some(other) => expression_room(&other.value, levels, room),
+        None => Ok(room),
+    }
+}
+
+/// The same of what stands behind the `else`s of look-ups.
+fn others_room(look_ups: &[LookUp], levels: usize, room: usize) -> Result<usize, SourceCause>
+    ensures { result ≡ spec.others_room levels room look_ups.now }
+{
+    match look_ups {
+        [] => Ok(room),
+        [first, rest @ ..] => {
+            let room = other_room(&first.other, levels, room)?;
+            others_room(rest, levels, room)
+        }
+    }
+}
+
+/// The same of a value and of what stands behind its `else`s.
+pub(crate) fn value_room(value: &Valued, levels: usize, room: usize) -> Result<usize, SourceCause>
+    ensures { result ≡ spec.value_room levels room value.now }
+{
+    let room = expression_room(&value.expression, levels, room)?;
+    others_room(value.look_ups.as_slice(), levels, room)
+}
+
+/// The same of several values.
+pub(crate) fn values_room(
+    values: &[Valued],
+    levels: usize,
+    room: usize,
+) -> Result<usize, SourceCause>
+    ensures { result ≡ spec.values_room levels room values.now }
+{
+    match values {
+        [] => Ok(room),
+        [first, rest @ ..] => {
+            let room = value_room(first, levels, room)?;
+            values_room(rest, levels, room)
+        }
+    }
+}
+
+/// How many of the `room` nodes are left behind a condition, which may have so many levels, or what is wrong with its first node that does not fit:
+/// `TooDeep` or `TooManyNodes`, and `TooLong` where a text is longer than a program may have one.
 #[tactic(auto, using(crate::proofs::RoomLemmas::condition_deep, crate::proofs::RoomLemmas::condition_full))]
-fn condition_room(condition: &Cond, levels: usize, room: usize) -> Result<usize, SourceCause>
+pub fn condition_room(condition: &Cond, levels: usize, room: usize) -> Result<usize, SourceCause>
     ensures is { result ≡ spec.condition_room levels room condition.now }
     ensures fits { IfOk result (λ left. ConditionFits levels room condition.now × (left ≡ room - condition_nodes condition.now)) }
 {

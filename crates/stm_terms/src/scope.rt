@@ -40,6 +40,8 @@ pub struct Scope {
     pub kinds_at: Option<usize>,
     /// Where the program begins: the place of what is wrong with it as a whole.
     pub program: usize,
+    /// How many more of its nodes are kept. Where that is none it has too many, and no more definitions are copied in.
+    pub room: usize,
     /// The items of the loops around, the outermost first.
     pub items: Sequence<NamedItem>,
     /// Its parameters.
@@ -177,6 +179,7 @@ impl Scope {
             looks_at_kinds: self.looks_at_kinds,
             kinds_at: self.kinds_at,
             program: self.program,
+            room: self.room,
             items: copy_of_items(alloc, self.items.as_slice())?,
             arguments: self.arguments.clone()?,
             constants: self.constants.clone()?,

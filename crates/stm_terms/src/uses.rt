@@ -5,14 +5,16 @@ ghost use Rattle.stm_terms.specs.Uses as spec;
 
 use crate::faults::{SourceCause, SourceError, fault};
 use crate::kinds::{Kind, Valued};
-use crate::look_ups::{LookUp, Other, both, first_else, has_else};
-use crate::room::expression_room;
+use crate::limits::MOST_ARGUMENTS;
+use crate::look_ups::{LookUp, Other, both, first_else, has_else, with_look_up};
+use crate::room::{value_room, values_room};
 use crate::scope::Scope;
 use std::alloc::{AllocError, Global};
 use std::mem;
 use std::sync::Arc;
 use stm_history::Sequence;
 use stm_program::{Expr, ExprNode, MAX_NODES, Variable};
+use stm_tokens::Token;
 
 /// A value that is defined. Its parameters are its variables, in their order.
 #[derive(Debug, Drop)]
@@ -144,22 +146,69 @@ fn look_up_at(defined: &[LookUp], place: usize) -> Option<&LookUp>
     }
 }
 
-/// The `else` of a look-up where it is copied in, by a name that begins at a byte.
-fn other_of(
+/// The look-ups of a value in which no look-up has an `else`, with arguments in the places of its parameters, behind these. Its name begins at a byte.
+fn look_ups_in(
+    alloc: Global,
+    at: usize,
+    arguments: &[Valued],
+    value: &Expr,
+    look_ups: Sequence<LookUp>,
+) -> Result<Sequence<LookUp>, AllocError>
+    ensures { IfOk result (λ all. all ≡ spec.look_ups_in at arguments.now value.now look_ups) }
+{
+    match &value.node {
+        ExprNode::Text(_) | ExprNode::Number(_) => Ok(look_ups),
+        ExprNode::Variable(parameter) => with_argument(alloc, arguments, *parameter, look_ups),
+        ExprNode::Get(key) | ExprNode::Rev(key) => {
+            let look_ups = look_ups_in(alloc, at, arguments, key, look_ups)?;
+            with_look_up(look_ups, at)
+        }
+        ExprNode::Arithmetic(_, left, right) | ExprNode::Cat(left, right) => {
+            let look_ups = look_ups_in(alloc, at, arguments, left, look_ups)?;
+            look_ups_in(alloc, at, arguments, right, look_ups)
+        }
+        ExprNode::TextOf(part) | ExprNode::NumOf(part) => {
+            look_ups_in(alloc, at, arguments, part, look_ups)
+        }
+    }
+}
+
+/// Those of the value behind an `else` that follow it: none, where none of them has an `else`.
+fn own_look_ups(
+    alloc: Global,
+    at: usize,
+    arguments: &[Valued],
+    value: &Expr,
+) -> Result<Sequence<LookUp>, AllocError>
+    ensures { IfOk result (λ own. own ≡ spec.own_look_ups at arguments.now value.now) }
+{
+    let all = look_ups_in(alloc, at, arguments, value, Sequence::new(alloc))?;
+    if has_else(all.as_slice()) {
+        Ok(all)
+    } else {
+        Ok(Sequence::new(alloc))
+    }
+}
+
+/// A look-up where it is copied in, by a name that begins at a byte, and those of the value behind its `else`.
+fn look_up_of(
     alloc: Global,
     at: usize,
     arguments: &[Valued],
     other: &Option<Other>,
-) -> Result<Option<Other>, AllocError>
-    ensures { IfOk result (λ copy. copy ≡ spec.other_of at arguments.now other.now) }
+) -> Result<Sequence<LookUp>, AllocError>
+    ensures { IfOk result (λ all. all ≡ spec.look_up_of at arguments.now other.now) }
 {
-    match other {
-        Some(other) => {
-            let value = placed(alloc, arguments, &other.value)?;
-            Ok(Some(Other { at, value, own: 0 }))
-        }
-        None => Ok(None),
-    }
+    let Some(other) = other else {
+        return with_look_up(Sequence::new(alloc), at);
+    };
+    let following = own_look_ups(alloc, at, arguments, &other.value)?;
+    let value = placed(alloc, arguments, &other.value)?;
+    let own = following.len();
+    let other = Some(Other { at, value, own });
+    let mut all = Sequence::new(alloc);
+    all.push(LookUp { at, other })?;
+    both(all, following)
 }
 
 /// Copies the next look-up of a definition.
@@ -175,10 +224,29 @@ fn copy_look_up(
     let Some(look_up) = look_up_at(defined, copying.done) else {
         return Ok(());
     };
-    let other = other_of(alloc, at, arguments, &look_up.other)?;
-    copying.look_ups.push(LookUp { at, other })?;
+    let more = look_up_of(alloc, at, arguments, &look_up.other)?;
+    let before = mem::replace(&mut copying.look_ups, Sequence::new(alloc));
+    copying.look_ups = both(before, more)?;
     copying.done += 1;
     Ok(())
+}
+
+/// Look-ups, and behind them those of what a parameter stands for.
+fn with_argument(
+    alloc: Global,
+    arguments: &[Valued],
+    parameter: Variable,
+    look_ups: Sequence<LookUp>,
+) -> Result<Sequence<LookUp>, AllocError>
+    ensures { IfOk result (λ all. all ≡ spec.with_argument (slice_get arguments.now parameter) look_ups) }
+{
+    match argument_of(arguments, parameter) {
+        Some(argument) => {
+            let more = copy_of_look_ups(alloc, argument.look_ups.as_slice())?;
+            both(look_ups, more)
+        }
+        None => Ok(look_ups),
+    }
 }
 
 /// Copies the look-ups of what a parameter stands for.
@@ -188,14 +256,10 @@ fn copy_argument(
     parameter: Variable,
     copying: &mut Copying,
 ) -> Result<(), AllocError>
-    ensures { OnOk result (copying.new ≡ spec.with_argument (slice_get arguments.now parameter) copying.old) }
+    ensures { OnOk result (copying.new ≡ spec.copied_argument (slice_get arguments.now parameter) copying.old) }
 {
-    let Some(argument) = argument_of(arguments, parameter) else {
-        return Ok(());
-    };
-    let more = copy_of_look_ups(alloc, argument.look_ups.as_slice())?;
     let before = mem::replace(&mut copying.look_ups, Sequence::new(alloc));
-    copying.look_ups = both(before, more)?;
+    copying.look_ups = with_argument(alloc, arguments, parameter, before)?;
     Ok(())
 }
 
@@ -256,40 +320,6 @@ fn has_own(other: &Option<Other>) -> bool
         Some(other) => other.own > 0,
         None => false,
     }
-}
-
-/// Whether an argument with an `else` stands in a value.
-fn holds_else(arguments: &[Valued], value: &Expr) -> bool
-    ensures { result ≡ spec.holds_else arguments.now value.now }
-{
-    match &value.node {
-        ExprNode::Text(_) | ExprNode::Number(_) => false,
-        ExprNode::Variable(parameter) => match argument_of(arguments, *parameter) {
-            Some(argument) => has_else(argument.look_ups.as_slice()),
-            None => false,
-        },
-        ExprNode::Get(part)
-        | ExprNode::Rev(part)
-        | ExprNode::TextOf(part)
-        | ExprNode::NumOf(part) => holds_else(arguments, part),
-        ExprNode::Arithmetic(_, left, right) | ExprNode::Cat(left, right) => {
-            holds_else(arguments, left) || holds_else(arguments, right)
-        }
-    }
-}
-
-/// Whether an argument with an `else` stands behind an `else` of a definition.
-fn others_hold_else(arguments: &[Valued], look_ups: &[LookUp]) -> bool
-    ensures { result ≡ spec.others_hold_else arguments.now look_ups.now }
-{
-    for look_up in look_ups {
-        if let Some(other) = &look_up.other {
-            if holds_else(arguments, &other.value) {
-                return true;
-            }
-        }
-    }
-    false
 }
 
 /// What comes of something that wants a value of a kind: none, where it is of the other one.
@@ -366,25 +396,88 @@ pub(crate) fn may_stand(scope: &Scope, at: usize, defined: &Valued) -> Result<()
     Ok(())
 }
 
-/// Refuses arguments with an `else` behind one of the definition, whose name begins at a byte.
-fn may_hold(at: usize, defined: &Valued, arguments: &[Valued]) -> Result<(), SourceError>
-    ensures { Returns (λ u. u) result (spec.may_hold at defined.now arguments.now) }
+/// Whether a program may have so many nodes as a value has.
+fn fits(value: &Valued) -> bool
+    ensures { result ≡ spec.fits value.now }
 {
-    if others_hold_else(arguments, defined.look_ups.as_slice()) {
-        return Err(fault(at, SourceCause::Syntax));
+    match value_room(value, MAX_NODES + 1, MAX_NODES) {
+        Ok(_) => true,
+        Err(_) => false,
+    }
+}
+
+/// Refuses a value of more nodes than a program has, as `TooManyNodes` where what it stands in begins.
+pub fn has_room(scope: &Scope, value: &Valued) -> Result<(), SourceError>
+    ensures { Returns (λ u. u) result (spec.has_room scope.now value.now) }
+{
+    if !fits(value) {
+        return Err(fault(scope.program, SourceCause::TooManyNodes));
     }
     Ok(())
 }
 
-/// Refuses a value of more nodes than a program has, as `TooManyNodes` where what it stands in begins.
-pub fn has_room(scope: &Scope, value: &Expr) -> Result<(), SourceError>
-    ensures { Returns (λ u. u) result (spec.has_room scope.now value.now) }
+/// Whether definitions were copied into a value that stands before the rest of these tokens: it has more nodes than it has tokens.
+pub(crate) fn is_copied(tokens: &[Token], rest: &[Token], value: &Valued) -> bool
+    ensures { result ≡ spec.is_copied tokens.now rest.now value.now }
 {
-    match expression_room(value, MAX_NODES + 1, MAX_NODES) {
-        Ok(_) => Ok(()),
-        Err(_) => Err(fault(scope.program, SourceCause::TooManyNodes)),
+    let written = tokens.len().saturating_sub(rest.len());
+    match value_room(value, tokens.len() + 1, written) {
+        Ok(_) => false,
+        Err(_) => true,
     }
 }
+
+/// Refuses what a value is joined to behind so many of a chain, where definitions were copied into that value, as `TooManyNodes` at once: where it is not
+/// kept, or has more nodes than a program.
+pub(crate) fn may_join(
+    scope: &Scope,
+    is_kept: bool,
+    copied: bool,
+    joined: &Valued,
+) -> Result<(), SourceError>
+    ensures { Returns (λ u. u) result (spec.may_join scope.now is_kept copied joined.now) }
+{
+    if copied && !(is_kept && fits(joined)) {
+        return Err(fault(scope.program, SourceCause::TooManyNodes));
+    }
+    Ok(())
+}
+
+// ---- arguments of a use
+
+/// Whether one more argument is kept behind these, and a program may have so many nodes as they have together.
+fn may_follow(values: &[Valued], value: &Valued) -> bool
+    ensures { result ≡ spec.may_follow values.now value.now }
+{
+    if values.len() >= MOST_ARGUMENTS {
+        return false;
+    }
+    match values_room(values, MAX_NODES + 1, MAX_NODES) {
+        Ok(left) => value_room(value, MAX_NODES + 1, left).is_ok(),
+        Err(_) => false,
+    }
+}
+
+/// Adds an argument, of which these are the tokens up to the rest. One that is copied in and that no use has room for is `TooManyNodes` at once.
+pub(crate) fn add_argument(
+    scope: &Scope,
+    values: &mut Sequence<Valued>,
+    value: Valued,
+    tokens: &[Token],
+    rest: &[Token],
+) -> Result<(), SourceError>
+    ensures { Returns (λ _. values.new) result (spec.with_argument_added scope.now values.old tokens.now value rest.now) }
+{
+    if is_copied(tokens, rest, &value) && !may_follow(values.as_slice(), &value) {
+        return Err(fault(scope.program, SourceCause::TooManyNodes));
+    }
+    if values.len() < MOST_ARGUMENTS {
+        values.push(value)?;
+    }
+    Ok(())
+}
+
+// ---- a use
 
 /// Where the first `else` within an `else` of look-ups stands.
 pub fn else_within(look_ups: &[LookUp]) -> Option<usize>
@@ -399,6 +492,14 @@ pub fn else_within(look_ups: &[LookUp]) -> Option<usize>
     None
 }
 
+/// A value, where a program may have so many nodes.
+fn within(scope: &Scope, value: Valued) -> Result<Valued, SourceError>
+    ensures { Returns (λ x. x) result (spec.within scope.now value) }
+{
+    has_room(scope, &value)?;
+    Ok(value)
+}
+
 /// What is defined, with arguments in the places of its parameters, by a name that begins at a byte.
 pub(crate) fn copied_in(
     alloc: Global,
@@ -409,12 +510,13 @@ pub(crate) fn copied_in(
 ) -> Result<Valued, SourceError>
     ensures { Returns (λ x. x) result (spec.copied_in scope.now at defined.now arguments.now) }
 {
-    may_hold(at, defined, arguments)?;
+    if scope.room == 0 {
+        return Err(fault(scope.program, SourceCause::TooManyNodes));
+    }
     let Some(kind) = kind_of_use(scope, arguments, defined) else {
         return Err(fault(scope.kinds_at.unwrap_or(at), SourceCause::Kind));
     };
     let expression = placed(alloc, arguments, &defined.expression)?;
-    has_room(scope, &expression)?;
     let look_ups = look_ups_of(alloc, defined, at, arguments)?;
-    Ok(scope.valued_with(expression, kind, look_ups))
+    within(scope, scope.valued_with(expression, kind, look_ups))
 }

@@ -1,5 +1,5 @@
 //! Reading values.
-ghost use Rattle.std.specs.Prelude.{◌≡◌, ◌≤◌, ◌+◌, [], length, option_map, IfOk};
+ghost use Rattle.std.specs.Prelude.{◌≡◌, ◌≤◌, ◌+◌, [], length, IfOk};
 ghost use Rattle.stm_program.specs.Syntax as tree;
 ghost use Rattle.stm_tokens.specs.declared.token.Symbol.TheVariants.{LeftParenthesis};
 ghost use Rattle.stm_tokens.specs.declared.token.Word.TheVariants.{Else};
@@ -18,36 +18,17 @@ use crate::endings::{ending_at, ending_of};
 use crate::faults::{SourceCause, SourceError, fault};
 use crate::kinds::{Kind, Valued};
 use crate::limits::{MOST_BRACKETS, MOST_JOINS};
-use crate::look_ups::{LookUp, both, with_else, with_look_up};
+use crate::look_ups::{LookUp, with_else, with_look_up};
+use crate::operators::{
+    Call, Join, argument_kind, call_kind, call_node, call_of, join_kind, joined_up, next_join,
+};
 use crate::scope::Scope;
-use crate::uses::{Defined, copied_in, may_stand};
+use crate::uses::{Defined, add_argument, copied_in, is_copied, may_join, may_stand};
 use std::alloc::{AllocError, Global};
 use std::sync::Arc;
 use stm_history::{Sequence, Text};
 use stm_program::{Expr, ExprNode, MAX_TEXT, Operator, Variable};
 use stm_tokens::{Symbol, Token, TokenKind, Word};
-
-/// What is computed of one value.
-#[derive(Clone, Copy, PartialEq, Eq)]
-pub enum Call {
-    /// `get`
-    Get,
-    /// `rev`
-    Rev,
-    /// `num_of`
-    NumOf,
-    /// `text_of`
-    TextOf,
-}
-
-/// What is computed of two values.
-#[derive(Clone, Copy, Debug, PartialEq, Eq)]
-pub enum Join {
-    /// An operator on two numbers.
-    Arithmetic(Operator),
-    /// `++`
-    Concatenate,
-}
 
 fn literal<'a>(
     alloc: Global,
@@ -172,169 +153,6 @@ fn named<'a>(
     match scope.argument(name) {
         Some(argument) => argument_value(alloc, scope, scope.blame(name, at), argument, rest),
         None => Err(fault(at, SourceCause::Name)),
-    }
-}
-
-/// What a word computes of one value.
-fn call_of(word: Word) -> Option<Call>
-    ensures { result ≡ spec.call_of word }
-{
-    if word.is(Word::Get) {
-        Some(Call::Get)
-    } else if word.is(Word::Rev) {
-        Some(Call::Rev)
-    } else if word.is(Word::NumOf) {
-        Some(Call::NumOf)
-    } else if word.is(Word::TextOf) {
-        Some(Call::TextOf)
-    } else {
-        None
-    }
-}
-
-/// What something is computed of.
-fn argument_kind(call: Call) -> Kind
-    ensures { result ≡ spec.argument_kind call }
-{
-    match call {
-        Call::Get | Call::Rev | Call::NumOf => Kind::Text,
-        Call::TextOf => Kind::Number,
-    }
-}
-
-/// What comes of it.
-fn call_kind(call: Call) -> Kind
-    ensures { result ≡ spec.call_kind call }
-{
-    match call {
-        Call::Get | Call::TextOf => Kind::Text,
-        Call::Rev | Call::NumOf => Kind::Number,
-    }
-}
-
-fn call_node(call: Call, part: Arc<Expr>) -> Expr
-    ensures { result ≡ spec.called call part.value }
-{
-    let node = match call {
-        Call::Get => ExprNode::Get(part),
-        Call::Rev => ExprNode::Rev(part),
-        Call::NumOf => ExprNode::NumOf(part),
-        Call::TextOf => ExprNode::TextOf(part),
-    };
-    Expr { node }
-}
-
-/// Two values with an operator between them.
-pub fn join_node(join: Join, left: Arc<Expr>, right: Arc<Expr>) -> Expr
-    ensures { result ≡ spec.joined join left.value right.value }
-{
-    let node = match join {
-        Join::Arithmetic(operator) => ExprNode::Arithmetic(operator, left, right),
-        Join::Concatenate => ExprNode::Cat(left, right),
-    };
-    Expr { node }
-}
-
-/// What an operator joins, and what comes of that.
-pub fn join_kind(join: Join) -> Kind
-    ensures { result ≡ spec.join_kind join }
-{
-    match join {
-        Join::Arithmetic(_) => Kind::Number,
-        Join::Concatenate => Kind::Text,
-    }
-}
-
-/// Two values with an operator between them, which is the last one of a chain with so many before it.
-fn joined_up(
-    alloc: Global,
-    scope: &Scope,
-    done: usize,
-    join: Join,
-    left: Valued,
-    right: Valued,
-) -> Result<Valued, AllocError>
-    ensures { IfOk result (λ e. e ≡ spec.joined_up scope.now done join left right) }
-{
-    if done < MOST_JOINS {
-        let Valued {
-            expression: left,
-            look_ups,
-            ..
-        } = left;
-        let Valued {
-            expression: right,
-            look_ups: more,
-            ..
-        } = right;
-        let left = Arc::new(alloc, left)?;
-        let right = Arc::new(alloc, right)?;
-        let look_ups = both(look_ups, more)?;
-        Ok(scope.valued_with(join_node(join, left, right), join_kind(join), look_ups))
-    } else {
-        Ok(left)
-    }
-}
-
-/// The operator of a symbol among those of a tier.
-fn join_of(tier: usize, symbol: Symbol) -> Option<Join>
-    ensures { result ≡ spec.join_of tier symbol }
-{
-    match tier {
-        1 => strong_join(symbol),
-        2 => sum_join(symbol),
-        _ => text_join(symbol),
-    }
-}
-
-fn strong_join(symbol: Symbol) -> Option<Join>
-    ensures { result ≡ spec.strong_join symbol }
-{
-    if symbol.is(Symbol::Multiply) {
-        Some(Join::Arithmetic(Operator::Mul))
-    } else if symbol.is(Symbol::Divide) {
-        Some(Join::Arithmetic(Operator::Div))
-    } else if symbol.is(Symbol::Remainder) {
-        Some(Join::Arithmetic(Operator::Rem))
-    } else {
-        None
-    }
-}
-
-fn sum_join(symbol: Symbol) -> Option<Join>
-    ensures { result ≡ spec.sum_join symbol }
-{
-    if symbol.is(Symbol::Add) {
-        Some(Join::Arithmetic(Operator::Add))
-    } else if symbol.is(Symbol::Subtract) {
-        Some(Join::Arithmetic(Operator::Sub))
-    } else {
-        None
-    }
-}
-
-fn text_join(symbol: Symbol) -> Option<Join>
-    ensures { result ≡ spec.text_join symbol }
-{
-    if symbol.is(Symbol::Concatenate) {
-        Some(Join::Concatenate)
-    } else {
-        None
-    }
-}
-
-/// The operator of a tier that is the next token.
-#[tactic(auto, unfolding(crate::specs::Values::next_join))]
-fn next_join(tier: usize, tokens: &[Token]) -> Option<(Join, &[Token])>
-    ensures { option_map (λ p. (p.0, p.1.now)) result ≡ spec.next_join tier tokens.now }
-{
-    let (first, rest) = tokens.split_first()?;
-    match &first.kind {
-        TokenKind::Symbol(symbol) => {
-            let join = join_of(tier, *symbol)?;
-            Some((join, rest))
-        }
-        _ => None,
     }
 }
 
@@ -466,7 +284,7 @@ fn uses_between<'a>(
     levels: usize,
     tokens: &'a [Token],
 ) -> Result<(Sequence<Valued>, &'a [Token]), SourceError>
-    ensures { Returns (λ x. (x.0, x.1.now)) result (spec.uses_by (spec.tier_at levels scope.now 3) tokens.now) }
+    ensures { Returns (λ x. (x.0, x.1.now)) result (spec.uses_by scope.now (spec.tier_at levels scope.now 3) tokens.now) }
 {
     let inner = expect_symbol(tokens, Symbol::LeftParenthesis)?;
     some_uses(alloc, scope, levels, inner)
@@ -480,13 +298,13 @@ fn some_uses<'a>(
     levels: usize,
     tokens: &'a [Token],
 ) -> Result<(Sequence<Valued>, &'a [Token]), SourceError>
-    ensures { Returns (λ x. (x.0, x.1.now)) result (spec.uses_from (spec.tier_at levels scope.now 3) (length tokens.now) [] tokens.now) }
+    ensures { Returns (λ x. (x.0, x.1.now)) result (spec.uses_from scope.now (spec.tier_at levels scope.now 3) (length tokens.now) [] tokens.now) }
 {
     let mut values = Sequence::new(alloc);
     let mut rest = tokens;
     for _turn in 0..tokens.len() {
         let (value, behind) = operands(alloc, scope, levels, 3, rest)?;
-        values.push(value)?;
+        add_argument(scope, &mut values, value, rest, behind)?;
         let Some(next) = after_symbol(behind, Symbol::Comma) else {
             let rest = expect_symbol(behind, Symbol::RightParenthesis)?;
             return Ok((values, rest));
@@ -666,7 +484,7 @@ fn signed<'a>(
 {
     if symbol.is(Symbol::LeftParenthesis) {
         bracketed(alloc, scope, levels, Kind::Either, tokens)
-    } else if symbol.is(Symbol::Subtract) {
+    } else if symbol.is(Symbol::Arithmetic(Operator::Sub)) {
         negation(alloc, scope, rest)
     } else if symbol.is(Symbol::Not) {
         Err(fault(place(tokens), SourceCause::Sort))
@@ -694,7 +512,9 @@ fn joined_right<'a>(
     scope.want(join_kind(join), left.kind, at)?;
     let (right, rest) = operands(alloc, scope, levels, tier, tokens)?;
     scope.want(join_kind(join), right.kind, place(tokens))?;
+    let copied = is_copied(tokens, rest, &right);
     let joined = joined_up(alloc, scope, done, join, left, right)?;
+    may_join(scope, done < MOST_JOINS, copied, &joined)?;
     Ok((joined, rest))
 }
 

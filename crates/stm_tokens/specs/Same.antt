@@ -1,6 +1,7 @@
 -- When two symbols, words or names are the same.
-use Rattle.std.specs.Prelude.{ℕ, List, Bool, false, nat_eq}
+use Rattle.std.specs.Prelude.{ℕ, ◌+◌, List, Bool, false, nat_eq}
 use Rattle.stm_json.specs.Parts.{same}
+use Rattle.stm_program.specs.Operators.{operator_place}
 use Rattle.stm_tokens.specs.declared.token.Symbol.{Symbol}
 use Rattle.stm_tokens.specs.declared.token.Symbol.TheVariants as symbol
 use Rattle.stm_tokens.specs.declared.token.Word.{Word}
@@ -27,15 +28,11 @@ symbol_place symbol.Less = 13
 symbol_place symbol.LessOrEqual = 14
 symbol_place symbol.Greater = 15
 symbol_place symbol.GreaterOrEqual = 16
-symbol_place symbol.Add = 17
-symbol_place symbol.Subtract = 18
-symbol_place symbol.Multiply = 19
-symbol_place symbol.Divide = 20
-symbol_place symbol.Remainder = 21
-symbol_place symbol.Concatenate = 22
-symbol_place symbol.And = 23
-symbol_place symbol.Or = 24
-symbol_place symbol.Not = 25
+symbol_place symbol.Concatenate = 17
+symbol_place symbol.And = 18
+symbol_place symbol.Or = 19
+symbol_place symbol.Not = 20
+symbol_place (symbol.Arithmetic o) = 21 + operator_place o
 
 abbrev pub word_place : Word → ℕ
 word_place word.Program = 0

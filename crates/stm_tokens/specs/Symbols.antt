@@ -1,5 +1,8 @@
 -- Tokens of one to three signs. Each answers the symbol and how many bytes it has; of those that begin alike, the longest.
-use Rattle.std.specs.Prelude.{ℕ, List, [], ◌∷◌, Bool, false, nat_eq, if◌then◌else◌, Option, Some, None}
+use Rattle.std.specs.Prelude.{ℕ, List, [], ◌∷◌, Bool, false, length, nat_eq, if◌then◌else◌, Option, Some, None, option_map}
+use Rattle.stm_program.specs.declared.operator.Operator.{Operator}
+use Rattle.stm_program.specs.declared.operator.Operator.TheVariants.{Add, Sub}
+use Rattle.stm_program.specs.Operators.{operator_sign, operator_signed}
 use Rattle.stm_tokens.specs.declared.token.Symbol.{Symbol}
 use Rattle.stm_tokens.specs.declared.token.Symbol.TheVariants as symbol
 
@@ -43,18 +46,19 @@ concatenation rest = if second_is 61 rest then (symbol.ConcatenateAssign, 3) els
 
 -- + += ++ ++=
 abbrev pub sum : List ℕ → Symbol × ℕ
-sum [] = (symbol.Add, 1)
-sum (b ∷ bs) = if second_is 43 (b ∷ bs) then concatenation bs else followed 61 symbol.AddAssign symbol.Add (b ∷ bs)
+sum [] = (symbol.Arithmetic Add, 1)
+sum (b ∷ bs) = if second_is 43 (b ∷ bs) then concatenation bs else followed 61 symbol.AddAssign (symbol.Arithmetic Add) (b ∷ bs)
 
--- + += ++ ++= - -= * / %
+-- with the length of its sign
+abbrev pub operator_symbol : Operator → Symbol × ℕ
+operator_symbol o = (symbol.Arithmetic o, length (operator_sign o))
+
+-- + += ++ ++= - -=, and the other operators
 unfoldable pub arithmetic : ℕ → List ℕ → Option (Symbol × ℕ)
 arithmetic first bytes =
     if nat_eq first 43 then Some (sum bytes)
-    else (if nat_eq first 45 then Some (followed 61 symbol.SubtractAssign symbol.Subtract bytes)
-    else (if nat_eq first 42 then Some (symbol.Multiply, 1)
-    else (if nat_eq first 47 then Some (symbol.Divide, 1)
-    else (if nat_eq first 37 then Some (symbol.Remainder, 1)
-    else None))))
+    else (if nat_eq first 45 then Some (followed 61 symbol.SubtractAssign (symbol.Arithmetic Sub) bytes)
+    else option_map operator_symbol (operator_signed bytes))
 
 abbrev pub or_else : {A : Type 0} → Option A → Option A → Option A
 or_else (Some x) other = Some x
@@ -62,4 +66,4 @@ or_else None other = other
 
 -- the symbol that bytes begin with, of which the first is given
 unfoldable pub symbol_at : ℕ → List ℕ → Option (Symbol × ℕ)
-symbol_at first bytes = or_else (bracket first bytes) (or_else (comparison first bytes) (arithmetic first bytes))
+symbol_at first bytes = or_else (bracket first bytes) (or_else (arithmetic first bytes) (comparison first bytes))

@@ -15,5 +15,6 @@ mod tokens;
 pub use numbers::{number_length, number_of};
 pub use position::{Position, position_of};
 pub use stm_history::Text;
+pub use stm_program::Operator;
 pub use token::{Symbol, Token, TokenKind, Word};
 pub use tokens::tokens_of;

@@ -1,8 +1,10 @@
 //! Tokens of one to three signs: of those that begin alike, the longest.
-ghost use Rattle.std.specs.Prelude.{◌≡◌, ◌≤◌, Some, length, IfSome};
-ghost use Rattle.stm_tokens.specs.Symbols.{bracket, comparison, arithmetic, symbol_at, second_is};
+ghost use Rattle.std.specs.Prelude.{◌≡◌, option_map};
+ghost use Rattle.stm_program.specs.Operators.{operator_signed};
+ghost use Rattle.stm_tokens.specs.Symbols.{bracket, comparison, arithmetic, operator_symbol, symbol_at, second_is};
 
 use crate::token::Symbol;
+use stm_program::Operator;
 
 /// Whether the second byte is this one.
 fn is_second(bytes: &[u8], sign: u8) -> bool
@@ -99,7 +101,22 @@ fn sum(bytes: &[u8]) -> (Symbol, usize)
 {
     match bytes {
         [_, rest @ ..] if is_second(bytes, b'+') => concatenation(rest),
-        _ => followed(bytes, b'=', Symbol::AddAssign, Symbol::Add),
+        _ => followed(
+            bytes,
+            b'=',
+            Symbol::AddAssign,
+            Symbol::Arithmetic(Operator::Add),
+        ),
+    }
+}
+
+/// The operator that begins with bytes.
+fn operator_of(bytes: &[u8]) -> Option<(Symbol, usize)>
+    ensures { result ≡ option_map operator_symbol (operator_signed bytes.now) }
+{
+    match Operator::signed(bytes) {
+        Some(operator) => Some((Symbol::Arithmetic(operator), operator.sign().len())),
+        None => None,
     }
 }
 
@@ -111,15 +128,14 @@ fn arithmetic_of(first: u8, bytes: &[u8]) -> Option<(Symbol, usize)>
     if first == b'+' {
         Some(sum(bytes))
     } else if first == b'-' {
-        Some(followed(bytes, b'=', Symbol::SubtractAssign, Symbol::Subtract))
-    } else if first == b'*' {
-        Some((Symbol::Multiply, 1))
-    } else if first == b'/' {
-        Some((Symbol::Divide, 1))
-    } else if first == b'%' {
-        Some((Symbol::Remainder, 1))
+        Some(followed(
+            bytes,
+            b'=',
+            Symbol::SubtractAssign,
+            Symbol::Arithmetic(Operator::Sub),
+        ))
     } else {
-        None
+        operator_of(bytes)
     }
 }
 
@@ -131,8 +147,8 @@ pub(crate) fn symbol_of(first: u8, bytes: &[u8]) -> Option<(Symbol, usize)>
     if let Some(symbol) = bracket_of(first, bytes) {
         return Some(symbol);
     }
-    if let Some(symbol) = comparison_of(first, bytes) {
+    if let Some(symbol) = arithmetic_of(first, bytes) {
         return Some(symbol);
     }
-    arithmetic_of(first, bytes)
+    comparison_of(first, bytes)
 }

@@ -3,6 +3,7 @@ ghost use Rattle.std.specs.Prelude.{◌≡◌};
 ghost use Rattle.stm_tokens.specs.Same.{symbol_place, word_place, same_symbol, same_word, is_symbol, is_word, is_named};
 
 use stm_history::Text;
+use stm_program::Operator;
 
 /// A token that is neither a name nor a number nor a text.
 #[derive(Clone, Copy, Debug, PartialEq, Eq)]
@@ -41,16 +42,6 @@ pub enum Symbol {
     Greater,
     /// `>=`
     GreaterOrEqual,
-    /// `+`
-    Add,
-    /// `-`
-    Subtract,
-    /// `*`
-    Multiply,
-    /// `/`
-    Divide,
-    /// `%`
-    Remainder,
     /// `++`
     Concatenate,
     /// `&&`
@@ -59,6 +50,8 @@ pub enum Symbol {
     Or,
     /// `!`
     Not,
+    /// The sign of an operator on two numbers.
+    Arithmetic(Operator),
 }
 
 impl Symbol {
@@ -84,15 +77,11 @@ impl Symbol {
             Symbol::LessOrEqual => 14,
             Symbol::Greater => 15,
             Symbol::GreaterOrEqual => 16,
-            Symbol::Add => 17,
-            Symbol::Subtract => 18,
-            Symbol::Multiply => 19,
-            Symbol::Divide => 20,
-            Symbol::Remainder => 21,
-            Symbol::Concatenate => 22,
-            Symbol::And => 23,
-            Symbol::Or => 24,
-            Symbol::Not => 25,
+            Symbol::Concatenate => 17,
+            Symbol::And => 18,
+            Symbol::Or => 19,
+            Symbol::Not => 20,
+            Symbol::Arithmetic(operator) => 21 + operator.place(),
         }
     }
 

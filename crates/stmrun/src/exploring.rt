@@ -313,10 +313,10 @@ fn refuse_rules(rt: &HostRuntime, words: &ExploreWords<'_>) -> Result<(), u8> {
     Ok(())
 }
 
-/// The form that is asked for by its name, or that of the source of the scenario, where it has one.
-fn form_of<'a>(format: Option<&str>, source: Option<&'a SourceText>) -> Form<'a> {
-    match (format, source) {
-        (Some("text"), _) => Form::Text(source),
+/// The form that is asked for, or that of the source of the scenario, where it has one.
+fn form_of<'a>(words: &ExploreWords<'_>, source: Option<&'a SourceText>) -> Form<'a> {
+    match (words.format, source) {
+        (Some("text"), _) => Form::Text(source, words.width),
         (_, Some(source)) => Form::Source(source),
         (_, None) => Form::Lines,
     }
@@ -379,7 +379,7 @@ pub(crate) fn run_search(
         serial: words.serial,
         told: told_of(words, words.scenario, source.as_ref()),
         explain,
-        form: form_of(words.format, source.as_ref()),
+        form: form_of(words, source.as_ref()),
     };
     if search.keeps.is_empty() {
         search_own(rt, &search, &scenario, beside)

@@ -18,8 +18,9 @@ pub(crate) enum Form<'a> {
     Lines,
     /// As the source with the schedule.
     Source(&'a SourceText),
-    /// As the table of a run of the schedule, with all else in words, and with the names that a source gives to runners.
-    Text(Option<&'a SourceText>),
+    /// As the table of a run of the schedule, so many characters wide where that is said, with all else in words, and with the names that a source
+    /// gives to runners.
+    Text(Option<&'a SourceText>, Option<u32>),
 }
 
 /// With this begins a scenario that has an event, and nothing else that a search prints.
@@ -29,7 +30,12 @@ const SCENARIO: &str = "[[";
 const BROKEN: &str = "[\"broken\"";
 
 /// The table of a run of a scenario, behind an empty line; none, where an allocation fails for it.
-fn table_of(alloc: Global, source: Option<&SourceText>, line: &str) -> Option<String> {
+fn table_of(
+    alloc: Global,
+    source: Option<&SourceText>,
+    width: Option<u32>,
+    line: &str,
+) -> Option<String> {
     let labels = match source {
         Some(source) => source.labels.as_slice(),
         None => &[],
@@ -39,7 +45,7 @@ fn table_of(alloc: Global, source: Option<&SourceText>, line: &str) -> Option<St
     let mut out = Std::new(printed);
     let mut err = Std::new(said);
     let mut input = Std::new(line.as_bytes());
-    let format = Format::Text { width: None };
+    let format = Format::Text { width };
     let status = script_as_to(alloc, format, labels, &mut input, &mut out, &mut err);
     if status != 0 {
         return None;
@@ -58,7 +64,7 @@ fn schedule_in(
     match form {
         Form::Lines => Ok(None),
         Form::Source(source) => resumed(alloc, source, level, line),
-        Form::Text(source) => Ok(table_of(alloc, source, line)),
+        Form::Text(source, width) => Ok(table_of(alloc, source, width, line)),
     }
 }
 
@@ -80,7 +86,7 @@ fn push_answer(
 ) -> Result<(), AllocError> {
     let has_level = matches!(levels, Levels::All);
     let words = match form {
-        Form::Text(source) => in_words(alloc, line, has_level, runners_of(source))?,
+        Form::Text(source, _) => in_words(alloc, line, has_level, runners_of(source))?,
         Form::Lines | Form::Source(_) => None,
     };
     match words {
@@ -101,7 +107,7 @@ fn push_found(
     if line.starts_with(SCENARIO) {
         if let Some(schedule) = schedule_in(alloc, form, only_level(levels), line)? {
             out.push_str(schedule.as_str())?;
-            return Ok(matches!(form, Form::Text(_)));
+            return Ok(matches!(form, Form::Text(_, _)));
         }
     }
     push_answer(alloc, out, form, levels, line)?;
@@ -215,7 +221,7 @@ pub(crate) fn run_rules_in(
     let mut out = Std::new(Noting::new(Vec::new(rt.alloc())));
     let status = run_rules(rt, question, levels, explain, &mut out);
     let mut printed = out.device.into_device();
-    if let (Form::Text(_), Levels::All, 1) = (form, levels, status) {
+    if let (Form::Text(_, _), Levels::All, 1) = (form, levels, status) {
         push_worst(rt, question, &mut printed);
     }
     print_found(rt, form, levels, printed.as_slice(), status, explain)

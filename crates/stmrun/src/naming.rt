@@ -3,6 +3,12 @@
 use std::alloc::{AllocError, Global};
 use stm_compiling::{NamedRunner, name_of_runner};
 
+/// What stands in a line before the key by which a final asks how a runner ended, and its `#`.
+const ASKED: &str = "the key \"#";
+
+/// What is said behind a key whose value is "".
+const EMPTY: &str = " is absent, or its value \"\"";
+
 /// How lines call runners.
 #[derive(Clone, Copy)]
 pub(crate) struct Called {
@@ -67,9 +73,84 @@ fn push_runner(
     }
 }
 
-/// A line with the names of the runners that it is about, where their source gives them some. Behind a quote stand words of others, in which nothing is
-/// the number of a runner.
+/// What a final asks for of a runner: `end(NAME)`, `why(NAME)` or `out(NAME, PLACE)`; nothing, where a word and what stands behind a number are none of it.
+fn asked_of(
+    alloc: Global,
+    word: &str,
+    name: &str,
+    behind: &str,
+) -> Result<Option<String>, AllocError> {
+    match (word, behind.strip_prefix('/')) {
+        ("end" | "why", None) => {
+            let asked = format!(in alloc; "{word}({name})")?;
+            Ok(Some(asked))
+        }
+        ("out", Some(place)) => {
+            let asked = format!(in alloc; "out({name}, {place})")?;
+            Ok(Some(asked))
+        }
+        _ => Ok(None),
+    }
+}
+
+/// The same by a key that is laid over the state, of which this stands behind its `#`.
+fn asked_by(
+    alloc: Global,
+    runners: &[NamedRunner],
+    key: &str,
+) -> Result<Option<String>, AllocError> {
+    let Some((word, rest)) = key.split_once('/') else {
+        return Ok(None);
+    };
+    let (digits, behind) = digits_of(rest);
+    match name_in(runners, 1, digits) {
+        Some(name) => asked_of(alloc, word, name, behind),
+        None => asked_of(alloc, word, digits, behind),
+    }
+}
+
+/// What stands behind what a final asks for, where this stands behind its key.
+fn behind_asked(rest: &str) -> &str {
+    if rest == EMPTY { " is \"\"" } else { rest }
+}
+
+/// A line of a final's fault with what its source has in the place of the key that it says; nothing of another line.
+fn with_asked(
+    alloc: Global,
+    runners: &[NamedRunner],
+    line: &str,
+) -> Result<Option<String>, AllocError> {
+    let Some((front, behind)) = line.split_once(ASKED) else {
+        return Ok(None);
+    };
+    let Some((key, rest)) = behind.split_once('"') else {
+        return Ok(None);
+    };
+    match asked_by(alloc, runners, key)? {
+        Some(asked) => {
+            let rest = behind_asked(rest);
+            let line = format!(in alloc; "{front}{asked}{rest}")?;
+            Ok(Some(line))
+        }
+        None => Ok(None),
+    }
+}
+
+/// A line with the names of the runners that it is about, where their source gives them some, and with what a final asks for.
 pub(crate) fn with_names(
+    alloc: Global,
+    called: Called,
+    runners: &[NamedRunner],
+    line: &str,
+) -> Result<String, AllocError> {
+    match with_asked(alloc, runners, line)? {
+        Some(line) => named_in(alloc, called, runners, line.as_str()),
+        None => named_in(alloc, called, runners, line),
+    }
+}
+
+/// A line with the names of the runners that it is about. Behind a quote stand words of others, in which nothing is the number of a runner.
+fn named_in(
     alloc: Global,
     called: Called,
     runners: &[NamedRunner],

@@ -1,5 +1,6 @@
 //! Why the system refused what was asked of a reader or a writer.
 
+use std::alloc::Global;
 use std::io::{self, Read, Write};
 
 /// A reader or a writer that notes why it failed last.
@@ -58,5 +59,48 @@ impl<W: Write> Write for Noting<W> {
                 Err(error)
             }
         }
+    }
+}
+
+/// A writer that keeps what was written to it, but what an allocation failed for.
+#[derive(Drop)]
+pub(crate) struct Keeping<W> {
+    /// The writer.
+    device: W,
+    /// What was written.
+    bytes: Vec<u8>,
+}
+
+impl<W> Keeping<W> {
+    /// A writer to which nothing has been written.
+    pub(crate) fn new(alloc: Global, device: W) -> Keeping<W> {
+        Keeping {
+            device,
+            bytes: Vec::new(alloc),
+        }
+    }
+
+    /// What was written.
+    pub(crate) fn into_bytes(self) -> Vec<u8> {
+        let Keeping { bytes, .. } = self;
+        bytes
+    }
+}
+
+impl<W: Write> Write for Keeping<W> {
+    fn write(&mut self, bytes: &[u8]) -> io::Result<usize> {
+        match self.device.write(bytes) {
+            Ok(count) => {
+                let _ = self
+                    .bytes
+                    .extend_from_slice(bytes.get(..count).unwrap_or(&[]));
+                Ok(count)
+            }
+            Err(error) => Err(error),
+        }
+    }
+
+    fn flush(&mut self) -> io::Result<()> {
+        self.device.flush()
     }
 }

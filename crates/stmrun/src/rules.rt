@@ -133,8 +133,8 @@ fn named_rule(rt: &HostRuntime, path: &str, name: &str, explain: bool) -> Result
         Some(rule) => Ok(rule_of(rule)),
         None => {
             refuse_unknown(rt, path, name)?;
-            let file = program_at(rt, path, name, &[], explain)?;
-            read_rule(rt, &file, name, explain)
+            let program = program_at(rt, path, name, &[], explain)?;
+            read_rule(rt, &program.file, name, explain)
         }
     }
 }

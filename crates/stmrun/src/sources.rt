@@ -1,7 +1,7 @@
 //! Inputs that are read as JSON: files of it, and sources, which are compiled first.
 ghost use Rattle.std.specs.Prelude.{◌≡◌, false};
 
-use crate::explaining::{kept, name_of, say_unread, say_unwritten};
+use crate::explaining::{has_hidden, kept, name_of, say_unread, say_unwritten};
 use crate::files::{Opened, open, open_beside};
 use crate::naming::{Called, RUNNERS, with_names};
 use crate::noting::Noting;
@@ -10,8 +10,9 @@ use std::io::Input;
 use std::rt::Files;
 use stm_commands::{RunnerLabel, Std};
 use stm_compiling::{
-    Beside, CalledRunner, Compiled, NamedRunner, Part, PlacedLine, Rule, SourcePlaces, Wait,
-    called_runners, compile_to, compiled, compiled_part, named_runners, notes_of,
+    Beside, CalledRunner, Compiled, NamedRunner, Part, PlacedLine, Printed, Refused, Rule,
+    SourcePlaces, Wait, called_runners, compile_to, compiled, compiled_part, named_runners,
+    notes_of, placed_program, refused_in,
 };
 use stm_devices::{ReadFault, read_all};
 use stm_history::{Sequence, Text};
@@ -380,25 +381,6 @@ pub(crate) fn scenario_at<'a>(
     Ok(scenario)
 }
 
-/// The rule or program of a name, of the source of a path, with these words as its arguments; or the status, once what is wrong with that was said.
-pub(crate) fn program_at<'a>(
-    rt: &HostRuntime,
-    path: &str,
-    name: &str,
-    words: &[String],
-    explain: bool,
-) -> Result<JsonFile<'a>, u8> {
-    let mut input = Std::new(Noting::new(open(rt, path)));
-    let mut err = Std::new(rt.stderr());
-    let part = Part::Program { name, words };
-    let explained = explained_name(path, explain);
-    let printed = compiled_part(rt.alloc(), part, explained, &mut input, &mut err);
-    if explain {
-        say_unread(rt, name_of(path), input.device.failure);
-    }
-    line_of(rt, path, printed?.line)
-}
-
 /// The runners that a source of this text names.
 fn runners_in(alloc: Global, text: &str) -> Result<Vec<NamedRunner>, AllocError> {
     let called = called_runners(alloc, text)?;
@@ -425,6 +407,116 @@ fn say_compiled(rt: &HostRuntime, said: &[u8], text: Option<&str>) {
     }
 }
 
+/// Says of a part of a path's source that it is none, by what was typed for it.
+fn say_refused(rt: &HostRuntime, path: &str, name: &str, refused: &Refused) {
+    let path = name_of(path);
+    let _ = match refused {
+        Refused::Name(words) => eprintln!(rt;
+            "error: invalid value '{name}' for '[NAME]': no rule or program of {path} has this name: {words}"
+        ),
+        Refused::Arguments(words) => eprintln!(rt; "error: {path}: {words}"),
+    };
+}
+
+/// Why the rule or program of a name, with these words as its arguments, is none of a source of this text; nothing, where the source itself is bad, or where
+/// the name cannot be shown.
+fn refusal_of(
+    rt: &HostRuntime,
+    name: &str,
+    words: &[String],
+    text: Option<&str>,
+) -> Option<Refused> {
+    let text = text?;
+    if has_hidden(name) {
+        return None;
+    }
+    match refused_in(rt.alloc(), text.as_bytes(), name, words) {
+        Ok(refused) => refused,
+        Err(_) => None,
+    }
+}
+
+/// Says what was said of a part of a path's source that was compiled, or was not, with this status, or that memory ran out. What is wrong with the words that
+/// were typed for a part is said of these.
+fn say_part(
+    rt: &HostRuntime,
+    path: &str,
+    part: Part<'_>,
+    status: u8,
+    err: &Std<Vec<u8>>,
+    text: Option<&str>,
+) -> u8 {
+    if err.failed && status == 3 {
+        return out_of_memory(rt);
+    }
+    if let (2, Part::Program { name, words }) = (status, part) {
+        if let Some(refused) = refusal_of(rt, name, words, text) {
+            say_refused(rt, path, name, &refused);
+            return status;
+        }
+    }
+    say_compiled(rt, err.device.as_slice(), text);
+    status
+}
+
+/// A copy of a text, where there is one; none, where an allocation fails.
+fn copy_of(rt: &HostRuntime, text: Option<&str>) -> Option<String> {
+    let text = text?;
+    String::from_str(rt.alloc(), text).ok()
+}
+
+/// A program that is read as JSON, and the text of the source that has it, where one has.
+#[derive(Drop)]
+pub(crate) struct GivenProgram<'a> {
+    /// The program.
+    pub(crate) file: JsonFile<'a>,
+    /// The text of its source.
+    pub(crate) text: Option<String>,
+}
+
+/// The rule or program of a name, of the source of a path, with these words as its arguments; or the status, once what is wrong with that was said.
+pub(crate) fn program_at<'a>(
+    rt: &HostRuntime,
+    path: &str,
+    name: &str,
+    words: &[String],
+    explain: bool,
+) -> Result<GivenProgram<'a>, u8> {
+    let mut input = kept(rt, path);
+    let said: Vec<u8> = Vec::new(rt.alloc());
+    let mut err = Std::new(said);
+    let part = Part::Program { name, words };
+    let explained = explained_name(path, explain);
+    let printed = match compiled_part(rt.alloc(), part, explained, &mut input, &mut err) {
+        Ok(Printed { line, .. }) => Ok(line),
+        Err(status) => Err(say_part(rt, path, part, status, &err, input.text())),
+    };
+    let text = copy_of(rt, input.text());
+    if explain {
+        say_unread(rt, name_of(path), input.source.device.failure);
+    }
+    let file = line_of(rt, path, printed?)?;
+    Ok(GivenProgram { file, text })
+}
+
+/// Says a line `FAULT at POINTER: REASON` of a run of a program of a path's source, with its place in the source and the line there.
+pub(crate) fn say_in_program(
+    rt: &HostRuntime,
+    path: &str,
+    text: &str,
+    name: &str,
+    words: &[String],
+    line: &str,
+) {
+    let path = name_of(path);
+    match placed_program(rt.alloc(), path, text, name, words, line) {
+        Ok(Some(placed)) => say_line(rt, &placed, RUNNERS, &[]),
+        _ => {
+            let _ = eprintln!(rt; "{path}: {line}");
+        }
+    }
+}
+
 /// Prints a part of a path's source. A fault is explained, or is not.
 pub(crate) fn run_compile(rt: &HostRuntime, path: &str, part: Part<'_>, explain: bool) -> u8 {
     let mut input = kept(rt, path);
@@ -439,10 +531,7 @@ pub(crate) fn run_compile(rt: &HostRuntime, path: &str, part: Part<'_>, explain:
         &mut out,
         &mut err,
     );
-    if err.failed && status == 3 {
-        return out_of_memory(rt);
-    }
-    say_compiled(rt, err.device.as_slice(), input.text());
+    let status = say_part(rt, path, part, status, &err, input.text());
     if explain {
         say_unread(rt, name_of(path), input.source.device.failure);
         say_unwritten(rt, out.device.failure);

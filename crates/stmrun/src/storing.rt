@@ -9,22 +9,26 @@ ghost use Rattle.stm_workers.specs.declared.run.TheConstants.{MOST_WORKERS};
 use crate::explaining::{kept_json, name_of, say_unread, say_unwritten};
 use crate::files::is_missing;
 use crate::naming::JOBS;
-use crate::noting::Noting;
+use crate::noting::{Keeping, Noting};
 use crate::sources::{
-    Given, JsonFile, given_at, is_source, out_of_memory, program_at, say_of_runs, scenario_at,
+    Given, GivenProgram, JsonFile, given_at, is_source, out_of_memory, program_at, say_in_program,
+    say_of_runs, scenario_at,
 };
 use std::fs;
 use std::sync::Wait;
 use std::thread::Threads;
 use stm_arguments::{RunWords, ScriptWords, Shown, StoreWords, ThreadsWords, Which};
 use stm_commands::{Format, KeptSource, Std};
+use stm_compiling::indices_in;
 use stm_devices::Source;
-use stm_explain::Input;
+use stm_explain::{Input, explained_at};
+use stm_faulted_runs::{State, fault_on};
 use stm_file_disk::{FileDisk, open};
+use stm_lasting::Kept;
 use stm_storing::{
     HIGHEST_REVISION, InputFault, JobEnd, JobsAsked, Manner, Program, RecordFile, Scenario,
-    StoreFault, Text, Watched, check_kept, read_input, read_jobs, read_program, run_anew, run_kept,
-    script_kept, show_at, show_kept, show_since, threads_kept,
+    StoreFault, Text, Watched, check_kept, compact_kept, read_input, read_jobs, read_program,
+    run_anew, run_kept, script_kept, show_at, show_kept, show_since, threads_kept,
 };
 use stm_threading::report_ends;
 
@@ -32,7 +36,10 @@ use stm_threading::report_ends;
 fn say_fault(rt: &HostRuntime, path: &str, fault: &StoreFault) -> u8 {
     let _ = eprintln!(rt; "stmrun: {path}: {fault}");
     match fault {
-        StoreFault::OpenAlready | StoreFault::FutureRevision | StoreFault::Compacted => 2,
+        StoreFault::OpenAlready
+        | StoreFault::FutureRevision
+        | StoreFault::Compacted
+        | StoreFault::CannotCompact => 2,
         _ => 3,
     }
 }
@@ -240,45 +247,161 @@ fn run_jobs<T: Threads + Wait + Sync>(
     }
 }
 
-/// Runs a program over the store of a file that is not there, which is not made: whether it would commit. Where it would not, its line was printed.
-fn would_commit(
+/// Runs a program over the store of a file that is not there, which is not made. Where it would not commit, its line was printed, and is given.
+fn tried(
     rt: &HostRuntime,
     store: &str,
-    program: &Program,
+    program: Program,
     manner: Manner,
-) -> Result<bool, u8> {
-    let Ok(copy) = program.clone() else {
-        return Err(out_of_memory(rt));
-    };
-    let mut out = Std::new(Noting::new(rt.stdout()));
-    let would = run_anew(rt.alloc(), copy, manner, &mut out);
-    say_unwritten(rt, out.device.failure);
+) -> Result<Option<Vec<u8>>, u8> {
+    let mut out = Std::new(Noting::new(Keeping::new(rt.alloc(), rt.stdout())));
+    let would = run_anew(rt.alloc(), program, manner, &mut out);
+    say_unwritten(rt, out.device.failure.take());
     match would {
-        Ok(would) => Ok(would),
+        Ok(true) => Ok(None),
+        Ok(false) => Ok(Some(out.device.into_device().into_bytes())),
         Err(fault) => Err(say_fault(rt, store, &fault)),
     }
 }
 
-/// Runs a program over the store of a file, which is made only where the program commits.
-fn run_program(
+/// Runs a program of this text over the store of a file, and prints its line, which is given where it has not committed.
+fn ran(
     rt: &HostRuntime,
     store: &str,
-    file: &JsonFile<'_>,
+    text: &[u8],
+    program: Program,
     manner: Manner,
+) -> Result<Option<Vec<u8>>, u8> {
+    let (mut records, bytes) = opened(rt, store)?;
+    let mut out = Std::new(Noting::new(Keeping::new(rt.alloc(), rt.stdout())));
+    let ran = run_kept(&mut records, bytes, text, program, manner, &mut out);
+    say_unwritten(rt, out.device.failure.take());
+    match ran {
+        Ok(true) => Ok(None),
+        Ok(false) => Ok(Some(out.device.into_device().into_bytes())),
+        Err(fault) => Err(say_fault(rt, store, &fault)),
+    }
+}
+
+/// A copy of a program, or the status where no memory is left.
+fn copy_of(rt: &HostRuntime, program: &Program) -> Result<Program, u8> {
+    match program.clone() {
+        Ok(program) => Ok(program),
+        Err(_) => Err(out_of_memory(rt)),
+    }
+}
+
+/// Runs a program of this text over the store of a file, which is made only where the program commits. The line of one that does not was printed, and is given.
+fn run_over(
+    rt: &HostRuntime,
+    store: &str,
+    text: &[u8],
+    program: &Program,
+    manner: Manner,
+) -> Result<Option<Vec<u8>>, u8> {
+    if is_missing(rt, store) {
+        let line = tried(rt, store, copy_of(rt, program)?, manner)?;
+        if line.is_some() {
+            return Ok(line);
+        }
+    }
+    ran(rt, store, text, copy_of(rt, program)?, manner)
+}
+
+/// Whether a line of a report says that a run came to a fault.
+fn is_faulted(line: &[u8]) -> bool {
+    match str::from_utf8(line) {
+        Ok(line) => line.contains(",\"faulted\","),
+        Err(_) => false,
+    }
+}
+
+/// The state of the store of a world.
+fn state_kept(kept: Kept) -> Option<State> {
+    let state = kept.world.state();
+    drop(kept);
+    state.ok()
+}
+
+/// The state of the store of a file, empty where that is not there; none, where it cannot be had.
+fn state_of(rt: &HostRuntime, store: &str) -> Option<State> {
+    if is_missing(rt, store) {
+        return Some(State::new(rt.alloc()));
+    }
+    match opened(rt, store) {
+        Ok((mut records, bytes)) => {
+            match stm_lasting::open(rt.alloc(), &mut records.disk, bytes) {
+                Ok(kept) => state_kept(kept),
+                Err(_) => None,
+            }
+        }
+        Err(_) => None,
+    }
+}
+
+/// The fault to which a program comes, run alone over the store of a file, its place, and why: `FAULT at POINTER: REASON`; nothing, where it comes to none now,
+/// or where that cannot be had.
+fn fault_over(rt: &HostRuntime, store: &str, program: &Program) -> String {
+    let Some(state) = state_of(rt, store) else {
+        return String::new(rt.alloc());
+    };
+    match fault_on(rt.alloc(), program, &state) {
+        Ok(line) => line,
+        Err(_) => String::new(rt.alloc()),
+    }
+}
+
+/// Says a line `FAULT at POINTER: REASON` of a run of a program of this JSON, with its place there.
+fn say_in_json(rt: &HostRuntime, path: &str, text: &[u8], line: &str) {
+    let text = str::from_utf8(text).unwrap_or("");
+    let Ok(steps) = indices_in(rt.alloc(), line) else {
+        return;
+    };
+    if let Ok(said) = explained_at(rt.alloc(), name_of(path), text, steps.as_slice(), line) {
+        let _ = rt.eprint(said.as_str());
+    }
+}
+
+/// Says where the program of this text stops, run over the store that words name, and why: in its source, where one has it.
+fn say_stop(
+    rt: &HostRuntime,
+    words: &RunWords<'_>,
+    given: &GivenProgram<'_>,
+    text: &[u8],
+    program: &Program,
+) {
+    let line = fault_over(rt, words.store, program);
+    let line = line.as_str();
+    let path = words.input.unwrap_or("-");
+    match (&given.text, words.program) {
+        _ if line.is_empty() => {}
+        (Some(source), Some(name)) => {
+            say_in_program(rt, path, source.as_str(), name, words.arguments, line);
+        }
+        _ => say_in_json(rt, path, text, line),
+    }
+}
+
+/// Runs a program over the store that words name. A fault is explained, or is not.
+fn run_program(
+    rt: &HostRuntime,
+    words: &RunWords<'_>,
+    given: &GivenProgram<'_>,
     explain: bool,
 ) -> Result<(), u8> {
-    let (text, program) = program_in(rt, file, explain)?;
-    if is_missing(rt, store) && !would_commit(rt, store, &program, manner)? {
-        return Err(1);
-    }
-    let (mut records, bytes) = opened(rt, store)?;
-    let mut out = Std::new(Noting::new(rt.stdout()));
-    let ran = run_kept(&mut records, bytes, &text, program, manner, &mut out);
-    say_unwritten(rt, out.device.failure);
-    match ran {
-        Ok(true) => Ok(()),
-        Ok(false) => Err(1),
-        Err(fault) => Err(say_fault(rt, store, &fault)),
+    let manner = Manner {
+        level: words.level,
+        attempts: words.attempts,
+    };
+    let (text, program) = program_in(rt, &given.file, explain)?;
+    match run_over(rt, words.store, &text, &program, manner)? {
+        None => Ok(()),
+        Some(line) => {
+            if explain && is_faulted(&line) {
+                say_stop(rt, words, given, &text, &program);
+            }
+            Err(1)
+        }
     }
 }
 
@@ -287,7 +410,7 @@ fn program_of<'a>(
     rt: &HostRuntime,
     words: &RunWords<'a>,
     explain: bool,
-) -> Result<JsonFile<'a>, u8> {
+) -> Result<GivenProgram<'a>, u8> {
     let path = words.input.unwrap_or("-");
     match words.program {
         Some(name) => program_at(rt, path, name, words.arguments, explain),
@@ -298,18 +421,17 @@ fn program_of<'a>(
             );
             Err(2)
         }
-        None => Ok(JsonFile::Json(path)),
+        None => Ok(GivenProgram {
+            file: JsonFile::Json(path),
+            text: None,
+        }),
     }
 }
 
 /// Runs the program that words ask for.
 fn run_words(rt: &HostRuntime, words: &RunWords<'_>, explain: bool) -> Result<(), u8> {
-    let manner = Manner {
-        level: words.level,
-        attempts: words.attempts,
-    };
-    let file = program_of(rt, words, explain)?;
-    run_program(rt, words.store, &file, manner, explain)
+    let given = program_of(rt, words, explain)?;
+    run_program(rt, words, &given, explain)
 }
 
 /// The format of what a store has: that of this name, lines where there is none.
@@ -419,6 +541,22 @@ fn check(rt: &HostRuntime, store: &str) -> Result<(), u8> {
     if said { Ok(()) } else { Err(3) }
 }
 
+/// Drops what is below a revision of the store of a file, that of a word or else its own.
+fn compact(rt: &HostRuntime, store: &str, word: Option<&str>) -> Result<(), u8> {
+    let from = match word {
+        Some(word) => Some(revision_of(rt, word)?),
+        None => None,
+    };
+    let (mut records, bytes) = opened_there(rt, store)?;
+    match compact_kept(&mut records, bytes, from) {
+        Ok(checked) => {
+            let said = println!(rt; "yes {} {}", checked.records, checked.bytes);
+            if said.is_ok() { Ok(()) } else { Err(3) }
+        }
+        Err(fault) => Err(say_fault(rt, store, &fault)),
+    }
+}
+
 /// The status of what was done, or was not.
 fn status_of(done: Result<(), u8>) -> u8 {
     match done {
@@ -463,5 +601,6 @@ pub(crate) fn run_shown(rt: &HostRuntime, words: &StoreWords<'_>) -> u8 {
         Shown::At(revision) => show_past(rt, store, revision),
         Shown::Since(revision, which) => show_events(rt, store, revision, which),
         Shown::Whole => check(rt, store),
+        Shown::Compacted(from) => compact(rt, store, from),
     })
 }

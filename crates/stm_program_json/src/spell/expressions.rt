@@ -2,25 +2,12 @@
 ghost use Rattle.std.specs.Prelude.{◌≡◌, [], ◌∷◌, codes, IfOk};
 ghost use Rattle.serde_json.specs.View.{view};
 ghost use Rattle.stm_json.specs.Parts.{spelled};
-ghost use Rattle.stm_program_json.specs.Grammar.{operator_text};
 ghost use Rattle.stm_program_json.specs.Writing.{written_expression, written_condition};
 
 use crate::spell::arrays::{one_part, two_parts};
 use serde_json::{Value, json};
 use std::alloc::{AllocError, Global};
-use stm_program::{Cond, CondNode, Expr, ExprNode, Operator};
-
-fn operator_word(operator: Operator) -> &'static str
-    ensures { result.now ≡ operator_text operator }
-{
-    match operator {
-        Operator::Add => "add",
-        Operator::Sub => "sub",
-        Operator::Mul => "mul",
-        Operator::Div => "div",
-        Operator::Rem => "rem",
-    }
-}
+use stm_program::{Cond, CondNode, Expr, ExprNode};
 
 /// The array of a word and two expressions.
 #[cycle(write_expressions)]
@@ -52,7 +39,7 @@ pub(crate) fn expression_value(alloc: Global, expression: &Expr) -> Result<Value
         ExprNode::NumOf(part) => one_part(alloc, "num_of", expression_value(alloc, part)?),
         ExprNode::Cat(left, right) => expressions_value(alloc, "cat", left, right),
         ExprNode::Arithmetic(operator, left, right) => {
-            expressions_value(alloc, operator_word(*operator), left, right)
+            expressions_value(alloc, operator.word(), left, right)
         }
     }
 }

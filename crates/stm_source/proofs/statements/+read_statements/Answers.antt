@@ -21,54 +21,54 @@ choice-returns-then-more-eq0 t c = choice_none _ _ _ _ _ _ _ c.if-more-eq0.true 
 pub choice-returns : goal.choice-returns
 choice-returns t c =
     let some : 0 < c.args.more = omega arith in
-    rw (choice_some c.args.around (block_at c.args.levels c.args.around) c.args.levels c.args.scope.now c.args.more c.args.tokens.now some) c.choice_between.ensures
+    rw (choice_some c.args.around (block_at c.args.levels c.args.around) c.args.levels c.args.more c.args.scope.now c.args.tokens.now some) c.choice_between.ensures
 
 -- ---- the statements of a block
 
 pub statements-returns-in-Some : goal.statements-returns-in-Some
 statements-returns-in-Some t c =
     let n = length c.args.tokens.now in
-    let some : n - c.loop-done.done ≡ suc (n - (c.loop-done.done + 1)) = omega arith in
-    let closed : after_symbol RightBrace c.loop-done.rest.now ≡ Some c.in-Some.behind.now = search rules in
-    closes (statement_by (block_at c.args.levels) c.args.levels c.args.around) c.loop-done.parts.items c.loop-done.done c.loop-done.ending (n - c.loop-done.done)
-    (n - (c.loop-done.done + 1)) c.loop-done.scope c.loop-done.rest.now c.in-Some.behind.now (statements_at c.args.levels c.args.around c.args.outer.now c.args.tokens.now)
-    some closed c.loop-done.invariant
+    let some : n - c.loop-turn._turn ≡ suc (n - (c.loop-turn._turn + 1)) = omega arith in
+    let closed : after_symbol RightBrace c.loop-turn.rest.now ≡ Some c.in-Some.behind.now = search rules in
+    closes c.args.around (statement_by (block_at c.args.levels) c.args.levels c.args.around) c.loop-turn.parts.items c.loop-turn.ending (n - c.loop-turn._turn)
+    (n - (c.loop-turn._turn + 1)) c.loop-turn.scope c.loop-turn.rest.now c.in-Some.behind.now (statements_at c.args.levels c.args.around c.args.outer.now c.args.tokens.now)
+    some closed c.loop-turn.invariant
 
 pub statements-returns-then-is_left : goal.statements-returns-then-is_left
 statements-returns-then-is_left t c =
     let n = length c.args.tokens.now in
-    let some : n - c.loop-done.done ≡ suc (n - (c.loop-done.done + 1)) = omega arith in
-    let unclosed : after_symbol RightBrace c.loop-done.rest.now ≡ None = search rules in
-    let left : is_left c.loop-done.ending ≡ true = search rules in
-    rw c.unexpected.ensures (is_behind (statement_by (block_at c.args.levels) c.args.levels c.args.around) c.loop-done.parts.items c.loop-done.done c.loop-done.ending
-    (n - c.loop-done.done) (n - (c.loop-done.done + 1)) c.loop-done.scope c.loop-done.rest.now
-    (statements_at c.args.levels c.args.around c.args.outer.now c.args.tokens.now) some unclosed left c.loop-done.invariant)
+    let some : n - c.loop-turn._turn ≡ suc (n - (c.loop-turn._turn + 1)) = omega arith in
+    let unclosed : after_symbol RightBrace c.loop-turn.rest.now ≡ None = search rules in
+    let left : is_left c.loop-turn.ending ≡ true = search rules in
+    rw c.unexpected.ensures (is_behind c.args.around (statement_by (block_at c.args.levels) c.args.levels c.args.around) c.loop-turn.parts.items c.loop-turn.ending
+    (n - c.loop-turn._turn) (n - (c.loop-turn._turn + 1)) c.loop-turn.scope c.loop-turn.rest.now
+    (statements_at c.args.levels c.args.around c.args.outer.now c.args.tokens.now) some unclosed left c.loop-turn.invariant)
 
 pub statements-returns-in_err-statement : goal.statements-returns-in_err-statement
 statements-returns-in_err-statement t c =
     let p = err_from_is_err_and c.from_residual-in_err-statement.result c.from_residual-in_err-statement.ensures.1 in
     let n = length c.args.tokens.now in
-    let some : n - c.loop-done.done ≡ suc (n - (c.loop-done.done + 1)) = omega arith in
-    let unclosed : after_symbol RightBrace c.loop-done.rest.now ≡ None = search rules in
-    let comes : is_left c.loop-done.ending ≡ false = search rules in
-    rw (p.1, p.2) (faults c.in_err-statement.field-0.0 (statement_by (block_at c.args.levels) c.args.levels c.args.around) c.loop-done.parts.items c.loop-done.done
-    c.loop-done.ending (n - c.loop-done.done) (n - (c.loop-done.done + 1)) c.loop-done.scope c.loop-done.rest.now
-    (statements_at c.args.levels c.args.around c.args.outer.now c.args.tokens.now) some unclosed comes c.in_err-statement.ensures c.loop-done.invariant)
+    let some : n - c.loop-turn._turn ≡ suc (n - (c.loop-turn._turn + 1)) = omega arith in
+    let unclosed : after_symbol RightBrace c.loop-turn.rest.now ≡ None = search rules in
+    let comes : is_left c.loop-turn.ending ≡ false = search rules in
+    rw (p.1, p.2) (faults c.in_err-statement.field-0.0 c.args.around (statement_by (block_at c.args.levels) c.args.levels c.args.around) c.loop-turn.parts.items
+    c.loop-turn.ending (n - c.loop-turn._turn) (n - (c.loop-turn._turn + 1)) c.loop-turn.scope c.loop-turn.rest.now
+    (statements_at c.args.levels c.args.around c.args.outer.now c.args.tokens.now) some unclosed comes c.in_err-statement.ensures c.loop-turn.invariant)
 
-pub statements-loop-done-preserved : goal.statements-loop-done-preserved
-statements-loop-done-preserved t c =
+pub statements-loop-turn-preserved : goal.statements-loop-turn-preserved
+statements-loop-turn-preserved t c =
     let n = length c.args.tokens.now in
-    let some : n - c.loop-done.done ≡ suc (n - (c.loop-done.done + 1)) = omega arith in
-    let unclosed : after_symbol RightBrace c.loop-done.rest.now ≡ None = search rules in
-    let comes : is_left c.loop-done.ending ≡ false = search rules in
-    rw (c.in_ok-push_up.ensures, c.skip_semicolon-rest.ensures) (goes_on (statement_by (block_at c.args.levels) c.args.levels c.args.around) c.loop-done.parts.items
-    c.loop-done.done c.loop-done.ending c.in_ok-statement.next (n - c.loop-done.done) (n - (c.loop-done.done + 1)) c.loop-done.scope c.statement.new.scope c.loop-done.rest.now
+    let some : n - c.loop-turn._turn ≡ suc (n - (c.loop-turn._turn + 1)) = omega arith in
+    let unclosed : after_symbol RightBrace c.loop-turn.rest.now ≡ None = search rules in
+    let comes : is_left c.loop-turn.ending ≡ false = search rules in
+    rw (c.in_ok-push_up.ensures, c.in_ok-more.ensures.same, c.in_ok-more.ensures.left, c.skip_semicolon-rest.ensures) (goes_on c.args.around (statement_by (block_at c.args.levels) c.args.levels c.args.around) c.loop-turn.parts.items
+    c.loop-turn.ending c.in_ok-statement.next (n - c.loop-turn._turn) (n - (c.loop-turn._turn + 1)) c.loop-turn.scope c.statement.new.scope c.loop-turn.rest.now
     c.in_ok-statement.behind.now c.in_ok-statement.statement (statements_at c.args.levels c.args.around c.args.outer.now c.args.tokens.now) some unclosed comes
-    c.in_ok-statement.ensures c.loop-done.invariant)
+    c.in_ok-statement.ensures c.loop-turn.invariant)
 
 pub statements-returns : goal.statements-returns
 statements-returns t c =
     let n = length c.args.tokens.now in
-    let none : n - c.loop-done.done ≡ 0 = omega arith in
-    rw c.unexpected-2.ensures (runs_out (statement_by (block_at c.args.levels) c.args.levels c.args.around) c.loop-done.parts.items c.loop-done.done c.loop-done.ending
-    (n - c.loop-done.done) c.loop-done.scope c.loop-done.rest.now (statements_at c.args.levels c.args.around c.args.outer.now c.args.tokens.now) none c.loop-done.invariant)
+    let none : n - c.loop-turn._turn ≡ 0 = omega arith in
+    rw c.unexpected-2.ensures (runs_out c.args.around (statement_by (block_at c.args.levels) c.args.levels c.args.around) c.loop-turn.parts.items c.loop-turn.ending
+    (n - c.loop-turn._turn) c.loop-turn.scope c.loop-turn.rest.now (statements_at c.args.levels c.args.around c.args.outer.now c.args.tokens.now) none c.loop-turn.invariant)

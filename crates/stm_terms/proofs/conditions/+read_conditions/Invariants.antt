@@ -50,5 +50,5 @@ decreases-condition_between l = 20 * l.levels + 19
 -- what is left of the chain leads to what all of it does
 abbrev pub invariant-connection-loop-done : goal.invariant-connection-loop-done
 invariant-connection-loop-done l =
-    connection (part_by (connections_at l.fn.levels l.fn.scope l.fn.tier)) (l.fn.tier + 1) (length l.fn.tokens - l.done) l.done l.left l.rest
-    ≡ connection (part_by (connections_at l.fn.levels l.fn.scope l.fn.tier)) (l.fn.tier + 1) (length l.fn.tokens) 0 l.fn.left l.fn.tokens
+    connection l.fn.scope (part_by (connections_at l.fn.levels l.fn.scope l.fn.tier)) (l.fn.tier + 1) (length l.fn.tokens - l.done) l.done l.left l.rest
+    ≡ connection l.fn.scope (part_by (connections_at l.fn.levels l.fn.scope l.fn.tier)) (l.fn.tier + 1) (length l.fn.tokens) 0 l.fn.left l.fn.tokens

@@ -1,6 +1,6 @@
 use Rattle.std.proofs.Common.{◌≡◌, ◌+◌, ◌<◌, [], length, Some, None, sym, arith, rules}
 use Rattle.std.proofs.lemmas.Result.{err_from_is_err_and}
-use Rattle.stm_terms.proofs.ValueLemmas.{behind_none, behind_some, chain_goes, chain_ends, chain_out, chain_fails, bracketed_none, bracketed_some, within_none, within_some, uses_none, uses_some, uses_fault, uses_more, uses_last, uses_unclosed, uses_over}
+use Rattle.stm_terms.proofs.ValueLemmas.{behind_none, behind_some, chain_goes, chain_ends, chain_out, chain_fails, bracketed_none, bracketed_some, within_none, within_some, uses_none, uses_some, uses_fault, uses_refused, uses_more, uses_last, uses_unclosed, uses_over}
 use Rattle.stm_tokens.specs.declared.token.Symbol.TheVariants.{Comma}
 use Rattle.stm_terms.specs.Cursor.{after_symbol}
 use Rattle.stm_terms.specs.Values.{bracketed_at, uses_at, uses_from, operand_at, tier_at, joined_right, chain, next_join}
@@ -80,8 +80,18 @@ some_uses-returns-in_err-value t c =
     let n = length c.args.tokens.now in
     let value = tier_at c.args.levels c.args.scope.now 3 in
     let less : c.loop-turn._turn < n = omega arith in
-    rw (p.1, p.2) (uses_fault c.in_err-value.field-0.0 value n c.loop-turn._turn c.loop-turn.values c.loop-turn.rest.now
-    (uses_from value n [] c.args.tokens.now) less c.in_err-value.ensures c.loop-turn.invariant)
+    rw (p.1, p.2) (uses_fault c.in_err-value.field-0.0 c.args.scope.now value n c.loop-turn._turn c.loop-turn.values c.loop-turn.rest.now
+    (uses_from c.args.scope.now value n [] c.args.tokens.now) less c.in_err-value.ensures c.loop-turn.invariant)
+
+pub some_uses-returns-in_err-add_argument : goal.some_uses-returns-in_err-add_argument
+some_uses-returns-in_err-add_argument t c =
+    let p = err_from_is_err_and c.from_residual-in_err-add_argument.result c.from_residual-in_err-add_argument.ensures.1 in
+    let n = length c.args.tokens.now in
+    let value = tier_at c.args.levels c.args.scope.now 3 in
+    let less : c.loop-turn._turn < n = omega arith in
+    rw (p.1, p.2) (uses_refused c.in_err-add_argument.field-0.0 c.args.scope.now value n c.loop-turn._turn c.loop-turn.values c.in_ok-value.value
+    c.loop-turn.rest.now c.in_ok-value.behind.now (uses_from c.args.scope.now value n [] c.args.tokens.now) less c.in_ok-value.ensures
+    c.in_err-add_argument.ensures c.loop-turn.invariant)
 
 pub some_uses-returns-in_err-rest : goal.some_uses-returns-in_err-rest
 some_uses-returns-in_err-rest t c =
@@ -90,8 +100,9 @@ some_uses-returns-in_err-rest t c =
     let value = tier_at c.args.levels c.args.scope.now 3 in
     let less : c.loop-turn._turn < n = omega arith in
     let ends : after_symbol Comma c.in_ok-value.behind.now ≡ None = search rules in
-    rw (p.1, p.2) (uses_unclosed c.in_err-rest.field-0.0 value n c.loop-turn._turn c.loop-turn.values c.in_ok-value.value c.loop-turn.rest.now
-    c.in_ok-value.behind.now (uses_from value n [] c.args.tokens.now) less c.in_ok-value.ensures ends c.in_err-rest.ensures c.loop-turn.invariant)
+    rw (p.1, p.2) (uses_unclosed c.in_err-rest.field-0.0 c.args.scope.now value n c.loop-turn._turn c.loop-turn.values _ c.in_ok-value.value
+    c.loop-turn.rest.now c.in_ok-value.behind.now (uses_from c.args.scope.now value n [] c.args.tokens.now) less c.in_ok-value.ensures
+    c.in_ok-add_argument.ensures ends c.in_err-rest.ensures c.loop-turn.invariant)
 
 pub some_uses-returns-in_default : goal.some_uses-returns-in_default
 some_uses-returns-in_default t c =
@@ -99,9 +110,9 @@ some_uses-returns-in_default t c =
     let value = tier_at c.args.levels c.args.scope.now 3 in
     let less : c.loop-turn._turn < n = omega arith in
     let ends : after_symbol Comma c.in_ok-value.behind.now ≡ None = search rules in
-    rw c.in_ok-push.ensures.ok (uses_last value n c.loop-turn._turn c.loop-turn.values c.in_ok-value.value c.loop-turn.rest.now
-    c.in_ok-value.behind.now c.in_ok-rest.rest.now (uses_from value n [] c.args.tokens.now) less c.in_ok-value.ensures ends c.in_ok-rest.ensures
-    c.loop-turn.invariant)
+    uses_last c.args.scope.now value n c.loop-turn._turn c.loop-turn.values _ c.in_ok-value.value c.loop-turn.rest.now
+    c.in_ok-value.behind.now c.in_ok-rest.rest.now (uses_from c.args.scope.now value n [] c.args.tokens.now) less c.in_ok-value.ensures
+    c.in_ok-add_argument.ensures ends c.in_ok-rest.ensures c.loop-turn.invariant
 
 pub some_uses-loop-turn-preserved : goal.some_uses-loop-turn-preserved
 some_uses-loop-turn-preserved t c =
@@ -109,12 +120,13 @@ some_uses-loop-turn-preserved t c =
     let value = tier_at c.args.levels c.args.scope.now 3 in
     let less : c.loop-turn._turn < n = omega arith in
     let follows : after_symbol Comma c.in_ok-value.behind.now ≡ Some c.in-Some.next.now = search rules in
-    rw c.in_ok-push.ensures.ok (uses_more value n c.loop-turn._turn c.loop-turn.values c.in_ok-value.value c.loop-turn.rest.now
-    c.in_ok-value.behind.now c.in-Some.next.now (uses_from value n [] c.args.tokens.now) less c.in_ok-value.ensures follows c.loop-turn.invariant)
+    uses_more c.args.scope.now value n c.loop-turn._turn c.loop-turn.values _ c.in_ok-value.value c.loop-turn.rest.now
+    c.in_ok-value.behind.now c.in-Some.next.now (uses_from c.args.scope.now value n [] c.args.tokens.now) less c.in_ok-value.ensures
+    c.in_ok-add_argument.ensures follows c.loop-turn.invariant
 
 pub some_uses-returns : goal.some_uses-returns
 some_uses-returns t c =
     let n = length c.args.tokens.now in
     let value = tier_at c.args.levels c.args.scope.now 3 in
-    uses_over c.unexpected.result value n c.loop-turn._turn c.loop-turn.values c.loop-turn.rest.now (uses_from value n [] c.args.tokens.now)
-    (omega arith) c.unexpected.ensures c.loop-turn.invariant
+    uses_over c.unexpected.result c.args.scope.now value n c.loop-turn._turn c.loop-turn.values c.loop-turn.rest.now
+    (uses_from c.args.scope.now value n [] c.args.tokens.now) (omega arith) c.unexpected.ensures c.loop-turn.invariant

@@ -77,5 +77,5 @@ invariant-chain-loop-done l =
 -- what is left leads to all
 abbrev pub invariant-some_uses-loop-turn : goal.invariant-some_uses-loop-turn
 invariant-some_uses-loop-turn l =
-    uses_from (tier_at l.fn.levels l.fn.scope 3) (length l.fn.tokens - l._turn) l.values l.rest
-    ≡ uses_from (tier_at l.fn.levels l.fn.scope 3) (length l.fn.tokens) [] l.fn.tokens
+    uses_from l.fn.scope (tier_at l.fn.levels l.fn.scope 3) (length l.fn.tokens - l._turn) l.values l.rest
+    ≡ uses_from l.fn.scope (tier_at l.fn.levels l.fn.scope 3) (length l.fn.tokens) [] l.fn.tokens

@@ -1,0 +1,96 @@
+//! What is said of words and signs that people bring along from other languages.
+
+use crate::spots::{Event, Spot, name_in};
+use crate::wanted::is_level;
+use stm_tokens::{Symbol, TokenKind, Word};
+
+/// What is said of words that have no place in a source, which people know from elsewhere; nothing of others.
+pub(crate) fn said_of_word(word: &str) -> &'static str {
+    match word {
+        "var" | "const" => "a new variable is let NAME = VALUE",
+        "func" | "fn" | "def" => "a program is program NAME(PARAMETER, ..) { .. }",
+        "switch" | "case" | "match" => "choices are if, else if and else",
+        "elif" | "elsif" | "elseif" => "another choice is else if CONDITION { .. }",
+        "and" | "or" => "conditions are joined by && and ||",
+        "not" => "a condition is turned round by !( .. )",
+        "while" | "loop" | "range" =>
+            "a loop is for NAME in 0..COUNT { .. }, or for NAME in ITEM, ITEM { .. }",
+        "nil" | "null" | "none" | "None" => "an absent key has the value \"\"",
+        "true" | "false" => "no value is true or false: a condition compares two values",
+        "delete" => "a key is deleted by del(KEY)",
+        "print" | "println" => "a value is put out by emit(VALUE)",
+        "panic" | "error" | "throw" => "a run is broken off by abort(TEXT)",
+        _ => "",
+    }
+}
+
+/// What is said of a word for how a runner ends, in whose place a value is wanted; nothing of others.
+pub(crate) fn said_of_ending(word: &str) -> &'static str {
+    match word {
+        "committed" | "aborted" | "faulted" | "gaveup" | "ended" =>
+            "how a runner ended is a text, in quotes",
+        _ => "",
+    }
+}
+
+/// What is said of a name behind an event; nothing of others.
+fn said_of_name(spot: Spot<'_>, name: &str) -> &'static str {
+    match (name, spot.event()) {
+        ("prefix", _) => "the keys of a range are watch FIRST..END",
+        ("commit" | "commits", Some(Event::Start)) => {
+            "a runner that waits for a commit has after RUNNER committed"
+        }
+        (_, Some(Event::Start)) if is_level(name) => "a level stands behind at",
+        _ => "",
+    }
+}
+
+/// What is said of a symbol behind an event; nothing of others.
+fn said_of_symbol(spot: Spot<'_>, symbol: Symbol) -> &'static str {
+    match symbol {
+        Symbol::Semicolon => "events stand one behind another, without it",
+        Symbol::RightBrace | Symbol::RightParenthesis => "no bracket is open before it",
+        Symbol::Divide => "a comment begins with //",
+        Symbol::Comma if spot.event() == Some(Event::Step) => {
+            "runners stand one behind another, without it"
+        }
+        Symbol::LeftBrace if spot.is_behind_word(1, Word::Program) => {
+            "a program has parentheses behind its name: program NAME(PARAMETER, ..) { .. }"
+        }
+        Symbol::LeftParenthesis if spot.is_behind_word(1, Word::Rule) => {
+            "a rule has no parameters: rule NAME { .. }"
+        }
+        Symbol::LeftParenthesis if spot.is_behind_word(1, Word::Finally) => {
+            "a final has no parameters: finally NAME { .. }"
+        }
+        _ => "",
+    }
+}
+
+/// What is said of a token outside of all brackets; nothing of others.
+pub(crate) fn said_of_event(spot: Spot<'_>) -> &'static str {
+    match spot.kind() {
+        Some(TokenKind::Symbol(symbol)) => said_of_symbol(spot, *symbol),
+        Some(TokenKind::Name(name)) => said_of_name(spot, name.as_str()),
+        _ => "",
+    }
+}
+
+/// What is said of a token among the operations of a transaction; nothing of others.
+pub(crate) fn said_of_operation(spot: Spot<'_>) -> &'static str {
+    match spot.kind() {
+        Some(TokenKind::Word(Word::If)) => {
+            "compares stand before the braces: txn if COMPARE && .. { .. } else { .. }"
+        }
+        _ => said_of_lease(spot),
+    }
+}
+
+/// What is said of the word behind which people expect a put's lease; nothing of others.
+pub(crate) fn said_of_lease(spot: Spot<'_>) -> &'static str {
+    if name_in(spot) == "with" && spot.is_behind_symbol(0, Symbol::RightParenthesis) {
+        "a lease is the last value of put(KEY, VALUE, LEASE)"
+    } else {
+        ""
+    }
+}

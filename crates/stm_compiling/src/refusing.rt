@@ -1,0 +1,129 @@
+//! What is said of words that are typed for a part of a source which it does not have: a name of none of its programs and rules, or arguments that the one of
+//! that name does not take.
+
+use crate::calls::{given_at, listed_behind, parameters_of, takes_list};
+use crate::explaining::words_at;
+use crate::program::{line_named, start_at, started};
+use crate::spots::{Spot, spot_at};
+use crate::titles::titles_but;
+use crate::whole::rules_in;
+use std::alloc::{AllocError, Global};
+use stm_source::{BadSource, Rule, SourceCause, SourceError};
+use stm_tokens::{Symbol, Token, TokenKind, tokens_of};
+
+/// Why a name and words are no part of a source that has no fault itself.
+#[derive(Debug, Drop)]
+pub enum Refused {
+    /// None of its programs, rules and finals has the name: which names there are.
+    Name(String),
+    /// The one of the name does not take these arguments: why not.
+    Arguments(String),
+}
+
+/// Adds the parameters with which these tokens begin.
+fn push_parameters(head: &mut String, tokens: &[Token]) -> Result<(), AllocError> {
+    for token in tokens {
+        match &token.kind {
+            TokenKind::Name(parameter) => head.push_str(parameter.as_str())?,
+            TokenKind::Symbol(Symbol::Dots) => head.push_str("..")?,
+            TokenKind::Symbol(Symbol::Comma) => head.push_str(", ")?,
+            _ => return Ok(()),
+        }
+    }
+    Ok(())
+}
+
+/// The head of a program that is defined among tokens, `NAME(PARAMETER, ..)`; its name alone, where none of them defines one.
+fn head_of(alloc: Global, tokens: &[Token], name: &str) -> Result<String, AllocError> {
+    let mut head = String::from_str(alloc, name)?;
+    if let Some(index) = given_at(tokens, name) {
+        let behind = tokens.get(index.saturating_add(3)..).unwrap_or(&[]);
+        head.push_str("(")?;
+        push_parameters(&mut head, behind)?;
+        head.push_str(")")?;
+    }
+    Ok(head)
+}
+
+/// So many arguments, in words.
+fn arguments_in_words(alloc: Global, count: usize) -> Result<String, AllocError> {
+    match count {
+        0 => String::from_str(alloc, "no arguments"),
+        1 => String::from_str(alloc, "1 argument"),
+        _ => format!(in alloc; "{count} arguments"),
+    }
+}
+
+/// What is said of a program or a rule that takes another number of arguments than stand in the place where it is started.
+fn count_words(alloc: Global, name: &str, spot: Spot<'_>) -> Result<String, AllocError> {
+    let head = head_of(alloc, spot.before, name)?;
+    let given = listed_behind(spot.from);
+    let parameters = parameters_of(spot.before, name);
+    if takes_list(spot.before, name) {
+        let least = arguments_in_words(alloc, parameters.saturating_sub(1))?;
+        return format!(in alloc; "{head} takes {least} or more: {given} found");
+    }
+    let wanted = arguments_in_words(alloc, parameters)?;
+    format!(in alloc; "{head} takes {wanted}: {given} found")
+}
+
+/// What is said of a fault in the line that starts a program of a name, behind a source, in their tokens.
+fn refused_at(
+    alloc: Global,
+    text: &[u8],
+    tokens: &[Token],
+    name: &str,
+    bad: BadSource,
+) -> Result<Refused, AllocError> {
+    let spot = spot_at(tokens, bad.at);
+    match bad.cause {
+        SourceCause::Name => Ok(Refused::Name(titles_but(alloc, tokens, name)?)),
+        SourceCause::Arguments => Ok(Refused::Arguments(count_words(alloc, name, spot)?)),
+        _ => Ok(Refused::Arguments(words_at(alloc, text, spot, bad)?)),
+    }
+}
+
+/// The same in their text.
+fn refused_by(
+    alloc: Global,
+    text: &[u8],
+    name: &str,
+    bad: BadSource,
+) -> Result<Option<Refused>, AllocError> {
+    let tokens = tokens_of(alloc, text)?;
+    let refused = refused_at(alloc, text, tokens.as_slice(), name, bad);
+    drop(tokens);
+    Ok(Some(refused?))
+}
+
+/// Why a name and words are no part of a source that has these rules.
+fn refused_beside(
+    alloc: Global,
+    source: &[u8],
+    rules: &[Rule],
+    name: &str,
+    words: &[String],
+) -> Result<Option<Refused>, AllocError> {
+    let text = started(alloc, source, name, words)?;
+    let text = text.as_slice();
+    match line_named(alloc, start_at(source), rules, name, words, text) {
+        Ok(_) => Ok(None),
+        Err(SourceError::Bad(bad)) => refused_by(alloc, text, name, bad),
+        Err(SourceError::OutOfMemory) => Err(AllocError),
+    }
+}
+
+/// Why a name and words, as `Part::Program` has them, are no part of a source; nothing, where they are one, or where the source has a fault itself. It fails
+/// only when out of memory.
+pub fn refused_in(
+    alloc: Global,
+    source: &[u8],
+    name: &str,
+    words: &[String],
+) -> Result<Option<Refused>, AllocError> {
+    match rules_in(alloc, source) {
+        Ok(rules) => refused_beside(alloc, source, rules.as_slice(), name, words),
+        Err(SourceError::Bad(_)) => Ok(None),
+        Err(SourceError::OutOfMemory) => Err(AllocError),
+    }
+}

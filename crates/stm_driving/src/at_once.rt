@@ -1,54 +1,15 @@
 //! A program that is run over a store at once.
 ghost use Rattle.std.specs.Prelude.{◌≡◌, All, IfOk, OnErr, OnOk};
-ghost use Rattle.stm_steps.specs.declared.run.Answered.TheVariants.{Ended};
-ghost use Rattle.stm_meaning.specs.Meaning.{run_over};
-ghost use Rattle.stm_compile.specs.Answers.{state_now};
 ghost use Rattle.stm_driving.specs.AtOnce.{HasRunAtOnce, IsCommittedAtOnce, IsReadNow};
 
-use std::alloc::{AllocError, Global};
+use std::alloc::Global;
 use stm_attempt::{ReadSet, WriteBuffer, compile};
 use stm_history::Text;
 use stm_journal::read;
-use stm_keys::Keys;
-use stm_meaning::{Answered, End, Lookup, Run, run_answered};
+use stm_meaning::{End, Run};
 use stm_program::{Level, Program};
+use stm_retry::run_now;
 use stm_txn::{Refusal, Store};
-
-/// The keys of a store as they are now.
-#[derive(Clone, Copy)]
-struct KeysNow<'a> {
-    keys: &'a Keys,
-}
-
-impl Lookup for KeysNow<'_> {
-    ghost use Rattle.stm_compile.specs.Answers.{state_now};
-
-    ghost answers = { λ look. state_now look.keys.now.history };
-
-    fn value(&self, key: &str) -> Option<&str> {
-        match self.keys.get(key) {
-            None => Some(""),
-            Some(state) => Some(state.value.as_str()),
-        }
-    }
-
-    fn mod_rev(&self, key: &str) -> Option<u64> {
-        match self.keys.get(key) {
-            None => Some(0),
-            Some(state) => Some(state.mod_rev),
-        }
-    }
-}
-
-/// The run of a program on the keys of a store as they are now. It fails only where an allocation does.
-fn run_now(alloc: Global, program: &Program, keys: &Keys) -> Result<Run, AllocError>
-    ensures { IfOk result (λ run. run_over (state_now keys.now.history) program.now.statements ≡ Ended run) }
-{
-    match run_answered(alloc, program, &KeysNow { keys })? {
-        Answered::Ended(run) => Ok(run),
-        Answered::Wants { .. } => unreachable!(),
-    }
-}
 
 /// Adds a key as it is now to what is read, unless it is there.
 fn read_key(alloc: Global, store: &Store, key: &Text, reads: &mut ReadSet) -> Result<(), Refusal>

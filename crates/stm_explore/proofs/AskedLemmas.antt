@@ -27,7 +27,7 @@ use Rattle.stm_explore.specs.declared.places.ReportedPlace.{ReportedPlace}
 use Rattle.stm_explore.specs.AlikeSpots.{after_is_moved}
 use Rattle.stm_explore.specs.Asked.{end_for, laid, laid_or, laid_over}
 use Rattle.stm_explore.specs.Spots.{place_of, reported_after}
-use Rattle.stm_explore.proofs.KeepLemmas.{now_of_kept}
+use Rattle.stm_retry.proofs.AloneLemmas.{now_of_kept}
 
 -- ---- a run over a state with keys laid over it
 

@@ -1,6 +1,5 @@
 pub mod Zipped
 pub mod RuleSteps
-pub mod KeepLemmas
 pub mod MoveLemmas
 pub mod ExploreLemmas
 pub mod Walking

@@ -6,12 +6,12 @@ ghost use Rattle.stm_explore.specs.declared.asking.When.TheVariants.{Each, Last}
 ghost use Rattle.stm_explore.specs.Asked.{end_word, end_reason, value_text, outputs_of, output_key, outputs_from, laid_outputs, laid_of, laid, end_for, asks};
 
 use crate::judging::is_kept;
-use crate::keeping::{KeysNow, end_alone};
+use crate::keeping::end_alone;
 use std::alloc::{AllocError, Global};
 use stm_history::Text;
 use stm_meaning::{Answered, End, Lookup, Value, run_answered};
 use stm_program::Program;
-use stm_retry::SharedWorld;
+use stm_retry::{KeysNow, SharedWorld};
 use stm_schedules::{KeyValue, Move, RunnerEnd};
 
 /// When a rule is asked.
@@ -238,7 +238,7 @@ pub(crate) fn end_for(
     ensures { IfOk result (λ end. end_for when rule.now world.now.standing.history ends.now ≡ Some end) }
 {
     match when {
-        When::Each => end_alone(alloc, rule, world),
+        When::Each => end_alone(rule, world),
         When::Last => last_end(alloc, rule, world, ends),
     }
 }
@@ -270,7 +270,7 @@ pub(crate) fn asks(
     ensures { IfOk result (λ kept. kept ≡ asks when rule.now moves.now world.now.standing.history ends.now) }
 {
     match when {
-        When::Each => is_kept(alloc, rule, world),
+        When::Each => is_kept(rule, world),
         When::Last => match moves {
             [] => is_kept_last(alloc, rule, world, ends),
             [_, ..] => Ok(true),

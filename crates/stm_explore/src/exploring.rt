@@ -43,7 +43,6 @@ pub enum Explored {
 
 /// The end that a rule's program has after a schedule.
 fn end_after(
-    alloc: Global,
     judged: &Judged,
     rule: &Program,
     start: &SharedWorld,
@@ -59,7 +58,7 @@ fn end_after(
         let next = judged.moved(&place, *chosen)?;
         place = next;
     }
-    let end = end_alone(alloc, rule, &place.world)?;
+    let end = end_alone(rule, &place.world)?;
     Ok(end)
 }
 
@@ -91,7 +90,7 @@ fn with_end(
     match visited {
         Visited::Always { longest } => Ok(Explored::Always { longest: *longest }),
         Visited::Broken { moves } => {
-            let end = end_after(alloc, judged, rule, start, moves.as_slice())?;
+            let end = end_after(judged, rule, start, moves.as_slice())?;
             let moves = copy_of_moves(alloc, moves)?;
             Ok(Explored::Broken { moves, end })
         }

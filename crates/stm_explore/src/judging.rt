@@ -36,31 +36,22 @@ pub(crate) fn rule_at(rules: &[Program], rule: usize) -> Option<&Program>
 }
 
 /// Whether a rule is kept in a world.
-pub(crate) fn is_kept(
-    alloc: Global,
-    rule: &Program,
-    world: &SharedWorld,
-) -> Result<bool, AllocError>
+pub(crate) fn is_kept(rule: &Program, world: &SharedWorld) -> Result<bool, AllocError>
     ensures { IfOk result (λ kept. kept ≡ keeps rule.now world.now) }
 {
-    match end_alone(alloc, rule, world)? {
+    match end_alone(rule, world)? {
         End::Done => Ok(true),
         _ => Ok(false),
     }
 }
 
 /// Whether the rule of a number among these is kept in a world, if there is one.
-fn is_kept_if_there(
-    alloc: Global,
-    rules: &[Program],
-    rule: usize,
-    world: &SharedWorld,
-) -> Result<bool, AllocError>
+fn is_kept_if_there(rules: &[Program], rule: usize, world: &SharedWorld) -> Result<bool, AllocError>
     ensures { IfOk result (λ kept. kept ≡ keeps_if_there (slice_get rules.now rule) world.now) }
 {
     match rule_at(rules, rule) {
         None => Ok(true),
-        Some(rule) => is_kept(alloc, rule, world),
+        Some(rule) => is_kept(rule, world),
     }
 }
 
@@ -93,7 +84,7 @@ impl<'a> System for Judged<'a> {
     }
 
     fn is_kept(&self, rule: usize, place: &WorldPlace) -> Result<bool, AllocError> {
-        is_kept_if_there(self.alloc, self.rules, rule, &place.world)
+        is_kept_if_there(self.rules, rule, &place.world)
     }
 
     fn is_alike(&self, one: &WorldPlace, other: &WorldPlace) -> bool {

@@ -9,6 +9,7 @@ pub mod StepDoes
 pub mod FetchExchange
 pub mod AlikeLemmas
 pub mod KeptWorlds
+pub mod AloneLemmas
 pub mod SharingLemmas
 pub mod Stops
 pub mod WorkedExamples

@@ -7,6 +7,7 @@
 
 mod ahead;
 mod alike;
+mod alone;
 mod copies;
 mod kept_world;
 pub mod laws;
@@ -21,13 +22,14 @@ mod store_calls;
 mod watch_calls;
 mod world;
 
+pub use alone::{KeysNow, run_now};
 pub use shared_world::SharedWorld;
 pub use stm_entries::Entry;
 pub use stm_events::{
     CommittedRead, Denied, Event, EventRefusal, KeyRead, OpReply, Reply, WorldEvent,
 };
 pub use stm_history::{ReadAnswer, Sequence, Text};
-pub use stm_meaning::{Fault, State, TraceItem, Value};
+pub use stm_meaning::{Fault, Run, State, TraceItem, Value};
 pub use stm_program::{Level, Program};
 pub use stm_txn::{Expired, Refusal as StoreRefusal, Store, Txn, TxnAnswer};
 pub use world::{RunStop, World, is_out_of_memory};

@@ -5,6 +5,9 @@ ghost use Rattle.stm_alike.specs.Seen.{seen_slot};
 ghost use Rattle.stm_txn.specs.Standing.{kept};
 ghost use Rattle.stm_entries.specs.Replayed.{opened_with, without_moment};
 ghost use Rattle.stm_entries.specs.Replay.{replay};
+ghost use Rattle.stm_compile.specs.Answers.{state_now};
+ghost use Rattle.stm_meaning.specs.Meaning.{run_over};
+ghost use Rattle.stm_steps.specs.declared.run.Answered.TheVariants.{Ended};
 ghost use Rattle.stm_journal.specs.StateOf.{IsStateOf};
 ghost use Rattle.stm_events.specs.declared.event.WorldEvent.TheVariants.{Step};
 ghost use Rattle.stm_world.specs.Sound.{IsSound};
@@ -23,7 +26,8 @@ use std::marker::Model;
 use std::sync::Arc;
 use stm_entries::Entry;
 use stm_events::{Denied, Reply, WorldEvent};
-use stm_meaning::State;
+use stm_meaning::{Run, State};
+use stm_program::Program;
 use stm_txn::Store;
 
 /// A world that shares its store with the worlds after it, as long as runners only read: an event makes another world, and leaves this one as it is.
@@ -216,6 +220,13 @@ impl SharedWorld {
         ensures { IfOk result (λ state. IsStateOf self.now.standing.history state) }
     {
         self.base.state()
+    }
+
+    /// The run of a program alone on the store now: `World::run_alone`. Out of memory is its only refusal.
+    pub fn run_alone(&self, program: &Program) -> Result<Run, AllocError>
+        ensures { IfOk result (λ run. run_over (state_now self.now.standing.history) program.now.statements ≡ Ended run) }
+    {
+        self.base.run_alone(program)
     }
 
     /// Whether the store of another world opened with the same: `World::opens_alike`.

@@ -8,6 +8,9 @@ ghost use Rattle.stm_txn.specs.Standing.{Setup, at_revision, kept};
 ghost use Rattle.stm_entries.specs.Replayed.{opened_with, without_moment};
 ghost use Rattle.stm_entries.specs.Replay.{replay};
 ghost use Rattle.stm_entries.specs.Legal.{AreLegal};
+ghost use Rattle.stm_compile.specs.Answers.{state_now};
+ghost use Rattle.stm_meaning.specs.Meaning.{run_over};
+ghost use Rattle.stm_steps.specs.declared.run.Answered.TheVariants.{Ended};
 ghost use Rattle.stm_journal.specs.StateOf.{IsStateOf};
 ghost use Rattle.stm_events.specs.declared.event.WorldEvent.{WorldEvent};
 ghost use Rattle.stm_events.specs.declared.event.WorldEvent.TheVariants.{Start, Step};
@@ -28,6 +31,7 @@ ghost use Rattle.stm_retry.specs.Kept.{whole_store};
 ghost use Rattle.stm_retry.specs.WorldOf.{with_places};
 
 use crate::alike::{are_slots_alike, hint_of};
+use crate::alone::run_now;
 use crate::kept_world::{KeptWorld, copy_runners};
 use crate::opened::Opened;
 use crate::slots::{Slot, is_running};
@@ -37,7 +41,7 @@ use stm_entries::Entry;
 use stm_events::{Denied, EventRefusal, Reply, WorldEvent};
 use stm_history::{HIGHEST_REVISION, Sequence};
 use stm_journal::state_of;
-use stm_meaning::State;
+use stm_meaning::{Run, State};
 use stm_program::{Level, Program};
 use stm_txn::{Checkpoint, Expired, MOST_OPERATIONS, Store};
 
@@ -321,6 +325,15 @@ impl World {
         ensures { IfOk result (λ state. IsStateOf self.now.standing.history state) }
     {
         state_of(self.alloc, self.kept.journal.store().keys())
+    }
+
+    /// The run of a program alone on the store now. It looks up the keys that it reads, and no others.
+    ///
+    /// Out of memory is its only refusal.
+    pub fn run_alone(&self, program: &Program) -> Result<Run, AllocError>
+        ensures { IfOk result (λ run. run_over (state_now self.now.standing.history) program.now.statements ≡ Ended run) }
+    {
+        run_now(self.alloc, program, self.store().keys())
     }
 }
 

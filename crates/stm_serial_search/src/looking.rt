@@ -89,7 +89,7 @@ pub(crate) fn look<F: Follower>(
     ensures { IfOk result (λ found. found ≡ first_bad_serial (keeps_all rules.now) depth (point world.now taken.now others.now)) }
 {
     follower.came(world);
-    let kept = are_kept(alloc, rules, world)?;
+    let kept = are_kept(rules, world)?;
     if !kept {
         return Ok(Some(Sequence::new(alloc)));
     }

@@ -130,7 +130,7 @@ fn replay_in<F: Follower>(
 {
     let mut made = Vec::new(alloc);
     make_order(world, others, order, &mut made, follower)?;
-    let end = end_in(alloc, rule, world)?;
+    let end = end_in(rule, world)?;
     Ok(found_by(Sequence::of(made), end))
 }
 

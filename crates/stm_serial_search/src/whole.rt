@@ -2,9 +2,6 @@
 ghost use Rattle.std.specs.Prelude.{◌≡◌, true, Some, [], IfOk, OnOk};
 ghost use Rattle.stm_program.specs.declared.level.Level.TheVariants.{ReadCommitted};
 ghost use Rattle.stm_program.specs.Writes.{latest_writes};
-ghost use Rattle.stm_steps.specs.declared.run.Answered.TheVariants.{Ended};
-ghost use Rattle.stm_meaning.specs.Meaning.{run_over};
-ghost use Rattle.stm_compile.specs.Answers.{state_now};
 ghost use Rattle.stm_compile.specs.CommitTxn.{commit_of};
 ghost use Rattle.stm_events.specs.declared.event.WorldEvent.TheVariants.{Txn as TxnEvent};
 ghost use Rattle.stm_world.specs.World.{step};
@@ -16,26 +13,17 @@ use crate::following::Follower;
 use std::alloc::{AllocError, Global};
 use stm_compile::{ReadSet, WriteBuffer, compile};
 use stm_events::{Denied, Reply};
-use stm_meaning::{End, Run, run_alone};
+use stm_meaning::{End, Run};
 use stm_outcome::Txn;
 use stm_program::{Level, Program, Write};
 use stm_retry::{World, is_out_of_memory};
 use stm_world::WorldEvent;
 
-/// The run of a program alone on the state of a world.
-fn run_in(alloc: Global, program: &Program, world: &World) -> Result<Run, AllocError>
-    ensures { IfOk result (λ run. run_over (state_now world.now.standing.history) program.now.statements ≡ Ended run) }
-{
-    let state = world.state()?;
-    let run = run_alone(alloc, program, &state)?;
-    Ok(run)
-}
-
 /// The end of a program that is run alone on the state of a world.
-pub(crate) fn end_in(alloc: Global, program: &Program, world: &World) -> Result<End, AllocError>
+pub(crate) fn end_in(program: &Program, world: &World) -> Result<End, AllocError>
     ensures { IfOk result (λ end. end_alone program.now world.now ≡ Some end) }
 {
-    let run = run_in(alloc, program, world)?;
+    let run = world.run_alone(program)?;
     Ok(run.end)
 }
 
@@ -47,19 +35,19 @@ fn is_done(run: &Run) -> bool
 }
 
 /// Whether a rule is kept: its program, run alone on the state of a world, comes to its last statement.
-fn is_kept(alloc: Global, rule: &Program, world: &World) -> Result<bool, AllocError>
+fn is_kept(rule: &Program, world: &World) -> Result<bool, AllocError>
     ensures { IfOk result (λ kept. kept ≡ keeps_store rule.now world.now.standing) }
 {
-    let run = run_in(alloc, rule, world)?;
+    let run = world.run_alone(rule)?;
     Ok(is_done(&run))
 }
 
 /// Whether each of these rules is kept.
-pub(crate) fn are_kept(alloc: Global, rules: &[Program], world: &World) -> Result<bool, AllocError>
+pub(crate) fn are_kept(rules: &[Program], world: &World) -> Result<bool, AllocError>
     ensures { IfOk result (λ kept. kept ≡ keeps_all rules.now world.now.standing) }
 {
     for rule in rules {
-        let kept = is_kept(alloc, rule, world)?;
+        let kept = is_kept(rule, world)?;
         if !kept {
             return Ok(false);
         }
@@ -156,7 +144,7 @@ pub(crate) fn run_whole<F: Follower>(
     ensures store { OnOk result (world.new.standing ≡ alone program.now world.old.standing) }
     ensures runners { OnOk result (world.new.runners ≡ world.old.runners) }
 {
-    let run = run_in(alloc, program, world)?;
+    let run = world.run_alone(program)?;
     leave(alloc, runner, &run, world, follower)?;
     Ok(())
 }

@@ -1,10 +1,10 @@
 use Rattle.std.proofs.Common.{◌≡◌, refl, sym, ◌∙◌}
 use Rattle.stm_steps.specs.declared.run.Answered.TheVariants.{Ended, Wants}
-use Rattle.stm_compile.specs.Answers.{state_now}
 use Rattle.stm_meaning.proofs.RunLaws.{whole_lookups_end}
-use Rattle.stm_driving.proofs.at_once.run_now.Goals as goal
+use Rattle.stm_compile.specs.Answers.{state_now}
+use Rattle.stm_retry.proofs.alone.run_now.Goals as goal
 
--- a store knows every key
+-- a store's keys are all known
 pub unreachable-requires : goal.unreachable-requires
 unreachable-requires c =
     let end = whole_lookups_end (state_now c.args.keys.now.history) c.args.program.now.statements (λ key. refl) in

@@ -8,17 +8,17 @@ use Rattle.stm_program.specs.declared.level.Level.{Level}
 use Rattle.stm_steps.specs.declared.value.Value.{Value}
 use Rattle.stm_steps.specs.declared.trace_item.TraceItem.{TraceItem}
 use Rattle.stm_program.specs.Levels.{is_comparing}
-use Rattle.stm_txn.specs.Standing.{Standing, transacted, granted, kept_alive, revoked, advanced, raised}
+use Rattle.stm_txn.specs.Standing.{Standing}
 use Rattle.stm_entries.specs.Replayed.{without_moment}
 use Rattle.stm_entries.specs.Legal.{IsCommit}
 use Rattle.stm_events.specs.declared.event.WorldEvent.{WorldEvent}
-use Rattle.stm_events.specs.declared.event.WorldEvent.TheVariants.{Start, Step, Txn, Grant, Keep, Revoke, Advance, Compact}
 use Rattle.stm_events.specs.declared.refusal.Denied.{Denied}
 use Rattle.stm_events.specs.declared.refusal.EventRefusal.TheVariants.{BadLimit, NoRunner}
 use Rattle.stm_events.specs.declared.reply.CommittedRead.{CommittedRead}
 use Rattle.stm_events.specs.declared.reply.Reply.{Reply}
-use Rattle.stm_events.specs.declared.reply.Reply.TheVariants.{Committed, Granted, Kept, Revoked, Compacted}
-use Rattle.stm_events.specs.Replies.{reads_in, denied, reply_to, txn_reply, advance_reply}
+use Rattle.stm_events.specs.declared.reply.Reply.TheVariants.{Committed}
+use Rattle.stm_events.specs.Replies.{reads_in, denied}
+use Rattle.stm_events.specs.Called.{Call, Watch, Poll, Cancel, Asked, Starts, Steps, Calls, asked, called}
 use Rattle.stm_events.specs.FirstReads.{keys_first_read}
 use Rattle.stm_check.specs.declared.runner.Runner.{Runner}
 use Rattle.stm_check.specs.Runners.{running}
@@ -70,16 +70,19 @@ StepReplays s runner (Err refused) = (runner ≡ None) × (denied NoRunner ≡ E
 StepReplays s runner (Ok (Committed id revision attempts output trace answers)) = IsCommitOf s runner revision attempts output trace answers
 StepReplays s runner other = Unit {0}
 
--- ---- the reply to an event: a call of the store has exactly the reply of a world, and what is about watchers is not replayed, refusals
--- neither
+-- ---- the reply to an event
+
+-- a call of the store has exactly the reply that a world has, a refusal too; what is about watchers is not replayed
+abbrev pub CallReplays : Standing → Call → Result Reply Denied → Type 0
+CallReplays s (Watch keys from) replied = Unit {0}
+CallReplays s (Poll watcher most) replied = Unit {0}
+CallReplays s (Cancel watcher) replied = Unit {0}
+CallReplays s call replied = (called s call).reply ≡ replied
+
+abbrev pub AskedReplays : Standing → List Runner → Asked → Result Reply Denied → Type 0
+AskedReplays s runners (Starts program level limit) replied = StartReplays limit replied
+AskedReplays s runners (Steps id) replied = StepReplays s (running id runners) replied
+AskedReplays s runners (Calls call) replied = CallReplays s call replied
 
 abbrev pub Replays : Standing → List Runner → WorldEvent → Result Reply Denied → Type 0
-Replays s runners (Start program level limit) replied = StartReplays limit replied
-Replays s runners (Step id) replied = StepReplays s (running id runners) replied
-Replays s runners (Txn txn) replied = reply_to txn_reply (transacted s txn) ≡ replied
-Replays s runners (Grant id ttl) replied = reply_to (λ _. Granted id) (granted s id ttl) ≡ replied
-Replays s runners (Keep id) replied = reply_to (λ _. Kept id) (kept_alive s id) ≡ replied
-Replays s runners (Revoke id) replied = reply_to (Revoked id) (revoked s id) ≡ replied
-Replays s runners (Advance moment) replied = advance_reply moment (advanced s moment).expired (advanced s moment).cause ≡ replied
-Replays s runners (Compact revision) replied = reply_to (λ _. Compacted revision) (raised s revision) ≡ replied
-Replays s runners other replied = Unit {0}
+Replays s runners event replied = AskedReplays s runners (asked event) replied

@@ -8,7 +8,7 @@ use Rattle.stm_outcome.specs.declared.refusal.Refusal.{Refusal as StoreRefusal}
 use Rattle.stm_outcome.specs.declared.refusal.Refusal.TheVariants.{Compacted}
 use Rattle.stm_txn.specs.Standing.{Step as StoreStep, watched, polled, cancelled}
 use Rattle.stm_events.specs.declared.event.WorldEvent.{WorldEvent}
-use Rattle.stm_events.specs.declared.event.WorldEvent.TheVariants.{Start, Step, Txn, Grant, Keep, Revoke, Advance, WatchKey, WatchRange, Poll, Cancel, Compact}
+use Rattle.stm_events.specs.declared.event.WorldEvent.TheVariants.{Step, WatchKey, WatchRange, Poll, Cancel}
 use Rattle.stm_events.specs.declared.reply.Reply.{Reply}
 use Rattle.stm_events.specs.declared.reply.Reply.TheVariants.{Watching, Cancelled}
 use Rattle.stm_events.specs.declared.refusal.Denied.{Denied}
@@ -118,14 +118,6 @@ same_reply event v w ends same = ap (λ (r : Result Reply Denied). after_reporte
 
 -- the same is known after the same event
 same_ends : (event : WorldEvent) (v w : World) (ends : Ends) → AreAlike v w → after_reported (step event v).reply ends ≡ after_reported (step event w).reply ends
-same_ends (Start program level limit) v w ends same = same_reply (Start program level limit) v w ends (alike_worlds_are_same.replies (Start program level limit) v w tt same)
-same_ends (Step id) v w ends same = same_reply (Step id) v w ends (alike_worlds_are_same.replies (Step id) v w tt same)
-same_ends (Txn txn) v w ends same = same_reply (Txn txn) v w ends (alike_worlds_are_same.replies (Txn txn) v w tt same)
-same_ends (Grant id ttl) v w ends same = same_reply (Grant id ttl) v w ends (alike_worlds_are_same.replies (Grant id ttl) v w tt same)
-same_ends (Keep id) v w ends same = same_reply (Keep id) v w ends (alike_worlds_are_same.replies (Keep id) v w tt same)
-same_ends (Revoke id) v w ends same = same_reply (Revoke id) v w ends (alike_worlds_are_same.replies (Revoke id) v w tt same)
-same_ends (Advance moment) v w ends same = same_reply (Advance moment) v w ends (alike_worlds_are_same.replies (Advance moment) v w tt same)
-same_ends (Compact revision) v w ends same = same_reply (Compact revision) v w ends (alike_worlds_are_same.replies (Compact revision) v w tt same)
 same_ends (WatchKey key from) v w ends same =
     call_says Watching (watched v.standing (Key key) from) ends (λ x. refl) ∙ sym (call_says Watching (watched w.standing (Key key) from) ends (λ x. refl))
 same_ends (WatchRange first end from) v w ends same =
@@ -134,6 +126,7 @@ same_ends (Poll watcher most) v w ends same =
     poll_says watcher v.standing.floor (polled v.standing watcher most) ends ∙ sym (poll_says watcher w.standing.floor (polled w.standing watcher most) ends)
 same_ends (Cancel watcher) v w ends same =
     call_says (λ x. Cancelled watcher) (cancelled v.standing watcher) ends (λ x. refl) ∙ sym (call_says (λ x. Cancelled watcher) (cancelled w.standing watcher) ends (λ x. refl))
+same_ends event v w ends same = same_reply event v w ends (alike_worlds_are_same.replies event v w tt same)
 
 -- the same after the event of a move, where these are left to the others
 ends_by : (m : Move) (v w : World) (others : List WorldEvent) (ends : Ends) → AreAlike v w →

@@ -5,8 +5,7 @@ use Rattle.std.proofs.lemmas.List.{drop_all, length-drop, take_all}
 use Rattle.std.proofs.lemmas.List.Elements.{All-push}
 use Rattle.stm_program.specs.declared.level.Level.{Level}
 use Rattle.stm_events.specs.declared.event.WorldEvent.{WorldEvent}
-use Rattle.stm_events.specs.declared.event.WorldEvent.TheVariants.{Start, Step, Txn, Grant, Keep, Revoke, Advance}
-use Rattle.stm_events.specs.declared.event.WorldEvent.TheVariants.{WatchKey, WatchRange, Poll, Cancel, Compact}
+use Rattle.stm_events.specs.declared.event.WorldEvent.TheVariants.{Start}
 use Rattle.stm_schedules.specs.Scenarios.{at_level}
 use Rattle.stm_texts.specs.declared.scenario.Scenario.{Scenario}
 use Rattle.stm_explore.specs.declared.waits.Wait.{Wait}
@@ -19,17 +18,7 @@ use Rattle.stm_exploring.specs.Levels.{leveled, all_kept, enough}
 
 event_twice : (k l : Level) (e : WorldEvent) → at_level k (at_level l e) ≡ at_level k e
 event_twice k l (Start program level limit) = refl
-event_twice k l (Step runner) = refl
-event_twice k l (Txn txn) = refl
-event_twice k l (Grant id ttl) = refl
-event_twice k l (Keep id) = refl
-event_twice k l (Revoke id) = refl
-event_twice k l (Advance moment) = refl
-event_twice k l (WatchKey key from) = refl
-event_twice k l (WatchRange begin end from) = refl
-event_twice k l (Poll watcher most) = refl
-event_twice k l (Cancel watcher) = refl
-event_twice k l (Compact revision) = refl
+event_twice k l other = refl
 
 events_twice : (k l : Level) (es : List WorldEvent) → map (at_level k) (map (at_level l) es) ≡ map (at_level k) es
 events_twice k l [] = refl

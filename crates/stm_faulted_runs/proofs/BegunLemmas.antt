@@ -6,8 +6,7 @@ use Rattle.std.proofs.lemmas.Bool.{eq-eqb, eqb-true}
 use Rattle.std.proofs.lemmas.List.{reverse-append, length-append}
 use Rattle.std.proofs.lemmas.Option.{same_Some, slice_get_within}
 use Rattle.stm_events.specs.declared.event.WorldEvent.{WorldEvent}
-use Rattle.stm_events.specs.declared.event.WorldEvent.TheVariants.{Start, Step, Txn, Grant, Keep, Revoke, Advance}
-use Rattle.stm_events.specs.declared.event.WorldEvent.TheVariants.{WatchKey, WatchRange, Poll, Cancel, Compact}
+use Rattle.stm_events.specs.declared.event.WorldEvent.TheVariants.{Start}
 use Rattle.stm_events.specs.declared.reply.Reply.{Reply}
 use Rattle.stm_events.specs.declared.reply.Reply.TheVariants as variant
 use Rattle.stm_events.specs.declared.refusal.Denied.{Denied}
@@ -128,23 +127,7 @@ by_line start element older runs (Start program level limit) (Err refusal) right
     let none : started_by element event ≡ [] = ap (λ (n : ℕ). cond (nat_eq n 0) [] (run ∷ [])) right.1 in
     subst (λ (rs : List Started). Counts (record { event = event; reply = Err refusal } ∷ older) (runs ++ rs)) (sym none)
     (quiet event (Err refusal) older runs refl c)
-by_line start element older runs (Step id) reported right c = quiet (Step id) reported older runs (silent start older (Step id) reported right refl) c
-by_line start element older runs (Txn txn) reported right c = quiet (Txn txn) reported older runs (silent start older (Txn txn) reported right refl) c
-by_line start element older runs (Grant id ttl) reported right c = quiet (Grant id ttl) reported older runs (silent start older (Grant id ttl) reported right refl) c
-by_line start element older runs (Keep id) reported right c = quiet (Keep id) reported older runs (silent start older (Keep id) reported right refl) c
-by_line start element older runs (Revoke id) reported right c = quiet (Revoke id) reported older runs (silent start older (Revoke id) reported right refl) c
-by_line start element older runs (Advance moment) reported right c =
-    quiet (Advance moment) reported older runs (silent start older (Advance moment) reported right refl) c
-by_line start element older runs (WatchKey key from) reported right c =
-    quiet (WatchKey key from) reported older runs (silent start older (WatchKey key from) reported right refl) c
-by_line start element older runs (WatchRange first end from) reported right c =
-    quiet (WatchRange first end from) reported older runs (silent start older (WatchRange first end from) reported right refl) c
-by_line start element older runs (Poll watcher most) reported right c =
-    quiet (Poll watcher most) reported older runs (silent start older (Poll watcher most) reported right refl) c
-by_line start element older runs (Cancel watcher) reported right c =
-    quiet (Cancel watcher) reported older runs (silent start older (Cancel watcher) reported right refl) c
-by_line start element older runs (Compact revision) reported right c =
-    quiet (Compact revision) reported older runs (silent start older (Compact revision) reported right refl) c
+by_line start element older runs other reported right c = quiet other reported older runs (silent start older other reported right refl) c
 
 -- ---- all lines
 

@@ -5,8 +5,7 @@ use Rattle.std.specs.Prelude.{ℕ, suc, ◌+◌, nat_eq, if◌then◌else◌, Li
 use Rattle.stm_json.specs.declared.cause.Cause.TheVariants.{Shape}
 use Rattle.stm_json.specs.Outcome.{Outcome, bad, ◌>>=◌, within}
 use Rattle.stm_events.specs.declared.event.WorldEvent.{WorldEvent}
-use Rattle.stm_events.specs.declared.event.WorldEvent.TheVariants.{Start, Step, Txn, Grant, Keep, Revoke, Advance}
-use Rattle.stm_events.specs.declared.event.WorldEvent.TheVariants.{WatchKey, WatchRange, Poll, Cancel, Compact}
+use Rattle.stm_events.specs.declared.event.WorldEvent.TheVariants.{Start, Txn, Grant, Keep, Revoke, Advance}
 use Rattle.stm_texts.specs.declared.scenario.Scenario.{Scenario}
 use Rattle.stm_texts.specs.Opens.{setup_of}
 use Rattle.stm_program.specs.Syntax.{ProgramTree}
@@ -48,17 +47,12 @@ add_task s task =
 -- one event more
 abbrev pub add_event : Sorted → WorldEvent → Outcome Sorted
 add_event s (Start program level limit) = add_task s (record { program = program; level = level; limit = limit })
-add_event s (Step id) = bad Shape
 add_event s (Txn txn) = add_call s (call.Txn txn)
 add_event s (Grant id ttl) = add_call s (call.Grant id ttl)
 add_event s (Keep id) = add_call s (call.Keep id)
 add_event s (Revoke id) = add_call s (call.Revoke id)
 add_event s (Advance moment) = add_call s (call.Advance moment)
-add_event s (Compact revision) = bad Shape
-add_event s (WatchKey key from) = bad Shape
-add_event s (WatchRange first end from) = bad Shape
-add_event s (Poll watcher most) = bad Shape
-add_event s (Cancel watcher) = bad Shape
+add_event s other = bad Shape
 
 -- the events that follow `before` others, of which the first one stands at this place
 abbrev pub add_events : ℕ → ℕ → List WorldEvent → Sorted → Outcome Sorted

@@ -65,12 +65,7 @@ fn add(alloc: Global, sorted: &mut JobScenario, event: WorldEvent) -> Result<(),
         WorldEvent::Keep { id } => add_call(sorted, StoreCall::Keep { id }),
         WorldEvent::Revoke { id } => add_call(sorted, StoreCall::Revoke { id }),
         WorldEvent::Advance { now } => add_call(sorted, StoreCall::Advance { now }),
-        WorldEvent::Step { .. } => Err(fault(alloc, Cause::Shape)),
-        WorldEvent::Compact { .. } => Err(fault(alloc, Cause::Shape)),
-        WorldEvent::WatchKey { .. } => Err(fault(alloc, Cause::Shape)),
-        WorldEvent::WatchRange { .. } => Err(fault(alloc, Cause::Shape)),
-        WorldEvent::Poll { .. } => Err(fault(alloc, Cause::Shape)),
-        WorldEvent::Cancel { .. } => Err(fault(alloc, Cause::Shape)),
+        _ => Err(fault(alloc, Cause::Shape)),
     }
 }
 

@@ -402,19 +402,8 @@ advance_lifts moment expired w next reached forward (inr cut) = cut_lifts moment
 want_lifts : (event : WorldEvent) (expired : List Expired) (w next : World) → HasReached w.standing →
     step event (kept_world w) ≡ kept_stepped (step event w) → OutOfMemoryReturns event expired (kept_world w) next → WantLifts event expired w next
 want_lifts (Advance moment) expired w next reached same want = advance_lifts moment expired w next reached want.0 want.1
-want_lifts (Start program level limit) expired w next reached same want =
-    (w, ((want.0.0, refl), taken_too (Start program level limit) w same want.1), want.0.1)
-want_lifts (Step id) expired w next reached same want = (w, ((want.0.0, refl), taken_too (Step id) w same want.1), want.0.1)
-want_lifts (Txn txn) expired w next reached same want = (w, ((want.0.0, refl), taken_too (Txn txn) w same want.1), want.0.1)
-want_lifts (Grant id ttl) expired w next reached same want = (w, ((want.0.0, refl), taken_too (Grant id ttl) w same want.1), want.0.1)
-want_lifts (Keep id) expired w next reached same want = (w, ((want.0.0, refl), taken_too (Keep id) w same want.1), want.0.1)
-want_lifts (Revoke id) expired w next reached same want = (w, ((want.0.0, refl), taken_too (Revoke id) w same want.1), want.0.1)
-want_lifts (WatchKey key from) expired w next reached same want = (w, ((want.0.0, refl), taken_too (WatchKey key from) w same want.1), want.0.1)
-want_lifts (WatchRange first end from) expired w next reached same want =
-    (w, ((want.0.0, refl), taken_too (WatchRange first end from) w same want.1), want.0.1)
-want_lifts (Poll watcher most) expired w next reached same want = (w, ((want.0.0, refl), taken_too (Poll watcher most) w same want.1), want.0.1)
-want_lifts (Cancel watcher) expired w next reached same want = (w, ((want.0.0, refl), taken_too (Cancel watcher) w same want.1), want.0.1)
 want_lifts (Compact revision) expired w next reached same want = absurd want
+want_lifts event expired w next reached same want = (w, ((want.0.0, refl), taken_too event w same want.1), want.0.1)
 
 refused_lifts : (event : WorldEvent) (d : Denied) (w next : World) → HasReached w.standing → step event (kept_world w) ≡ kept_stepped (step event w) →
     (((is_out_of_memory d.cause ≡ true) × OutOfMemoryReturns event d.expired (kept_world w) next)
@@ -466,19 +455,7 @@ compact_lifts revision reply w next k is =
 event_lifts : (event : WorldEvent) (reply : Result Reply Denied) (w next : World) → HasKept w.standing → KeptReturns event reply (kept_world w) next →
     Lifted event reply w next
 event_lifts (Compact revision) reply w next k reports = compact_lifts revision reply w next k reports
-event_lifts (Start program level limit) reply w next k reports =
-    reports_lift (Start program level limit) reply w next k.reached (step_kept (Start program level limit) w k) reports
-event_lifts (Step id) reply w next k reports = reports_lift (Step id) reply w next k.reached (step_kept (Step id) w k) reports
-event_lifts (Txn txn) reply w next k reports = reports_lift (Txn txn) reply w next k.reached (step_kept (Txn txn) w k) reports
-event_lifts (Grant id ttl) reply w next k reports = reports_lift (Grant id ttl) reply w next k.reached (step_kept (Grant id ttl) w k) reports
-event_lifts (Keep id) reply w next k reports = reports_lift (Keep id) reply w next k.reached (step_kept (Keep id) w k) reports
-event_lifts (Revoke id) reply w next k reports = reports_lift (Revoke id) reply w next k.reached (step_kept (Revoke id) w k) reports
-event_lifts (Advance moment) reply w next k reports = reports_lift (Advance moment) reply w next k.reached (step_kept (Advance moment) w k) reports
-event_lifts (WatchKey key from) reply w next k reports = reports_lift (WatchKey key from) reply w next k.reached (step_kept (WatchKey key from) w k) reports
-event_lifts (WatchRange first end from) reply w next k reports =
-    reports_lift (WatchRange first end from) reply w next k.reached (step_kept (WatchRange first end from) w k) reports
-event_lifts (Poll watcher most) reply w next k reports = reports_lift (Poll watcher most) reply w next k.reached (step_kept (Poll watcher most) w k) reports
-event_lifts (Cancel watcher) reply w next k reports = reports_lift (Cancel watcher) reply w next k.reached (step_kept (Cancel watcher) w k) reports
+event_lifts event reply w next k reports = reports_lift event reply w next k.reached (step_kept event w k) reports
 
 -- ---- the opening stays
 

@@ -13,7 +13,7 @@ use Rattle.stm_entries.specs.declared.entry.Entry.{Entry}
 use Rattle.stm_entries.specs.declared.entry.Entry.TheVariants.{Expire}
 use Rattle.stm_entries.specs.Entered.{expiries}
 use Rattle.stm_events.specs.declared.event.WorldEvent.{WorldEvent}
-use Rattle.stm_events.specs.declared.event.WorldEvent.TheVariants.{Start, Step, Txn, Grant, Keep, Revoke, Advance, WatchKey, WatchRange, Poll, Cancel, Compact}
+use Rattle.stm_events.specs.declared.event.WorldEvent.TheVariants.{Advance, Compact}
 use Rattle.stm_events.specs.declared.reply.Reply.{Reply}
 use Rattle.stm_events.specs.declared.reply.Reply.TheVariants.{Started}
 use Rattle.stm_events.specs.declared.refusal.Denied.{Denied}
@@ -145,18 +145,9 @@ advance_repeats moment expired old new above (inl same) = unchanged_repeats (Adv
 advance_repeats moment expired old new above (inr cut) = cut_repeats moment expired old new above cut
 
 events_repeat : (event : WorldEvent) (expired : List Expired) (old new : World) → OutOfMemoryReturns event expired old new → RepeatsAlike event expired old new
-events_repeat (Start program level limit) expired old new want = unchanged_repeats (Start program level limit) expired old new want.0
-events_repeat (Step id) expired old new want = unchanged_repeats (Step id) expired old new want.0
-events_repeat (Txn txn) expired old new want = unchanged_repeats (Txn txn) expired old new want.0
-events_repeat (Grant id ttl) expired old new want = unchanged_repeats (Grant id ttl) expired old new want.0
-events_repeat (Keep id) expired old new want = unchanged_repeats (Keep id) expired old new want.0
-events_repeat (Revoke id) expired old new want = unchanged_repeats (Revoke id) expired old new want.0
 events_repeat (Advance moment) expired old new want = advance_repeats moment expired old new want.0 want.1
-events_repeat (WatchKey key from) expired old new want = unchanged_repeats (WatchKey key from) expired old new want.0
-events_repeat (WatchRange first end from) expired old new want = unchanged_repeats (WatchRange first end from) expired old new want.0
-events_repeat (Poll watcher most) expired old new want = unchanged_repeats (Poll watcher most) expired old new want.0
-events_repeat (Cancel watcher) expired old new want = unchanged_repeats (Cancel watcher) expired old new want.0
 events_repeat (Compact revision) expired old new want = absurd want
+events_repeat event expired old new want = unchanged_repeats event expired old new want.0
 
 -- ---- a run ----
 

@@ -1,4 +1,4 @@
-use Rattle.std.proofs.Common.{◌≡◌, ◌∙◌}
+use Rattle.std.proofs.Common.{◌∙◌}
 use Rattle.stm_source.proofs.BlockLemmas.{sources_same}
 use Rattle.stm_source.proofs.kept.measured.Goals as goal
 

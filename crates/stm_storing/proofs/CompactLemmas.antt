@@ -1,5 +1,5 @@
 -- What worlds show that are compared, and what a crash leaves of a compaction.
-use Rattle.std.proofs.Common.{◌≡◌, ◌⊎◌, inl, inr, ⊎_elim, ℕ, ◌-◌, ◌≤◌, Bool, rules, List, Option, None, Some, option_map, Decides, refl, sym, ap, ◌∙◌, subst, arith}
+use Rattle.std.proofs.Common.{◌≡◌, ◌⊎◌, inl, inr, ⊎_elim, ℕ, ◌-◌, ◌≤◌, rules, List, Option, None, Some, option_map, Decides, refl, sym, ap, ◌∙◌, subst, arith}
 use Rattle.std.specs.Prelude.{unwrap_or}
 use Rattle.std.specs.BTreeMap.{BTreeMap}
 use Rattle.std.specs.Cmp.{nat_cmp_total}
@@ -21,7 +21,7 @@ use Rattle.stm_lasting.specs.Kept.{IsKept, OpensTo, OpensAlike}
 use Rattle.stm_storing.specs.Storing.{IsOpened}
 use Rattle.stm_storing.proofs.Around.{then}
 use Rattle.stm_storing.specs.Jobs.{AreAlikeSince}
-use Rattle.stm_storing.specs.Compacting.{ShowsTheSame, ShowTheSame, asked_floor, ShowsTheKept, HasDropped, HasCompacted, OpensCompacted, LeavesFoundOrCompacted}
+use Rattle.stm_storing.specs.Compacting.{ShowsTheSame, ShowTheSame, asked_floor, HasDropped, HasCompacted, LeavesFoundOrCompacted}
 
 -- what `==` says of two live leases
 pub lease_decides : (a b : LiveLease) → Decides (eq-value.it a b) (a ≡ b)

@@ -1,4 +1,4 @@
-use Rattle.std.proofs.Common.{◌≤◌, inl, ap, subst, sym, ◌∙◌}
+use Rattle.std.proofs.Common.{◌≤◌, inl, ap, subst, ◌∙◌}
 use Rattle.stm_history.specs.History.{now}
 use Rattle.stm_txn.specs.Standing.{Standing}
 use Rattle.stm_lasting.proofs.Moments.{weaker}

@@ -1,13 +1,13 @@
 -- Answers of which only the least of the revisions that they carry is kept: what an attempt does is the same.
 use Rattle.std.proofs.Common.{◌≡◌, ℕ, zero, suc, Bool, true, false, cond, List, [], ◌∷◌, ◌++◌, length, map, fold, min, Option, Some, None, option_map, Result, Ok, Err}
-use Rattle.std.proofs.Common.{refl, sym, ◌∙◌, ap, subst, arith}
-use Rattle.std.specs.Prelude.{if◌then◌else◌, bytes_eq, nat_lt, ◌||◌}
+use Rattle.std.proofs.Common.{refl, sym, ◌∙◌, ap, arith}
+use Rattle.std.specs.Prelude.{bytes_eq, nat_lt, ◌||◌}
 use Rattle.stm_history.specs.declared.key_state.ReadAnswer.{ReadAnswer}
-use Rattle.stm_history.specs.History.{History, key_now}
+use Rattle.stm_history.specs.History.{key_now}
 use Rattle.stm_program.specs.Syntax.{ProgramTree}
 use Rattle.stm_program.specs.declared.level.Level.{Level}
 use Rattle.stm_program.specs.declared.level.Level.TheVariants.{SerializableSnapshot, Serializable, RepeatableReads, ReadCommitted}
-use Rattle.stm_program.specs.Levels.{is_serializable, is_comparing}
+use Rattle.stm_program.specs.Levels.{is_serializable}
 use Rattle.stm_history.specs.declared.change.Change.{Change}
 use Rattle.stm_program.specs.Writes.{latest_writes}
 use Rattle.stm_steps.specs.declared.run.Run.{Run}
@@ -25,7 +25,7 @@ use Rattle.stm_compile.specs.Answers.{answer_in, look_up, said}
 use Rattle.stm_compile.specs.CommitTxn.{first_carried, is_as_read, is_unmodified, compares_of, reread_keys}
 use Rattle.stm_compile.specs.Conflicts.{seen_by, seen_of_read, seen_of_write}
 use Rattle.stm_compile.specs.Committed.{compared, sends_too_many, conflict_now, judged, committed}
-use Rattle.stm_attempt.specs.Known.{Known, known_of, serving}
+use Rattle.stm_attempt.specs.Known.{known_of, serving}
 use Rattle.stm_attempt.specs.Settled.{run_on, wanted, answer_for, served, taken, settle, settled}
 use Rattle.stm_attempt.specs.Entering.{is_due, answers_of_all, after_list, gone_on}
 use Rattle.stm_attempt.specs.Fetches.{at_of}

@@ -2,7 +2,7 @@
 use Rattle.std.proofs.Common.{◌≡◌, sym, ◌∙◌, ap}
 use Rattle.stm_events.specs.declared.event.WorldEvent.{WorldEvent}
 use Rattle.stm_world.specs.World.{World, step}
-use Rattle.stm_alike.specs.Seen.{seen_world, AreAlike, IsNoWatch, AlikeWorldsAreSame}
+use Rattle.stm_alike.specs.Seen.{seen_world, IsNoWatch, AlikeWorldsAreSame}
 use Rattle.stm_alike.proofs.Stepping.{plain_world, next_same, told_same}
 use Rattle.stm_alike.proofs.LevelledSteps.{levelled_world, runner_seen, next_levelled, told_levelled}
 

@@ -2,7 +2,7 @@
 --
 -- No step reads the entries. Nothing but the calls about watchers reads the watchers, and these calls change nothing else. Of the revisions that the
 -- answers of an attempt carry, only the least is used.
-use Rattle.std.specs.Prelude.{◌≡◌, ℕ, List, [], map, length, option_map}
+use Rattle.std.specs.Prelude.{◌≡◌, ℕ, List, [], map, option_map}
 use Rattle.stm_txn.specs.Standing.{with_watchers}
 use Rattle.stm_attempt.specs.Known.{Known, known_of}
 use Rattle.stm_events.specs.declared.event.WorldEvent.{WorldEvent}

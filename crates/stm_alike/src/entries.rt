@@ -39,15 +39,16 @@ fn is_same_level(left: Level, right: Level) -> bool
 pub fn is_same_entry(left: &Entry, right: &Entry) -> bool
     ensures { result ≡ true → left.now ≡ right.now }
 {
-    match left {
-        Entry::Program {
-            program,
-            level,
-            answers,
-            output,
-            trace,
-            revision,
-        } => match right {
+    match (left, right) {
+        (
+            Entry::Program {
+                program,
+                level,
+                answers,
+                output,
+                trace,
+                revision,
+            },
             Entry::Program {
                 program: other_program,
                 level: other_level,
@@ -55,43 +56,34 @@ pub fn is_same_entry(left: &Entry, right: &Entry) -> bool
                 output: other_output,
                 trace: other_trace,
                 revision: other_revision,
-            } => {
-                *revision == *other_revision
-                    && is_same_level(*level, *other_level)
-                    && is_same_output(output.as_slice(), other_output.as_slice())
-                    && is_same_trace(trace.as_slice(), other_trace.as_slice())
-                    && are_same_answers(answers.as_slice(), other_answers.as_slice())
-                    && is_same_program(program, other_program)
-            }
-            _ => false,
-        },
-        Entry::Foreign { txn } => match right {
-            Entry::Foreign { txn: other_txn } => is_same_txn(txn, other_txn),
-            _ => false,
-        },
-        Entry::Grant { id, ttl, at } => match right {
+            },
+        ) => {
+            *revision == *other_revision
+                && is_same_level(*level, *other_level)
+                && is_same_output(output.as_slice(), other_output.as_slice())
+                && is_same_trace(trace.as_slice(), other_trace.as_slice())
+                && are_same_answers(answers.as_slice(), other_answers.as_slice())
+                && is_same_program(program, other_program)
+        }
+        (Entry::Foreign { txn }, Entry::Foreign { txn: other }) => is_same_txn(txn, other),
+        (
+            Entry::Grant { id, ttl, at },
             Entry::Grant {
-                id: other_id,
+                id: other,
                 ttl: other_ttl,
                 at: other_at,
-            } => *id == *other_id && *ttl == *other_ttl && *at == *other_at,
-            _ => false,
-        },
-        Entry::Renew { id, at } => match right {
+            },
+        ) => *id == *other && *ttl == *other_ttl && *at == *other_at,
+        (
+            Entry::Renew { id, at },
             Entry::Renew {
-                id: other_id,
+                id: other,
                 at: other_at,
-            } => *id == *other_id && *at == *other_at,
-            _ => false,
-        },
-        Entry::Revoke { id } => match right {
-            Entry::Revoke { id: other_id } => *id == *other_id,
-            _ => false,
-        },
-        Entry::Expire { id } => match right {
-            Entry::Expire { id: other_id } => *id == *other_id,
-            _ => false,
-        },
+            },
+        ) => *id == *other && *at == *other_at,
+        (Entry::Revoke { id }, Entry::Revoke { id: other }) => *id == *other,
+        (Entry::Expire { id }, Entry::Expire { id: other }) => *id == *other,
+        _ => false,
     }
 }
 

@@ -1,6 +1,6 @@
 -- A trace that bytes spell is read.
 use Rattle.std.proofs.Common.{◌≡◌, ℕ, List, Option, Some, None, Ok, refl, sym, ap, ◌∙◌, arith}
-use Rattle.serde_json.specs.Data.{Data, string, Items}
+use Rattle.serde_json.specs.Data.{Data, string}
 use Rattle.stm_history.specs.declared.revisions.TheConstants.{HIGHEST_NUMBER, HIGHEST_REVISION}
 use Rattle.stm_json.specs.Outcome.{Outcome}
 use Rattle.stm_json.specs.Parts.{text_of}

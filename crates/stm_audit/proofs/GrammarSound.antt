@@ -11,8 +11,8 @@ use Rattle.stm_json.specs.declared.cause.Cause.TheVariants.{Shape, TooLong}
 use Rattle.stm_json.specs.declared.limits.TheConstants.{MOST_BYTES}
 use Rattle.stm_json.specs.Bytes.{data_of}
 use Rattle.stm_json.specs.Elements.{worded, one_of, two_of, four_of, number_up_to, number_in}
-use Rattle.stm_json.specs.Outcome.{Outcome, bad, ◌>>=◌, within}
-use Rattle.stm_json.specs.Parts.{same, spelled, SpellsEach, text_of}
+use Rattle.stm_json.specs.Outcome.{bad, ◌>>=◌, within}
+use Rattle.stm_json.specs.Parts.{same, spelled, text_of}
 use Rattle.stm_json.proofs.OutcomeLemmas.{bind_ok, within_ok}
 use Rattle.stm_json.proofs.ElementLemmas.{one_of-is, two_of-is, four_of-is}
 use Rattle.stm_json.proofs.PartLemmas.{text_of-is, on_text-is, list_is, number_is, up_to_is, word_and}
@@ -27,7 +27,7 @@ use Rattle.stm_texts.specs.Grammar.{level_text}
 use Rattle.stm_texts.specs.Reading.{level_named, level_of}
 use Rattle.stm_audit.specs.declared.commit.Commit.{Commit}
 use Rattle.stm_audit.specs.Grammar.{SpellsValue, SpellsRead, SpellsWrite, SpellsCommit, SpellsTrace}
-use Rattle.stm_audit.specs.Reading.{quad, listed, text_or_null, read_by, read_of, put_of, del_of, write_worded, write_of, commit_by, commit_of, trace_of, trace_read, trace_in}
+use Rattle.stm_audit.specs.Reading.{quad, listed, text_or_null, read_by, read_of, put_of, del_of, write_worded, write_of, commit_by, commit_of, trace_read, trace_in}
 
 -- ---- arrays of four
 

@@ -10,7 +10,7 @@ use Rattle.stm_json.specs.Bytes.{data_of}
 use Rattle.stm_json.specs.Elements.{one_of, two_of, four_of, number_up_to, number_in}
 use Rattle.stm_json.specs.Faults.{Faults, Sort, AnyText, WordOf, NumberIn, By, first_of, wrong, at, is_count, parts_faults, word_faults, faults_by, sorted_faults}
 use Rattle.stm_json.specs.Faults.{worded_faults, list_faults, any_number}
-use Rattle.stm_json.specs.Outcome.{Outcome, bad, ◌>>=◌}
+use Rattle.stm_json.specs.Outcome.{Outcome, bad}
 use Rattle.stm_json.specs.Parts.{on_text, same, text_of, each_from, list_of}
 use Rattle.stm_json.proofs.FaultLemmas.{fault_of, wrong_is, part_then, made, text_faulted, number_faulted, number_reported, list_faulted}
 use Rattle.stm_program.specs.declared.level.Level.{Level}
@@ -21,8 +21,8 @@ use Rattle.stm_events.specs.declared.reply.CommittedRead.{CommittedRead}
 use Rattle.stm_texts.specs.Reading.{level_named, level_of}
 use Rattle.stm_texts.specs.FirstFault.{level_words}
 use Rattle.stm_audit.specs.declared.commit.Commit.{Commit}
-use Rattle.stm_audit.specs.FirstFault.{array_faults, elements_faults, all_faults, value_faults, read_faults, write_table, commit_faults, data_faults, first_fault}
-use Rattle.stm_audit.specs.Reading.{listed, text_or_null, read_by, read_of, put_of, del_of, write_of, commit_by, commit_of, trace_of, trace_read, trace_in}
+use Rattle.stm_audit.specs.FirstFault.{elements_faults, all_faults, value_faults, read_faults, write_table, commit_faults, data_faults, first_fault}
+use Rattle.stm_audit.specs.Reading.{listed, text_or_null, read_by, read_of, put_of, del_of, write_of, commit_by, commit_of, trace_read, trace_in}
 
 -- ---- lists
 

@@ -1,5 +1,5 @@
 -- What the transaction of a commit comes to in a store.
-use Rattle.std.proofs.Common.{◌≡◌, ◌∙◌, ap, sym, subst, refl, Bool, true, false, List, [], ◌∷◌, Option, Some, None, Result, Ok, Err, All}
+use Rattle.std.proofs.Common.{◌≡◌, ◌∙◌, ap, sym, subst, refl, false, List, [], ◌∷◌, Option, Some, None, Result, Ok, Err, All}
 use Rattle.std.specs.Prelude.{is_none}
 use Rattle.std.specs.List.{AllByRecursion}
 use Rattle.std.proofs.lemmas.List.Elements.{recursion_from_All}
@@ -7,7 +7,6 @@ use Rattle.stm_history.specs.declared.key_state.ReadAnswer.{ReadAnswer}
 use Rattle.stm_history.specs.History.{History, key_now}
 use Rattle.stm_program.specs.declared.level.Level.{Level}
 use Rattle.stm_history.specs.declared.change.Change.{Change}
-use Rattle.stm_program.specs.Levels.{is_comparing}
 use Rattle.stm_outcome.specs.declared.txn.Txn.{Txn}
 use Rattle.stm_outcome.specs.declared.answer.FailedCompare.{FailedCompare}
 use Rattle.stm_outcome.specs.declared.answer.TxnAnswer.{TxnAnswer}
@@ -19,7 +18,6 @@ use Rattle.stm_outcome.proofs.Applying.{is_done, failed_compare_reads}
 use Rattle.stm_txn.specs.Standing.{Standing, Step, terms_of, step_of, transacted, with_history}
 use Rattle.stm_compile.specs.Answers.{AreTrue}
 use Rattle.stm_compile.specs.CommitTxn.{commit_of, reread_keys}
-use Rattle.stm_compile.specs.Laws.{AreNow}
 use Rattle.stm_compile.proofs.AgreeLemmas.{true_reads_are_now}
 use Rattle.stm_hall.specs.Showing.{IsShown}
 use Rattle.stm_closures.specs.Committing.{IsCommitted}

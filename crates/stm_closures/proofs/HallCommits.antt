@@ -1,5 +1,5 @@
 -- What the transaction of a commit comes to in a hall.
-use Rattle.std.proofs.Common.{◌≡◌, ◌∙◌, ap, sym, subst, refl, ℕ, Bool, true, false, List, [], ◌∷◌, ◌++◌, Option, Some, None, Result, Ok, Err, All, append-nil, arith}
+use Rattle.std.proofs.Common.{◌≡◌, ◌∙◌, ap, sym, subst, refl, ℕ, Bool, false, List, [], ◌∷◌, None, Result, Ok, Err, All, append-nil, arith}
 use Rattle.std.specs.Prelude.{nat_lt, is_none, if◌then◌else◌}
 use Rattle.std.proofs.lemmas.Bool.Decides.{nat_tests}
 use Rattle.stm_history.specs.declared.key_state.ReadAnswer.{ReadAnswer}
@@ -17,7 +17,7 @@ use Rattle.stm_entries.specs.declared.entry.Entry.TheVariants.{Foreign}
 use Rattle.stm_journal.specs.JournalState.{JournalState, JournalStep, gone_on}
 use Rattle.stm_journal.specs.Entering.{entered, made}
 use Rattle.stm_hall.specs.Showing.{IsShown}
-use Rattle.stm_closures.specs.Committing.{IsCommitted, IsCommittedInHall}
+use Rattle.stm_closures.specs.Committing.{IsCommittedInHall}
 use Rattle.stm_closures.proofs.Commits.{is_committed, turned_down_leaves}
 
 record IsMade (journal : JournalState) (txn : Txn) (o : Result (Step TxnAnswer) Refusal) (jstep : JournalStep TxnAnswer) : Type 0 where

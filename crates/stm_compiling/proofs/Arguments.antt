@@ -1,9 +1,9 @@
 -- The arguments that words are: one after the other, and by the words before the mark and those behind it.
-use Rattle.std.proofs.Common.{◌≡◌, ◌+◌, ◌-◌, ◌<◌, ◌≤◌, ◌++◌, ◌∷◌, [], ℕ, suc, List, map, take, drop, length, sym, ◌∙◌, refl, ap, ap₂, subst, arith}
+use Rattle.std.proofs.Common.{◌≡◌, ◌+◌, ◌-◌, ◌++◌, ℕ, List, map, take, drop, sym, ◌∙◌, refl, ap₂, subst}
 use Rattle.std.proofs.lemmas.List.{take-map, drop-map}
 use Rattle.json.specs.Print.{quoted}
 use Rattle.stm_terms.specs.declared.kinds.Kind.{Kind}
-use Rattle.stm_compiling.specs.Programs.{argument_of, arguments, arguments_from, before_mark}
+use Rattle.stm_compiling.specs.Programs.{arguments, arguments_from, before_mark}
 
 module _ {A : Type 0} (text : A → List ℕ) (kinds : List Kind) (words : List A) where
   direct : (mark : ℕ) → mark ≡ before_mark (map text words)

@@ -1,5 +1,5 @@
 -- The entries that a world begins with whose store opened with leases: their grants. So a replay from what the history opens with gives the store.
-use Rattle.std.specs.Prelude.{ℕ, List, map}
+use Rattle.std.specs.Prelude.{List, map}
 use Rattle.stm_txn.specs.declared.restored.KeptLease.{KeptLease}
 use Rattle.stm_entries.specs.declared.entry.Entry.{Entry}
 use Rattle.stm_entries.specs.declared.entry.Entry.TheVariants.{Grant}

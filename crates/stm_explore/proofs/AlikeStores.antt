@@ -8,7 +8,6 @@ use Rattle.stm_history.specs.Cut.{cut, opening_of_cut, revisions_above}
 use Rattle.stm_txn.specs.Standing.{Standing, with_watchers, kept}
 use Rattle.stm_entries.specs.Replayed.{Replayed, opened_with, without_moment}
 use Rattle.stm_entries.specs.Replay.{replay}
-use Rattle.stm_entries.proofs.Adding.{replay_only_adds}
 use Rattle.stm_world.specs.World.{World}
 use Rattle.stm_alike.specs.Seen.{seen_slot, AreAlike}
 

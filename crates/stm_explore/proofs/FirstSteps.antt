@@ -10,7 +10,6 @@ use Rattle.stm_world.proofs.Slots.{equal_numbers, differ}
 use Rattle.stm_retry.specs.AtBase.{NextIsAtBase}
 use Rattle.stm_retry.proofs.StepDoes.{after_step}
 use Rattle.stm_retry.proofs.FetchExchange.{fetch_is, others_stay, same_reply, still_at_base, fetch_exchanged}
-use Rattle.stm_alike.specs.Seen.{seen_world}
 use Rattle.stm_schedules.specs.declared.moves.Move.{Move}
 use Rattle.stm_schedules.specs.declared.moves.Move.TheVariants.{Step as StepOf, Other}
 use Rattle.stm_schedules.specs.declared.outcome.Outcome.{Outcome}

@@ -3,11 +3,10 @@ use Rattle.std.proofs.Common.{◌≡◌, ◌≢◌, ℕ, zero, suc, ◌<◌, ◌
 use Rattle.std.proofs.Common.{option_map, inl, inr, ◌⊎◌, refl, sym, ◌∙◌, ap, subst, arith}
 use Rattle.std.specs.Option.{option_or}
 use Rattle.stm_program.specs.Syntax.{ProgramTree}
-use Rattle.stm_steps.specs.declared.run.End.{End}
 use Rattle.stm_events.specs.declared.event.WorldEvent.{WorldEvent}
 use Rattle.stm_world.proofs.Slots.{equal_numbers, differ}
 use Rattle.stm_schedules.specs.declared.moves.Move.{Move}
-use Rattle.stm_schedules.specs.Places.{Place, moves, moved}
+use Rattle.stm_schedules.specs.Places.{Place, moves}
 use Rattle.stm_schedules.specs.Schedules.{place_after}
 use Rattle.stm_schedules.specs.Outcomes.{Ends, ends_moved}
 use Rattle.stm_schedules.proofs.BadSchedules.{kept_here}

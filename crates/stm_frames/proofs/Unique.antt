@@ -1,7 +1,7 @@
 -- A file opens to one list of payloads.
-use Rattle.std.proofs.Common.{◌≡◌, inl, inr, ℕ, zero, suc, ◌+◌, ◌-◌, ◌^◌, ◌<◌, ◌≤◌, List, [], ◌∷◌, ◌++◌, length, take, drop, refl, sym, ◌∙◌, ap, ap₂, subst, arith, append_assoc, append-nil, length-append, length-drop, take-append-drop, drop_at, add-zero, zero-add}
+use Rattle.std.proofs.Common.{◌≡◌, ℕ, ◌+◌, ◌-◌, ◌^◌, ◌<◌, ◌≤◌, List, [], ◌∷◌, ◌++◌, length, take, drop, refl, sym, ◌∙◌, ap, ap₂, subst, arith, append_assoc, append-nil, length-append, length-drop, take-append-drop, drop_at, add-zero, zero-add}
 use Rattle.std.proofs.lemmas.List.{drop-append-le}
-use Rattle.stm_frames.specs.Frame.{digest, frame, log, NoFrame, NoneIn, Opens}
+use Rattle.stm_frames.specs.Frame.{frame, log, NoFrame, NoneIn, Opens}
 use Rattle.stm_frames.proofs.Frames.{begins, length-frame, lengths_same}
 
 -- one frame begins one list of bytes

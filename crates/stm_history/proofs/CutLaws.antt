@@ -1,4 +1,5 @@
 -- The laws of histories without their oldest revisions.
+use Rattle.std.proofs.lemmas.Bool.Decides.{nat_tests}
 use Rattle.std.proofs.Common.{◌≡◌, ℕ, ◌≤◌, ◌<◌, Bool, true, false, List, [], ◌∷◌, length, map, Option, Some, None, refl, sym, ◌∙◌, ap, arith, cond, ◌||◌, inl}
 use Rattle.std.proofs.Common.{inr, is_some}
 use Rattle.std.specs.Prelude.{bytes_eq, max, nat_lt}
@@ -41,19 +42,11 @@ none_opened opening key unnamed =
     (is_some-find (slice_cmp nat_cmp) key opening.states ∙ any_by_bytes key (map (λ (e : List ℕ × KeyState). e.0) opening.states) ∙ unnamed))
 
 bytes_turned : (a b : List ℕ) → bytes_eq a b ≡ false → bytes_eq b a ≡ false
-bytes_turned a b apart = by_test (bytes_eq b a) refl
-  where
-    by_test : (t : Bool) → bytes_eq b a ≡ t → t ≡ false
-    by_test false is = refl
-    by_test true is =
-        let same : bytes_eq a b ≡ true = (bytes_eq-Decides a b).1 (sym ((bytes_eq-Decides b a).0 is)) in
-        absurd (cc)
+bytes_turned a b apart = grind (arith, bytes_eq-Decides)
 
 none_changed : (key : List ℕ) (changes : List Change) → list_any (bytes_eq key) (map key_of changes) ≡ false → change_of key changes ≡ None
 none_changed key [] unnamed = refl
-none_changed key (c ∷ cs) unnamed =
-    let parts = or_parts (bytes_eq key (key_of c)) (list_any (bytes_eq key) (map key_of cs)) unnamed in
-    ap (λ b. cond b (Some c) (change_of key cs)) (bytes_turned key (key_of c) parts.0) ∙ none_changed key cs parts.1
+none_changed key (c ∷ cs) unnamed = grind (arith, bytes_turned, or_parts, none_changed key cs)
 
 absent_after : (opening : Opening) (key : List ℕ) (revisions : List (List Change)) →
     list_any (bytes_eq key) (changed_before revisions (map (λ (e : List ℕ × KeyState). e.0) opening.states)) ≡ false → key_after opening key revisions ≡ None
@@ -70,16 +63,7 @@ absent_after opening key (changes ∷ older) unnamed =
 unnamed_up_to : (opening : Opening) (r : ℕ) (key : List ℕ) (keys : List (List ℕ)) (revisions : List (List Change)) →
     list_any (bytes_eq key) (changed_before revisions keys) ≡ false → list_any (bytes_eq key) (changed_before (revisions_up_to opening r revisions) keys) ≡ false
 unnamed_up_to opening r key keys [] unnamed = unnamed
-unnamed_up_to opening r key keys (changes ∷ older) unnamed =
-    elim (cases_lt r (number_of_last opening (changes ∷ older))) [
-      | inl above ↦
-          ap (λ (l : List (List Change)). list_any (bytes_eq key) (changed_before l keys)) (last_is_above opening r changes older above)
-          ∙ unnamed_up_to opening r key keys older
-          (or_parts (list_any (bytes_eq key) (map key_of changes)) (list_any (bytes_eq key) (changed_before older keys))
-          (sym (list_any-append (bytes_eq key) (map key_of changes) (changed_before older keys)) ∙ unnamed)).1
-      | inr within ↦
-          ap (λ (l : List (List Change)). list_any (bytes_eq key) (changed_before l keys)) (all_up_to opening r (changes ∷ older) within) ∙ unnamed
-    ]
+unnamed_up_to opening r key keys (changes ∷ older) unnamed = grind (arith, nat_tests, list_any-append, or_parts, unnamed_up_to opening r key keys older)
 
 absent_at : (h : History) (key : List ℕ) (r : ℕ) → list_any (bytes_eq key) (keys_named h) ≡ false → key_at h key r ≡ None
 absent_at h key r unnamed =
@@ -94,47 +78,20 @@ found_at h r key = state_found (λ k. key_at h k r) key (keys_named h) (absent_a
 
 -- they are within it
 within : (opening : Opening) (r : ℕ) (revisions : List (List Change)) → opening.number ≤ r → number_of_last opening (revisions_up_to opening r revisions) ≤ r
-within opening r [] opened = omega (arith, opened)
-within opening r (changes ∷ older) opened =
-    elim (cases_lt r (number_of_last opening (changes ∷ older))) [
-      | inl above ↦
-          let same : length (revisions_up_to opening r (changes ∷ older)) ≡ length (revisions_up_to opening r older) =
-          ap (λ (l : List (List Change)). length l) (last_is_above opening r changes older above) in
-          omega (arith, within opening r older opened, same)
-      | inr reached ↦
-          let same : length (revisions_up_to opening r (changes ∷ older)) ≡ length (changes ∷ older) =
-          ap (λ (l : List (List Change)). length l) (all_up_to opening r (changes ∷ older) reached) in
-          omega (arith, reached, same)
-    ]
+within opening r [] opened = omega arith
+within opening r (changes ∷ older) opened = grind (arith, nat_tests, within opening r older opened)
 
 -- and those up to a number that was reached reach it
 reaches : (opening : Opening) (number r : ℕ) (revisions : List (List Change)) → number ≤ r → number ≤ number_of_last opening revisions →
     number ≤ number_of_last opening (revisions_up_to opening r revisions)
 reaches opening number r [] le reached = reached
-reaches opening number r (changes ∷ older) le reached =
-    elim (cases_lt r (number_of_last opening (changes ∷ older))) [
-      | inl above ↦
-          let same : length (revisions_up_to opening r (changes ∷ older)) ≡ length (revisions_up_to opening r older) =
-          ap (λ (l : List (List Change)). length l) (last_is_above opening r changes older above) in
-          omega (arith, reaches opening number r older le (omega (arith, le, above)), same)
-      | inr in_all ↦
-          let same : length (revisions_up_to opening r (changes ∷ older)) ≡ length (changes ∷ older) =
-          ap (λ (l : List (List Change)). length l) (all_up_to opening r (changes ∷ older) in_all) in
-          omega (arith, reached, same)
-    ]
+reaches opening number r (changes ∷ older) le reached = grind (arith, nat_tests, reaches opening number r older le)
 
 -- of those up to a number, those up to a lower one
 up_to_twice : (opening : Opening) (number r : ℕ) (revisions : List (List Change)) → number ≤ r →
     revisions_up_to opening number (revisions_up_to opening r revisions) ≡ revisions_up_to opening number revisions
 up_to_twice opening number r [] le = refl
-up_to_twice opening number r (changes ∷ older) le =
-    elim (cases_lt r (number_of_last opening (changes ∷ older))) [
-      | inl above ↦
-          ap (revisions_up_to opening number) (last_is_above opening r changes older above)
-          ∙ up_to_twice opening number r older le
-          ∙ sym (last_is_above opening number changes older (omega (arith, le, above)))
-      | inr in_all ↦ ap (revisions_up_to opening number) (all_up_to opening r (changes ∷ older) in_all)
-    ]
+up_to_twice opening number r (changes ∷ older) le = grind (arith, nat_tests, up_to_twice opening number r older)
 
 -- ---- revisions above a number
 

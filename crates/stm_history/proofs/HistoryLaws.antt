@@ -1,8 +1,9 @@
 -- The laws of histories, by induction on the revisions.
-use Rattle.std.proofs.Common.{◌≡◌, ℕ, ◌+◌, ◌≤◌, ◌<◌, Bool, true, false, List, [], ◌∷◌, length, Option, Some, None, suc, refl, sym, ◌∙◌, ap, subst, arith}
-use Rattle.std.proofs.Common.{cond, IfSome, ◌&&◌}
+use Rattle.std.proofs.Common.{◌≡◌, ℕ, ◌≤◌, ◌<◌, Bool, true, false, List, [], ◌∷◌, Option, Some, None, refl, sym, ◌∙◌, ap, subst, arith}
+use Rattle.std.proofs.Common.{cond, IfSome}
 use Rattle.std.specs.Prelude.{nat_le}
-use Rattle.std.proofs.lemmas.Bool.{le-leb, lt-leb, leb-true, and_parts, and_from}
+use Rattle.std.proofs.lemmas.Bool.Decides.{nat_tests}
+use Rattle.std.proofs.lemmas.Bool.{le-leb, lt-leb}
 use Rattle.stm_history.specs.declared.change.Change.{Change}
 use Rattle.stm_history.specs.declared.change.Change.TheVariants.{Put, Del}
 use Rattle.stm_history.specs.declared.key_state.KeyState.{KeyState}
@@ -11,26 +12,18 @@ use Rattle.std.specs.Cmp.Lexicographic.{slice_cmp}
 use Rattle.std.specs.FinMap.{find}
 use Rattle.stm_history.specs.Opening.{Opening, is_reached, if_reached, opened_state}
 use Rattle.stm_history.specs.History.{History, Dated, DatedPut, number_of_last, revisions_up_to, changes_of, with_change, puts_since_deletion}
-use Rattle.stm_history.specs.History.{state_before_puts, state_after_puts, state_after, first_number, key_after}
+use Rattle.stm_history.specs.History.{state_before_puts, state_after_puts, state_after, key_after}
 use Rattle.stm_history.specs.History.{key_at, now, mod_of, change_of, after_change, state_after_put}
 use Rattle.stm_history.specs.Laws.{SameModMeansSameState, OlderRevisionsStay, OneMoreRevision, LastRevisionIsNow, NumbersStaySmall, AreSmallIn}
 
 -- a put on top of the puts of a key
-counted_on : (value : List ℕ) (create_rev mod_rev lease more less : ℕ) → more ≡ less →
-    Some (let s : KeyState = record { value = value; create_rev = create_rev; mod_rev = mod_rev; version = more; lease = lease } in s)
-    ≡ Some (let s : KeyState = record { value = value; create_rev = create_rev; mod_rev = mod_rev; version = less; lease = lease } in s)
-counted_on value create_rev mod_rev lease more less same =
-    ap (λ (n : ℕ). Some (let s : KeyState = record { value = value; create_rev = create_rev; mod_rev = mod_rev; version = n; lease = lease } in s)) same
-
 put_on_top : (n : ℕ) (value : List ℕ) (lease : ℕ) (before : Option KeyState) (puts : List DatedPut) →
     state_after_puts before (record { number = n; value = value; lease = lease } ∷ puts)
     ≡ Some (state_after_put n value lease (state_after_puts before puts))
-put_on_top n value lease None [] = counted_on value n n lease (0 + suc 0) 1 (omega arith)
-put_on_top n value lease (Some s) [] = counted_on value s.create_rev n lease (s.version + suc 0) (suc s.version) (omega arith)
-put_on_top n value lease None (p ∷ ps) =
-    counted_on value (first_number p.number ps) n lease (0 + suc (suc (length ps))) (suc (0 + suc (length ps))) (omega arith)
-put_on_top n value lease (Some s) (p ∷ ps) =
-    counted_on value s.create_rev n lease (s.version + suc (suc (length ps))) (suc (s.version + suc (length ps))) (omega arith)
+put_on_top n value lease None [] = grind arith
+put_on_top n value lease (Some s) [] = grind arith
+put_on_top n value lease None (p ∷ ps) = grind arith
+put_on_top n value lease (Some s) (p ∷ ps) = grind arith
 
 -- one more change, or none, on top of the changes of a key
 change_on_top : (n : ℕ) (c : Option Change) (opened : Option KeyState) (dated : List Dated) →
@@ -50,14 +43,12 @@ one_more_revision h changes key = one_more h.opening key changes h.revisions
 -- the revisions up to a number that the last one doesn't pass are all of them
 pub all_up_to : (opening : Opening) (r : ℕ) (revisions : List (List Change)) → number_of_last opening revisions ≤ r → revisions_up_to opening r revisions ≡ revisions
 all_up_to opening r [] h = refl
-all_up_to opening r (changes ∷ older) h =
-    ap (λ b. cond b (changes ∷ older) (revisions_up_to opening r older)) (le-leb (number_of_last opening (changes ∷ older)) r h)
+all_up_to opening r (changes ∷ older) h = rw (le-leb (number_of_last opening (changes ∷ older)) r h) refl
 
 -- the last revision is not among those up to a smaller number
 pub last_is_above : (opening : Opening) (r : ℕ) (changes : List Change) (older : List (List Change)) → r < number_of_last opening (changes ∷ older) →
     revisions_up_to opening r (changes ∷ older) ≡ revisions_up_to opening r older
-last_is_above opening r changes older h =
-    ap (λ b. cond b (changes ∷ older) (revisions_up_to opening r older)) (lt-leb (number_of_last opening (changes ∷ older)) r h)
+last_is_above opening r changes older h = rw (lt-leb (number_of_last opening (changes ∷ older)) r h) refl
 
 pub last_revision_is_now : LastRevisionIsNow
 last_revision_is_now h key r above = ap (λ l. key_after h.opening key l) (all_up_to h.opening r h.revisions above)
@@ -80,21 +71,12 @@ SmallIfPresent last s = IfSome s (AreSmall last)
 
 put_keeps_small : (last n : ℕ) (value : List ℕ) (lease : ℕ) (s : Option KeyState) → last < n → SmallIfPresent last s →
     AreSmall n (state_after_put n value lease s)
-put_keeps_small last n value lease None less h =
-    record { version = omega (arith, less); counted = omega arith; modified = omega arith; created = omega arith; above = omega (arith, less) }
-put_keeps_small last n value lease (Some s) less h =
-    let version : s.version ≤ last = h.version in
-    let modified : s.mod_rev ≤ last = h.modified in
-    let created : s.create_rev ≤ s.mod_rev = h.created in
-    let above : 1 ≤ s.create_rev = h.above in
-    record { version = omega (arith, less); counted = omega arith; modified = omega arith; created = omega (arith, less); above = above }
+put_keeps_small last n value lease None less h = grind arith
+put_keeps_small last n value lease (Some s) less h = grind arith
 
 pub stays_small : (last n : ℕ) (s : Option KeyState) → last ≤ n → SmallIfPresent last s → SmallIfPresent n s
 stays_small last n None less h = h
-stays_small last n (Some s) less h =
-    let version : s.version ≤ last = h.version in
-    let modified : s.mod_rev ≤ last = h.modified in
-    record { version = omega (arith, less); counted = h.counted; modified = omega (arith, less); created = h.created; above = h.above }
+stays_small last n (Some s) less h = grind arith
 
 change_keeps_small : (last n : ℕ) (c : Option Change) (s : Option KeyState) → last < n → SmallIfPresent last s → SmallIfPresent n (after_change n c s)
 change_keeps_small last n None s less h = stays_small last n s (omega (arith, less)) h
@@ -104,36 +86,16 @@ change_keeps_small last n (Some (Del key)) s less h = tt
 -- what a test of a state's numbers says of them, and the other way round
 reached_small : (number : ℕ) (s : KeyState) → is_reached number s ≡ true → AreSmall number s
 reached_small number s is =
-    let first = and_parts (nat_le 1 s.create_rev) (nat_le s.create_rev s.mod_rev && (nat_le s.mod_rev number && (nat_le 1 s.version && nat_le s.version number))) is in
-    let second = and_parts (nat_le s.create_rev s.mod_rev) (nat_le s.mod_rev number && (nat_le 1 s.version && nat_le s.version number)) first.1 in
-    let third = and_parts (nat_le s.mod_rev number) (nat_le 1 s.version && nat_le s.version number) second.1 in
-    let fourth = and_parts (nat_le 1 s.version) (nat_le s.version number) third.1 in
-    record {
-      version = leb-true s.version number fourth.1;
-      counted = leb-true 1 s.version fourth.0;
-      modified = leb-true s.mod_rev number third.0;
-      created = leb-true s.create_rev s.mod_rev second.0;
-      above = leb-true 1 s.create_rev first.0;
-    }
+    record { version = grind (arith, nat_tests); counted = grind (arith, nat_tests); modified = grind (arith, nat_tests); created = grind (arith, nat_tests); above = grind (arith, nat_tests) }
 
 small_reached : (number : ℕ) (s : KeyState) → AreSmall number s → is_reached number s ≡ true
-small_reached number s small =
-    and_from (nat_le 1 s.create_rev) (nat_le s.create_rev s.mod_rev && (nat_le s.mod_rev number && (nat_le 1 s.version && nat_le s.version number)))
-    (le-leb 1 s.create_rev small.above)
-    (and_from (nat_le s.create_rev s.mod_rev) (nat_le s.mod_rev number && (nat_le 1 s.version && nat_le s.version number))
-    (le-leb s.create_rev s.mod_rev small.created)
-    (and_from (nat_le s.mod_rev number) (nat_le 1 s.version && nat_le s.version number)
-    (le-leb s.mod_rev number small.modified)
-    (and_from (nat_le 1 s.version) (nat_le s.version number) (le-leb 1 s.version small.counted) (le-leb s.version number small.version))))
+small_reached number s small = grind (arith, nat_tests)
 
 -- what a key is at an opening has small numbers, and a state with small numbers can stand there
 opened_small : (number : ℕ) (o : Option KeyState) → SmallIfPresent number (if_reached number o)
 opened_small number None = tt
-opened_small number (Some s) = by_test (is_reached number s) refl
-  where
-    by_test : (b : Bool) → is_reached number s ≡ b → SmallIfPresent number (cond b (Some s) None)
-    by_test true is = reached_small number s is
-    by_test false is = tt
+opened_small number (Some s) =
+    elim (is_reached number s) as (λ b. is_reached number s ≡ b → SmallIfPresent number (cond b (Some s) None)) [ true ↦ λ is. reached_small number s is | false ↦ λ _. tt ] refl
 
 pub small_opened : (number : ℕ) (o : Option KeyState) → SmallIfPresent number o → if_reached number o ≡ o
 small_opened number None small = refl
@@ -151,38 +113,26 @@ are_small opening key (changes ∷ older) =
 
 -- the modification revision of a key is at most the last revision
 pub mod_is_reached : (opening : Opening) (key : List ℕ) (revisions : List (List Change)) → mod_of (key_after opening key revisions) ≤ number_of_last opening revisions
-mod_is_reached opening key revisions = bounded (key_after opening key revisions) (are_small opening key revisions)
-  where
-    bounded : (s : Option KeyState) → SmallIfPresent (number_of_last opening revisions) s → mod_of s ≤ number_of_last opening revisions
-    bounded None h = omega arith
-    bounded (Some s) h = h.modified
+mod_is_reached opening key revisions =
+    elim (key_after opening key revisions) as (λ s. SmallIfPresent (number_of_last opening revisions) s → mod_of s ≤ number_of_last opening revisions) [
+      | None ↦ λ _. omega arith
+      | Some s ↦ λ h. h.modified
+    ] (are_small opening key revisions)
 
 -- a key whose modification revision is 0 is absent
 pub absent_at_zero : (opening : Opening) (key : List ℕ) (revisions : List (List Change)) →
     mod_of (key_after opening key revisions) ≡ 0 → key_after opening key revisions ≡ None
-absent_at_zero opening key revisions zero = absent (key_after opening key revisions) (are_small opening key revisions) zero
-  where
-    absent : (s : Option KeyState) → SmallIfPresent (number_of_last opening revisions) s → mod_of s ≡ 0 → s ≡ None
-    absent None h zero = refl
-    absent (Some s) h zero =
-        let created : s.create_rev ≤ s.mod_rev = h.created in
-        let above : 1 ≤ s.create_rev = h.above in
-        absurd (omega arith)
-
--- whichever a test chooses of all revisions and a part of the older ones, the last is not passed
-chosen_is_reached : (opening : Opening) (changes : List Change) (older part : List (List Change)) (b : Bool) →
-    number_of_last opening part ≤ number_of_last opening older →
-    number_of_last opening (cond b (changes ∷ older) part) ≤ number_of_last opening (changes ∷ older)
-chosen_is_reached opening changes older part true h = omega arith
-chosen_is_reached opening changes older part false h = omega arith
+absent_at_zero opening key revisions zero =
+    elim (key_after opening key revisions) as (λ s. SmallIfPresent (number_of_last opening revisions) s → mod_of s ≡ 0 → s ≡ None) [
+      | None ↦ λ _ _. refl
+      | Some s ↦ λ h none. grind arith
+    ] (are_small opening key revisions) zero
 
 -- the revisions up to a number don't pass the last
 pub up_to_is_reached : (opening : Opening) (r : ℕ) (revisions : List (List Change)) →
     number_of_last opening (revisions_up_to opening r revisions) ≤ number_of_last opening revisions
 up_to_is_reached opening r [] = omega arith
-up_to_is_reached opening r (changes ∷ older) =
-    chosen_is_reached opening changes older (revisions_up_to opening r older) (nat_le (number_of_last opening (changes ∷ older)) r)
-    (up_to_is_reached opening r older)
+up_to_is_reached opening r (changes ∷ older) = grind (arith, nat_tests, up_to_is_reached opening r older)
 
 -- A change of the last revision either leaves the key, or gives it the new number, or deletes it. So a key
 -- whose modification revision it leaves as it was somewhere before has the state that it had there.
@@ -190,10 +140,8 @@ same_after_change : (n older_last : ℕ) (c : Option Change) (before other : Opt
     mod_of other ≤ older_last → (mod_of other ≡ 0 → other ≡ None) → (mod_of before ≡ mod_of other → before ≡ other) →
     mod_of (after_change n c before) ≡ mod_of other → after_change n c before ≡ other
 same_after_change n older_last None before other above reached absent same equal = same equal
-same_after_change n older_last (Some (Put key value lease)) None other above reached absent same equal =
-    let mod_is : n ≡ mod_of other = equal in absurd (omega arith)
-same_after_change n older_last (Some (Put key value lease)) (Some s) other above reached absent same equal =
-    let mod_is : n ≡ mod_of other = equal in absurd (omega arith)
+same_after_change n older_last (Some (Put key value lease)) None other above reached absent same equal = absurd (omega arith)
+same_after_change n older_last (Some (Put key value lease)) (Some s) other above reached absent same equal = absurd (omega arith)
 same_after_change n older_last (Some (Del key)) before other above reached absent same equal = sym (absent (sym equal))
 
 -- a law about the revisions up to two numbers, in the four cases of whether the last one is among them
@@ -247,10 +195,7 @@ same_mod_means_same_state h key r s = same_if_mod_is h.opening key h.revisions r
 -- fewer revisions make smaller numbers
 small_in : (h : History) (last : ℕ) (s : Option KeyState) → last ≤ now h → SmallIfPresent last s → IfSome s (AreSmallIn h)
 small_in h last None reached small = tt
-small_in h last (Some s) reached small =
-    let version : s.version ≤ last = small.version in
-    let modified : s.mod_rev ≤ last = small.modified in
-    (omega (arith, reached), omega (arith, reached), small.created, small.above)
+small_in h last (Some s) reached small = grind arith
 
 pub numbers_stay_small : NumbersStaySmall
 numbers_stay_small h key r =

@@ -3,7 +3,7 @@
 --
 -- How a scenario and a report's lines are read is `stm_texts` and `stm_report_lines`; that both stand in one text is our own. The scenario sets the moment
 -- (an advance), has the changes of the next revision (a transaction), so that watches from it on show them, and makes it the floor (a compaction).
-use Rattle.std.specs.Prelude.{ℕ, if◌then◌else◌, List, [], ◌∷◌, Option, None, Some, option_and_then, option_map, Ok, Err}
+use Rattle.std.specs.Prelude.{ℕ, if◌then◌else◌, List, [], ◌∷◌, Option, None, Some, option_map, Ok, Err}
 use Rattle.stm_history.specs.declared.key_state.KeyState.{KeyState}
 use Rattle.stm_history.specs.Opening.{States}
 use Rattle.stm_json.specs.Outcome.{Outcome}

@@ -1,6 +1,5 @@
 -- What is left of the lines of a checkpoint, once some were taken. No public clause cites this module.
 use Rattle.std.specs.Prelude.{◌++◌, List, [], ◌∷◌, Option, None, Some, option_map}
-use Rattle.stm_history.specs.Opening.{States}
 use Rattle.stm_events.specs.declared.line.ReportLine.{ReportLine}
 use Rattle.stm_txn.specs.declared.restored.KeptLease.{KeptLease}
 use Rattle.stm_lasting.specs.declared.checkpoint_text.Held.{Held as Taken}

@@ -1,5 +1,5 @@
 -- How the change of one list keeps every other, and what each kind of change makes of the list.
-use Rattle.std.proofs.Common.{◌≡◌, ◌≢◌, ◌⊎◌, ℕ, List, [], ◌∷◌, ◌++◌, Option, Some, None, option_map, refl, sym, ap, subst, ◌∙◌, inl, inr}
+use Rattle.std.proofs.Common.{arith, ◌≡◌, ◌≢◌, ◌⊎◌, ℕ, List, [], ◌∷◌, ◌++◌, Option, Some, None, option_map, refl, sym, ap, subst, ◌∙◌, inl, inr}
 use Rattle.std.proofs.lemmas.Bool.{cases_eq}
 use Rattle.std.proofs.lemmas.Option.{same_Some}
 use Rattle.slab.specs.Slab.{Slab, get}
@@ -81,15 +81,7 @@ module _ {T : Type 0} where
   -- a change that keeps what a node's list is
   owner-changed : (s : Slab (Node T)) (key : ℕ) (f : Node T → Node T) → ((x : Node T) → (f x).list ≡ x.list) → (node : ℕ)
       → owner_at (changed s key f) node ≡ owner_at s node
-  owner-changed s key f keeps node =
-      elim (cases_eq node key) [
-        | inl same ↦ rw same (ap (option_map (λ (x : Node T). x.list)) (get-changed_same s key f) ∙ twice (get s key))
-        | inr differs ↦ ap (option_map (λ (x : Node T). x.list)) (get-changed_other s key node f differs)
-      ]
-    where
-      twice : (o : Option (Node T)) → option_map (λ (x : Node T). x.list) (option_map f o) ≡ option_map (λ (x : Node T). x.list) o
-      twice None = refl
-      twice (Some x) = ap Some (keeps x)
+  owner-changed s key f keeps node = grind (arith, get-changed_same, get-changed_other, keeps)
 
   pub owner-next_set : (s : Slab (Node T)) (link to : Option ℕ) (node : ℕ) → owner_at (next_set s link to) node ≡ owner_at s node
   owner-next_set s None to node = refl

@@ -18,16 +18,9 @@ weight o = cond (is_some o) 1 0
 pub slab_len-changed : {X : Type 0} (s : Slab X) (key : ℕ) (f : X → X) → slab_len (changed s key f) ≡ slab_len s
 slab_len-changed {X} s key f =
     elim (cases_lt key (length s.slots)) [
-      | inl within ↦
-          let counted = sum_by-set weight s.slots key (option_map f (get s key)) None within in
-          let same : weight (option_map f (get s key)) ≡ weight (get s key) = kept (get s key) in
-          omega arith
+      | inl within ↦ let counted = sum_by-set weight s.slots key (option_map f (get s key)) None within in grind arith
       | inr past ↦ ap (count_by is_some) (set_past s.slots key (option_map f (get s key)) past)
     ]
-  where
-    kept : (o : Option X) → weight (option_map f o) ≡ weight o
-    kept None = refl
-    kept (Some x) = refl
 
 module _ {T : Type 0} where
   pub slab_len-next_set : (s : Slab (Node T)) (link to : Option ℕ) → slab_len (next_set s link to) ≡ slab_len s
@@ -74,12 +67,8 @@ module _ {T : Type 0} where
   no_more slots [] distinct p = omega arith
   no_more slots (entry ∷ rest) distinct p =
       let fewer = no_more (set slots entry.0 None) rest distinct.1 (there_off slots entry.0 rest distinct.0 p.1) in
-      let found : get_or slots entry.0 None ≡ Some p.0.0 = p.0.1 in
       elim (cases_lt entry.0 (length slots)) [
-        | inl within ↦
-            let counted = sum_by-set weight slots entry.0 None None within in
-            let one : weight (get_or slots entry.0 None) ≡ 1 = ap weight found in
-            omega arith
+        | inl within ↦ let counted = sum_by-set weight slots entry.0 None None within in grind arith
         | inr past ↦ let none = get_or_past slots entry.0 None past in absurd (cc)
       ]
 

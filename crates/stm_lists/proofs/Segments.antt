@@ -1,7 +1,6 @@
 -- Lemmas on the parts of a list: how they join and divide, that no node stands twice, and which changes they survive.
-use Rattle.std.proofs.Common.{◌≡◌, ◌≢◌, ◌⊎◌, ℕ, suc, ◌≤◌, List, [], ◌∷◌, ◌++◌, length, Option, Some, None, option_map, set, refl, sym, ap, subst, ◌∙◌, inl}
+use Rattle.std.proofs.Common.{◌≡◌, ◌≢◌, ◌⊎◌, ℕ, suc, ◌≤◌, List, [], ◌∷◌, ◌++◌, length, Option, Some, None, option_map, refl, sym, ap, subst, ◌∙◌, inl}
 use Rattle.std.proofs.Common.{inr, arith}
-use Rattle.std.proofs.lemmas.Bool.{cases_lt}
 use Rattle.std.proofs.lemmas.List.{get_or-set_same, get_or-set_other, get_or_past, length-set}
 use Rattle.std.proofs.lemmas.Option.{same_Some}
 use Rattle.slab.specs.Slab.{Slab, get}
@@ -13,14 +12,7 @@ use Rattle.stm_lists.specs.Chain.{first_or, last_or, walk, IsSegment, IsList, Is
 
 -- what a changed key has
 pub get-changed_same : {X : Type 0} (s : Slab X) (key : ℕ) (f : X → X) → get (changed s key f) key ≡ option_map f (get s key)
-get-changed_same s key f =
-    elim (cases_lt key (length s.slots)) [
-      | inl within ↦ get_or-set_same s.slots key (option_map f (get s key)) None within
-      | inr past ↦
-          let nothing : get s key ≡ None = get_or_past s.slots key None past in
-          get_or_past (set s.slots key (option_map f (get s key))) key None (omega (arith, length-set s.slots key (option_map f (get s key))))
-          ∙ ap (option_map f) (sym nothing)
-    ]
+get-changed_same s key f = grind (arith, get_or-set_same, get_or-set_other, get_or_past, length-set)
 
 -- every other key keeps what it had
 pub get-changed_other : {X : Type 0} (s : Slab X) (key other : ℕ) (f : X → X) → other ≢ key → get (changed s key f) other ≡ get s other
@@ -33,7 +25,7 @@ module _ {T : Type 0} where
 
   pub off-append : (node : ℕ) (xs ys : List (ℕ × T)) → IsOff node (xs ++ ys) → IsOff node xs × IsOff node ys
   off-append node [] ys off = (tt, off)
-  off-append node (entry ∷ rest) ys off = let more = off-append node rest ys off.1 in ((off.0, more.0), more.1)
+  off-append node (entry ∷ rest) ys off = grind (arith, off-append node rest ys)
 
   pub first_or-append : (xs ys : List (ℕ × T)) (after : Option ℕ) → first_or (xs ++ ys) after ≡ first_or xs (first_or ys after)
   first_or-append [] ys after = refl
@@ -50,11 +42,7 @@ module _ {T : Type 0} where
 
   pub last_is_on : (before : Option ℕ) (xs : List (ℕ × T)) (m : ℕ) → last_or before xs ≡ Some m → (before ≡ Some m) ⊎ IsOn m xs
   last_is_on before [] m is = inl is
-  last_is_on before (entry ∷ rest) m is =
-      elim (last_is_on (Some entry.0) rest m is) [
-        | inl here ↦ inr (inl (same_Some entry.0 m here))
-        | inr there ↦ inr (inr there)
-      ]
+  last_is_on before (entry ∷ rest) m is = grind (arith, last_is_on (Some entry.0) rest m)
 
   pub first_is_on : (xs : List (ℕ × T)) (m : ℕ) → first_or xs None ≡ Some m → IsOn m xs
   first_is_on [] m is = absurd (cc)
@@ -99,11 +87,7 @@ module _ {T : Type 0} where
       → IsOn node xs → owner_at s node ≡ Some list
   unfolding IsSegment
   segment_owner s list before [] after node p on = absurd on
-  segment_owner s list before (entry ∷ rest) after node p on =
-      elim on [
-        | inl here ↦ ap (owner_at s) (sym here) ∙ ap (option_map (λ (x : Node T). x.list)) p.0
-        | inr there ↦ segment_owner s list (Some entry.0) rest after node p.1 there
-      ]
+  segment_owner s list before (entry ∷ rest) after node p on = grind (arith, segment_owner s list (Some entry.0) rest after node)
 
   -- from one node on there is one way to the end
   pub same_way : (s : Slab (Node T)) (list : ℕ) (b c : Option ℕ) (xs ys : List (ℕ × T)) → IsSegment s list b xs None → IsSegment s list c ys None

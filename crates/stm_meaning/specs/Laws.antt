@@ -1,8 +1,8 @@
 -- What runs over two look-ups have in common, where one knows more than the other.
 pub use Rattle.stm_steps.specs.Answer.{AgreesWith}
-use Rattle.std.specs.Prelude.{◌≡◌, ℕ, ◌<◌, List, ◌++◌, length, None, Some, IsSome}
+use Rattle.std.specs.Prelude.{◌≡◌, ℕ, ◌<◌, List, ◌++◌, length, None, IsSome}
 use Rattle.stm_program.specs.Syntax.{Block}
-use Rattle.stm_steps.specs.Answer.{Answer, Lookup}
+use Rattle.stm_steps.specs.Answer.{Lookup}
 use Rattle.stm_steps.specs.Meaning.{run_over}
 use Rattle.stm_steps.specs.declared.trace_item.TraceItem.{TraceItem}
 use Rattle.stm_steps.specs.declared.run.Run.{Run}

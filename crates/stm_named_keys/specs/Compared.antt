@@ -1,5 +1,5 @@
 -- The values that a program compares with texts, by the spelling of the keys and of the texts.
-use Rattle.std.specs.Prelude.{ℕ, List, [], ◌∷◌, ◌++◌}
+use Rattle.std.specs.Prelude.{List, [], ◌∷◌, ◌++◌}
 use Rattle.stm_program.specs.Syntax.{Expression, Text, Get, Condition, Equal, Less, Not, And, Or}
 use Rattle.stm_program.specs.Syntax.{Statement, Set, Put, Del, If, For, Emit, Abort, Block, End, Then, ProgramTree}
 use Rattle.stm_named_keys.specs.Named.{named}

@@ -7,7 +7,6 @@ use Rattle.std.proofs.lemmas.List.{take_rest}
 use Rattle.std.proofs.lemmas.Bool.{le-ltb, ltb-false}
 use Rattle.stm_program.specs.declared.limits.TheConstants.{MAX_PREFETCH}
 use Rattle.stm_program.specs.Syntax.{Block, ProgramTree}
-use Rattle.stm_program.specs.BlockView.{block_of}
 use Rattle.stm_program.specs.Limits.{is_no_key, has_repeat, ListFits, fits_with}
 use Rattle.stm_program.proofs.WriteLemmas.{bytes_eq-flip, bytes_eq-same}
 

@@ -13,7 +13,7 @@ use Rattle.stm_attempt.specs.declared.next.Next.{Next}
 use Rattle.stm_attempt.specs.declared.next.Next.TheVariants.{FetchAll, Fetch}
 use Rattle.stm_attempt.specs.Settled.{run_on}
 use Rattle.stm_attempt.specs.Entering.{is_due}
-use Rattle.stm_attempt.specs.Fetches.{base_of, at_of}
+use Rattle.stm_attempt.specs.Fetches.{at_of}
 use Rattle.stm_attempt.specs.Next.{next_at_end, next_after, next_on}
 use Rattle.stm_txn.specs.Standing.{Standing, kept}
 use Rattle.stm_world.specs.Sound.{IsSound}

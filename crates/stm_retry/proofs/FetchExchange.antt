@@ -1,9 +1,9 @@
 -- The fetch of a key at the base of an attempt, before or after a step of another runner.
-use Rattle.std.proofs.Common.{◌≡◌, ◌≢◌, ◌∙◌, ◌<◌, ◌≤◌, ◌+◌, ◌-◌, ◌⊎◌, inl, inr, ℕ, zero, suc, Bool, true, false, cond, List, [], ◌∷◌, ◌++◌, length, map, fold, min, Option, Some, None, Result, Ok, Err}
+use Rattle.std.proofs.Common.{◌≡◌, ◌≢◌, ◌∙◌, ◌<◌, ◌≤◌, ◌+◌, ◌-◌, ℕ, Bool, true, false, cond, List, [], ◌∷◌, ◌++◌, length, map, fold, min, Option, Some}
 use Rattle.std.proofs.Common.{refl, sym, ap, subst, arith, length-append}
 use Rattle.std.proofs.lemmas.List.{map-set, set_comm}
 use Rattle.std.proofs.lemmas.Bool.{le-ltb}
-use Rattle.std.specs.Prelude.{nat_eq, nat_lt, ◌&&◌, slice_get, slice_set}
+use Rattle.std.specs.Prelude.{nat_lt, ◌&&◌, slice_set}
 use Rattle.stm_history.specs.declared.change.Change.{Change}
 use Rattle.stm_history.specs.declared.key_state.KeyState.{KeyState}
 use Rattle.stm_history.specs.declared.key_state.ReadAnswer.{ReadAnswer}
@@ -40,7 +40,7 @@ use Rattle.stm_world.proofs.Appending.{events_append}
 use Rattle.stm_world.proofs.Sound.{step_is_sound}
 use Rattle.stm_world.proofs.Slots.{other_number, runner_there, runner_other}
 use Rattle.stm_alike.specs.Levelled.{carrying, levelled}
-use Rattle.stm_alike.specs.Seen.{seen_runner, seen_slot, AreAlike}
+use Rattle.stm_alike.specs.Seen.{seen_slot, AreAlike}
 use Rattle.stm_alike.proofs.Levelling.{both_gone_on}
 use Rattle.stm_retry.specs.AtBase.{FetchesAtBase, NextIsAtBase}
 use Rattle.stm_retry.proofs.StepDoes.{world, after_step, step_of, step_does}

@@ -1,7 +1,7 @@
 -- What `==` says of two outcomes.
 use Rattle.std.proofs.Common.{rules, ◌≡◌, Decides, List}
 use Rattle.std.specs.Cmp.Lexicographic.{pointwise}
-use Rattle.std.proofs.lemmas.Bool.Decides.{Decides-like, Decides-and}
+use Rattle.std.proofs.lemmas.Bool.Decides.{Decides-like}
 use Rattle.std.proofs.lemmas.Slice.Eq.{bytes_eq-Decides}
 use Rattle.stm_events.proofs.SameReplies.{lists_decide, values_decide, faults_decide, causes_decide}
 use Rattle.stm_schedules.specs.declared.outcome.RunnerEnd.{RunnerEnd}

@@ -1,5 +1,5 @@
 -- Worked examples of schedules, computed by the definitions.
-use Rattle.std.proofs.Common.{◌≡◌, refl, ℕ, List, [], ◌∷◌, Some, None, true, false, codes, pos, length}
+use Rattle.std.proofs.Common.{◌≡◌, refl, ℕ, List, [], ◌∷◌, Some, true, false, codes, pos, length}
 use Rattle.stm_program.specs.Syntax.{ProgramTree, of_statements, Text, Number, Get, Rev, Less, Put as PutStatement, Del, If, Abort, End as EndBlock, Then}
 use Rattle.stm_program.specs.Writes.{last_write, latest_writes}
 use Rattle.stm_program.specs.declared.level.Level.{Level}

@@ -3,10 +3,7 @@ use Rattle.std.proofs.Common.{◌≡◌, ◌<◌, ◌≤◌, ℕ, zero, suc, ◌
 use Rattle.std.proofs.lemmas.List.{drop_all}
 use Rattle.std.specs.List.{AllZip}
 use Rattle.stm_program.specs.Syntax.{ProgramTree}
-use Rattle.stm_world.specs.World.{World}
-use Rattle.stm_schedules.specs.declared.moves.Move.{Move}
 use Rattle.stm_schedules.specs.Places.{Place}
-use Rattle.stm_schedules.specs.Schedules.{IsSchedule}
 use Rattle.stm_schedules.specs.Keeping.{keeps, AllKeep}
 use Rattle.stm_schedules.proofs.Merging.{merges_keep}
 use Rattle.stm_serial_search.specs.Search.{keep_all}

@@ -6,14 +6,13 @@ use Rattle.stm_terms.specs.declared.kinds.Kind.{Kind}
 use Rattle.stm_terms.specs.declared.kinds.Valued.{Valued}
 use Rattle.stm_terms.specs.declared.operators.Join.{Join}
 use Rattle.stm_terms.specs.declared.faults.SourceCause.TheVariants.{TooDeep}
-use Rattle.stm_terms.specs.declared.limits.TheConstants.{MOST_BRACKETS}
 use Rattle.stm_tokens.specs.declared.token.Symbol.TheVariants.{Comma, RightParenthesis}
 use Rattle.stm_terms.specs.Cursor.{unexpected, after_symbol, expect_symbol}
 use Rattle.stm_terms.specs.declared.faults.SourceError.{SourceError}
 use Rattle.stm_terms.specs.declared.faults.SourceError.TheVariants.{OutOfMemory, Bad}
 use Rattle.stm_terms.specs.Outcome.{Read, ReturnsFault}
 use Rattle.stm_terms.specs.Uses.{with_argument_added}
-use Rattle.stm_terms.specs.Values.{Right, next_join, chain, behind_by, tier_behind, tier_by, operand_by, operand_within, value_by, bracketed_by, bracketed_at, Bracketed, Uses, uses_by, uses_at, uses_from}
+use Rattle.stm_terms.specs.Values.{Right, next_join, chain, behind_by, tier_behind, operand_by, operand_within, value_by, bracketed_by, bracketed_at, Bracketed, Uses, uses_by, uses_at, uses_from}
 
 pub behind_none : (operand : List Token → Read Valued) (scope : Scope) (tier at : ℕ) (first : Valued) (tokens : List Token) → tier ≡ 0
     → behind_by operand scope tier at first tokens ≡ Ok (first, tokens)

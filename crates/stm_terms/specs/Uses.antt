@@ -4,7 +4,6 @@ use Rattle.stm_tokens.specs.declared.token.Token.{Token}
 use Rattle.stm_program.specs.declared.limits.TheConstants.{MAX_NODES}
 use Rattle.stm_program.specs.Size.{expression_nodes}
 use Rattle.stm_program.specs.Syntax.{Expression, Text, Number, Variable, Get, Rev, Arithmetic, Cat, TextOf, NumOf}
-use Rattle.stm_terms.specs.declared.faults.SourceCause.{SourceCause}
 use Rattle.stm_terms.specs.declared.faults.SourceCause.TheVariants as cause
 use Rattle.stm_terms.specs.declared.kinds.Kind.{Kind}
 use Rattle.stm_terms.specs.declared.kinds.Kind.TheVariants as kind

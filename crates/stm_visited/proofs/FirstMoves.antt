@@ -1,12 +1,11 @@
 -- A move that can be made first is enough.
-use Rattle.std.proofs.Common.{◌≡◌, ◌∙◌, ◌⊎◌, ◌+◌, ◌<◌, ◌≤◌, inl, inr, subst, flat_map, ℕ, zero, suc, Bool, true, false, ◌||◌, cond, List, [], ◌∷◌, length, get_or, Contains, Option, Some, None}
+use Rattle.std.proofs.Common.{◌≡◌, ◌∙◌, ◌+◌, ◌<◌, ◌≤◌, inl, inr, subst, ℕ, zero, suc, Bool, true, false, ◌||◌, cond, List, [], ◌∷◌, length, get_or, Contains, Option, Some, None}
 use Rattle.std.proofs.Common.{option_map, refl, sym, ap, arith}
 use Rattle.std.specs.List.{list_any}
 use Rattle.std.specs.Option.{option_or}
 use Rattle.stm_visited.specs.Search.{Steps, first_of, bad_at, goes_on, if_whole, shown_at, total, count_at}
 use Rattle.stm_visited.specs.Alike.{Respects}
-use Rattle.stm_visited.specs.Layers.{AreEnough}
-use Rattle.stm_visited.specs.First.{CanBeExchanged, CanBeFirst, FirstIsEnough}
+use Rattle.stm_visited.specs.First.{CanBeFirst, FirstIsEnough}
 use Rattle.stm_visited.proofs.Founds.{or_false, append_nil_here, in_flat, of_flat}
 use Rattle.stm_visited.proofs.LayerLemmas.{alike_are_same}
 

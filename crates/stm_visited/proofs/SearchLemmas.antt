@@ -7,7 +7,6 @@ use Rattle.std.specs.Prelude.{not, ◌==◌}
 use Rattle.std.specs.Cmp.{unsigned_Decides}
 use Rattle.std.specs.List.{list_any, list_all}
 use Rattle.std.specs.Option.{option_or}
-use Rattle.stm_visited.specs.declared.visited.Visited.{Visited}
 use Rattle.stm_visited.specs.declared.visited.Visited.TheVariants.{Always, Broken}
 use Rattle.stm_visited.specs.Search.{Steps, first_of, bad_at, first_bad, goes_on, total, count_at, count_up_to}
 use Rattle.stm_visited.specs.Alike.{Respects}

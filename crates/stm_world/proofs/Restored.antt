@@ -1,5 +1,5 @@
 -- A world that opens with keys and leases is sound.
-use Rattle.std.proofs.Common.{◌≡◌, ℕ, [], None, true, arith}
+use Rattle.std.proofs.Common.{◌≡◌, [], None, true, arith}
 use Rattle.std.specs.FinMap as finmap
 use Rattle.stm_txn.specs.declared.restored.Checkpoint.{Checkpoint}
 use Rattle.stm_txn.specs.Restored.{can_restore, restored}

@@ -1,4 +1,4 @@
-use Rattle.std.proofs.Common.{rules, ◌≡◌, ◌∙◌, ap, sym, arith}
+use Rattle.std.proofs.Common.{rules, ◌≡◌, ◌∙◌, ap, arith}
 use Rattle.stm_program.specs.Levels.{is_serializable}
 use Rattle.stm_closures.proofs.attempts.atomically.Goals as goal
 

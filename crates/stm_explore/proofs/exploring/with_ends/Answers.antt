@@ -1,8 +1,7 @@
-use Rattle.std.proofs.Common.{◌+◌, List, All, take, sym, subst, arith}
+use Rattle.std.proofs.Common.{◌+◌, All, take, sym, subst, arith}
 use Rattle.std.proofs.lemmas.List.Elements.{All-push}
 use Rattle.std.specs.List.{AllZip}
 use Rattle.stm_visited.specs.Answers.{IsVisited, OpenIsSpent as VisitedIsSpent, OpenIsFar as VisitedIsFar}
-use Rattle.stm_explore.specs.declared.exploring.Explored.{Explored}
 use Rattle.stm_explore.specs.Explored.{IsExplored, OpenIsSpent, OpenIsFar}
 use Rattle.stm_explore.specs.Spots.{rules_steps}
 use Rattle.stm_explore.proofs.Zipped.{zip_next, there}

@@ -1,4 +1,4 @@
-use Rattle.std.proofs.Common.{◌∙◌, subst}
+use Rattle.std.proofs.Common.{subst}
 use Rattle.stm_attempt.specs.ReadyRun.{IsRunOnItsAnswers}
 use Rattle.stm_journal.proofs.prepared.prepare.Goals as goal
 

@@ -1,10 +1,10 @@
-use Rattle.std.proofs.Common.{◌≡◌, ◌∙◌, ◌∷◌, ◌++◌, [], Some, None, sym, ap, map, List, ℕ, cond}
-use Rattle.std.specs.Prelude.{bytes_eq, string_bytes, string_eq}
+use Rattle.std.proofs.Common.{◌≡◌, ◌∙◌, ◌∷◌, ◌++◌, [], Some, None, ap, map, List, ℕ}
+use Rattle.std.specs.Prelude.{string_bytes, string_eq}
 use Rattle.std.specs.Map.{keys_of}
 use Rattle.std.proofs.lemmas.Map.Text.{hash_map_updates_text}
 use Rattle.indexmap.specs.IndexMap.{get_by_text}
 use Rattle.indexmap.proofs.CallerLemmas.{insert_entry-new}
-use Rattle.stm_keys.specs.Chains.{Versions, Chain, versions_in, names_of}
+use Rattle.stm_keys.specs.Chains.{names_of}
 use Rattle.stm_keys.proofs.Steps.{texts_push}
 use Rattle.stm_keys.proofs.OpenedChains.{versions_before, written_versions}
 use Rattle.stm_keys.proofs.restored.add_opened.Goals as goal

@@ -1,4 +1,4 @@
-use Rattle.std.proofs.Common.{◌≡◌, ℕ, ◌+◌, List, ◌∷◌, ◌++◌, [], take, length, None, Some, refl, sym, ap, ◌∙◌, subst, arith}
+use Rattle.std.proofs.Common.{◌≡◌, ℕ, ◌+◌, List, ◌∷◌, ◌++◌, [], take, Some, sym, ap, ◌∙◌}
 use Rattle.std.specs.Prelude.{slice_get}
 use Rattle.std.specs.Map.{keys_of}
 use Rattle.std.specs.Ordering.{nat_cmp}
@@ -9,7 +9,7 @@ use Rattle.std.proofs.lemmas.Option.{slice_get-get_or}
 use Rattle.indexmap.specs.IndexMap.{get_by_text}
 use Rattle.stm_history.specs.declared.key_state.KeyState.{KeyState}
 use Rattle.stm_history.specs.Opening.{States}
-use Rattle.stm_keys.specs.Chains.{versions_in, names_of}
+use Rattle.stm_keys.specs.Chains.{versions_in}
 use Rattle.stm_keys.proofs.OpeningLaws.{not_before}
 use Rattle.stm_keys.proofs.OpenedChains.{versions_before, no_chain, one_opened, keys_push}
 use Rattle.stm_keys.proofs.restored.opened_chains.Goals as goal

@@ -1,6 +1,6 @@
-use Rattle.std.proofs.Common.{◌∙◌, arith}
+use Rattle.std.proofs.Common.{arith}
 use Rattle.stm_serial_search.specs.Replaying.{or_always}
-use Rattle.stm_serial_search.proofs.Judges.{put_next, all_put}
+use Rattle.stm_serial_search.proofs.Judges.{put_next}
 use Rattle.stm_serial_search.proofs.judging.keep_others.Goals as goal
 
 pub loop-i-preserved : goal.loop-i-preserved

@@ -1,4 +1,4 @@
-use Rattle.std.proofs.Common.{◌+◌, arith}
+use Rattle.std.proofs.Common.{arith}
 use Rattle.stm_serial_search.proofs.Judges.{one_told, all_told}
 use Rattle.stm_serial_search.proofs.judging.undecided.Goals as goal
 

@@ -1,4 +1,4 @@
-use Rattle.std.proofs.Common.{◌≡◌, ℕ, List, ap, sym, ◌∙◌}
+use Rattle.std.proofs.Common.{ℕ, List, ap, sym, ◌∙◌}
 use Rattle.stm_history.specs.declared.key_state.KeyState.{KeyState}
 use Rattle.stm_storing.specs.Past.{state_in}
 use Rattle.stm_storing.proofs.compacting.had_same_keys.Goals as goal

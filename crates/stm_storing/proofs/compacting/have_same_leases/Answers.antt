@@ -1,4 +1,4 @@
-use Rattle.std.proofs.Common.{◌≡◌, List, ap, ◌∙◌, subst}
+use Rattle.std.proofs.Common.{List, ap, ◌∙◌, subst}
 use Rattle.stm_history.specs.Opening.{Opening}
 use Rattle.stm_leases.specs.Live.{Live}
 use Rattle.stm_entries.specs.declared.entry.Entry.{Entry}

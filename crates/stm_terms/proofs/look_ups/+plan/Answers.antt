@@ -1,4 +1,4 @@
-use Rattle.std.proofs.Common.{◌≡◌, ◌<◌, arith}
+use Rattle.std.proofs.Common.{◌<◌, arith}
 use Rattle.stm_terms.proofs.PlanLemmas.{planned_none, planned_some}
 use Rattle.stm_terms.proofs.look_ups.+plan.Goals as goal
 

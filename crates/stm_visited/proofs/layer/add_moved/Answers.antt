@@ -1,4 +1,4 @@
-use Rattle.std.proofs.Common.{◌≡◌, ◌+◌, ◌≤◌, List, length, sym, subst, ap, arith}
+use Rattle.std.proofs.Common.{◌+◌, sym, subst, ap, arith}
 use Rattle.stm_visited.specs.Layers.{Reached, AreEnough}
 use Rattle.stm_visited.proofs.SearchLemmas.{made_here, all_made}
 use Rattle.stm_visited.proofs.layer.add_moved.Goals as goal

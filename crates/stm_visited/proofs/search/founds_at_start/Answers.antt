@@ -1,4 +1,4 @@
-use Rattle.std.proofs.Common.{List, Option, length, get_or, None, sym, ap, ◌∙◌, ◌≡◌, subst}
+use Rattle.std.proofs.Common.{List, Option, length, get_or, None, ap, ◌∙◌, ◌≡◌, subst}
 use Rattle.std.specs.Option.{option_or}
 use Rattle.stm_visited.specs.Answers.{EachIs}
 use Rattle.stm_visited.specs.Layers.{bad_among}

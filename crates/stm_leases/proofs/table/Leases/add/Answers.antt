@@ -1,7 +1,5 @@
-use Rattle.std.proofs.Common.{◌≡◌, Option, Some, None, true, false, cond, is_some, ℕ, List, String, Global, nat_eq, option_map, subst, rules, arith, refl, ap}
+use Rattle.std.proofs.Common.{◌≡◌, Option, Some, None, false, cond, is_some, ℕ, List, String, Global, nat_eq, option_map, subst, arith, refl, ap}
 use Rattle.std.proofs.Common.{sym, ◌∙◌}
-use Rattle.std.proofs.lemmas.Grind.{common_steps}
-use Rattle.std.specs.FinMap as finmap
 use Rattle.std.specs.Map.{lookup}
 use Rattle.indexmap.specs.IndexMap.{get, get_by_text}
 use Rattle.stm_leases.specs.declared.lease.Lease.{Lease}

@@ -1,4 +1,4 @@
-use Rattle.std.proofs.Common.{◌∙◌, ap, sym}
+use Rattle.std.proofs.Common.{◌∙◌, ap}
 use Rattle.stm_world.specs.World.{World}
 use Rattle.stm_retry.proofs.AheadLemmas.{next_is_at_base}
 use Rattle.stm_retry.proofs.shared_world.SharedWorld.fetches_at_base.Goals as goal

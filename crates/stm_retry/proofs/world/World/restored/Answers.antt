@@ -1,4 +1,4 @@
-use Rattle.std.proofs.Common.{◌≡◌, true, Option, Some, IfSome, is_some, sym, ap, subst, ◌∙◌}
+use Rattle.std.proofs.Common.{◌≡◌, true, Option, IfSome, is_some, sym, ap, subst, ◌∙◌}
 use Rattle.stm_history.specs.Opening.{Opening}
 use Rattle.stm_txn.specs.declared.restored.Checkpoint.{Checkpoint}
 use Rattle.stm_txn.specs.Restored.{can_restore}

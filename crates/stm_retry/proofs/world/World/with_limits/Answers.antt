@@ -1,4 +1,4 @@
-use Rattle.std.proofs.Common.{◌≡◌, sym, ap, subst, ◌∙◌}
+use Rattle.std.proofs.Common.{sym, ap, subst, ◌∙◌}
 use Rattle.stm_history.specs.Opening.{Opening, opening_at}
 use Rattle.stm_world.specs.World.{World}
 use Rattle.stm_retry.specs.Kept.{whole_world, IsKeptBy}

@@ -4,6 +4,7 @@
 //! `written_*` write. No line has a number that is not whole.
 #![tactic(auto)]
 
+mod arrays;
 mod event_lines;
 pub mod laws;
 mod lines;

@@ -9,7 +9,7 @@ use serde_json::Value as Json;
 use std::alloc::{AllocError, Global};
 
 /// The array of these parts. It fails where an allocation failed.
-pub(crate) fn parts_json(alloc: Global, parts: &[&dyn Spelled]) -> Result<Json, AllocError>
+pub fn parts_json(alloc: Global, parts: &[&dyn Spelled]) -> Result<Json, AllocError>
     ensures { IfOk result (λ v. view v ≡ list (map (λ part. spelled part.now) parts.now)) }
 {
     let mut values = Vec::new(alloc);
@@ -20,11 +20,7 @@ pub(crate) fn parts_json(alloc: Global, parts: &[&dyn Spelled]) -> Result<Json, 
 }
 
 /// The array of a word and these parts. It fails where an allocation failed.
-pub(crate) fn worded_json(
-    alloc: Global,
-    word: &str,
-    parts: &[&dyn Spelled],
-) -> Result<Json, AllocError>
+pub fn worded_json(alloc: Global, word: &str, parts: &[&dyn Spelled]) -> Result<Json, AllocError>
     ensures { IfOk result (λ v. view v ≡ list (string word.now ∷ map (λ part. spelled part.now) parts.now)) }
 {
     let mut values = Vec::new(alloc);

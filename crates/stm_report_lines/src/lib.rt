@@ -16,6 +16,7 @@ mod words;
 mod written_items;
 mod written_lines;
 
+pub use arrays::{parts_json, worded_json};
 pub use reading::read_report;
 pub use stm_events::{
     CommittedRead, Denied, Event, EventRefusal, Expired, Fault, KeyRead, OpReply, Reply, Report,

@@ -113,6 +113,14 @@ impl<T: Spelled> Spelled for Option<T> {
     }
 }
 
+impl<T: Spelled> Spelled for &[T] {
+    ghost spelled = { λ items. list (map T.spelled items.now) };
+
+    fn to_json(&self, alloc: Global) -> Result<Json, AllocError> {
+        array_json(alloc, self)
+    }
+}
+
 impl<T: Spelled> Spelled for Sequence<T> {
     ghost spelled = { λ items. list (map T.spelled items) };
 

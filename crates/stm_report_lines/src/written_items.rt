@@ -56,7 +56,7 @@ impl Spelled for &str {
     ghost spelled = { λ text. string text.now };
 
     fn to_json(&self, alloc: Global) -> Result<Json, AllocError> {
-        Json::try_from_str(alloc, self)
+        Json::try_from_str(alloc, *self)
     }
 }
 
@@ -117,7 +117,7 @@ impl<T: Spelled> Spelled for &[T] {
     ghost spelled = { λ items. list (map T.spelled items.now) };
 
     fn to_json(&self, alloc: Global) -> Result<Json, AllocError> {
-        array_json(alloc, self)
+        array_json(alloc, *self)
     }
 }
 

@@ -2,7 +2,7 @@
 
 use crate::spots::{Event, Spot, name_in};
 use crate::wanted::is_level;
-use stm_tokens::{Symbol, TokenKind, Word};
+use stm_tokens::{Operator, Symbol, TokenKind, Word};
 
 /// What is said of words that have no place in a source, which people know from elsewhere; nothing of others.
 pub(crate) fn said_of_word(word: &str) -> &'static str {
@@ -50,7 +50,7 @@ fn said_of_symbol(spot: Spot<'_>, symbol: Symbol) -> &'static str {
     match symbol {
         Symbol::Semicolon => "events stand one behind another, without it",
         Symbol::RightBrace | Symbol::RightParenthesis => "no bracket is open before it",
-        Symbol::Divide => "a comment begins with //",
+        Symbol::Arithmetic(Operator::Div) => "a comment begins with //",
         Symbol::Comma if spot.event() == Some(Event::Step) => {
             "runners stand one behind another, without it"
         }

@@ -1,11 +1,10 @@
 -- A key that is read as it is now.
-use Rattle.std.proofs.Common.{◌≡◌, ℕ, Bool, true, false, cond, List, length, Option, Result, Ok, Err, subst, ap, arith}
+use Rattle.std.proofs.Common.{◌≡◌, ℕ, Bool, true, false, cond, List, length, Option, Ok, Err, subst, ap, arith}
 use Rattle.std.specs.Prelude.{nat_eq, nat_lt}
 use Rattle.stm_history.specs.declared.key_state.KeyState.{KeyState}
 use Rattle.stm_history.specs.declared.key_state.ReadAnswer.{ReadAnswer}
 use Rattle.stm_history.specs.History.{History, now, key_at, key_now}
 use Rattle.stm_history.proofs.HistoryLaws.{last_revision_is_now}
-use Rattle.stm_outcome.specs.declared.refusal.Refusal.{Refusal}
 use Rattle.stm_outcome.specs.declared.refusal.Refusal.TheVariants.{EmptyKey, FutureRevision}
 use Rattle.stm_txn.specs.Standing.{Standing}
 use Rattle.stm_journal.specs.Fetched.{fetched, fetch_reported, read_reported}

@@ -53,16 +53,16 @@ or_false : (a : Bool) → a ≡ (a || false)
 or_false true = refl
 or_false false = refl
 
-mutual
-  among_operators : (os : List Operator) (word : List ℕ) (other : Option ExprWord)
-      → is_some (operator_or other (named_in os word)) ≡ (is_some other || is_among word (map operator_word os))
-  among_operators [] word other = or_false (is_some other)
-  among_operators (o ∷ os) word other = by_test os word other o (same word (operator_word o))
+by_test : (os : List Operator) (word : List ℕ) (other : Option ExprWord) (o : Operator) (b : Bool)
+    → is_some (operator_or other (named_in os word)) ≡ (is_some other || is_among word (map operator_word os))
+    → is_some (operator_or other (cond b (Some o) (named_in os word))) ≡ (is_some other || (b || is_among word (map operator_word os)))
+by_test os word other o true rest = or_true (is_some other)
+by_test os word other o false rest = rest
 
-  by_test : (os : List Operator) (word : List ℕ) (other : Option ExprWord) (o : Operator) (b : Bool)
-      → is_some (operator_or other (cond b (Some o) (named_in os word))) ≡ (is_some other || (b || is_among word (map operator_word os)))
-  by_test os word other o true = or_true (is_some other)
-  by_test os word other o false = among_operators os word other
+among_operators : (os : List Operator) (word : List ℕ) (other : Option ExprWord)
+    → is_some (operator_or other (named_in os word)) ≡ (is_some other || is_among word (map operator_word os))
+among_operators [] word other = or_false (is_some other)
+among_operators (o ∷ os) word other = by_test os word other o (same word (operator_word o)) (among_operators os word other)
 
 one_more : (b c d e : Bool) → c ≡ (d || e) → (b || c) ≡ ((b || d) || e)
 one_more true c d e is = refl

@@ -1,7 +1,6 @@
 -- Waits as they are spelled on the command line, and those that a scenario has no runners for.
 use Rattle.std.specs.Prelude.{◌≡◌, ℕ, nat_eq, nat_lt, Bool, true, false, ◌||◌, List, [], ◌∷◌, ◌++◌, length, map, Option, Some, codes, decimal}
 use Rattle.std.specs.List.{concat, find}
-use Rattle.stm_json.specs.declared.read_error.BadInput.{BadInput}
 use Rattle.stm_json.specs.declared.cause.Cause.TheVariants.{Range}
 use Rattle.stm_schedules.specs.Scenarios.{up_to_last_start}
 use Rattle.stm_serial_search.specs.Search.{programs_started}

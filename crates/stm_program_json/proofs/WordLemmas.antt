@@ -42,19 +42,20 @@ other_word-is w x h =
     (λ (n : None ≡ Some x). cc))))))
     h
 
--- the first of these that has the word, or what else it is
-mutual
-  operator_or-is : (os : List Operator) (w : List ℕ) (x : ExprWord) (other : Option ExprWord) → (other ≡ Some x → w ≡ expression_text x)
-      → operator_or other (named_in os w) ≡ Some x → w ≡ expression_text x
-  operator_or-is [] w x other others h = others h
-  operator_or-is (o ∷ os) w x other others h = by_test os w x other others o (same w (operator_word o)) (bytes_eq-Decides w (operator_word o)).0 h
+by_test : (os : List Operator) (w : List ℕ) (x : ExprWord) (other : Option ExprWord) (o : Operator) (b : Bool) → (b ≡ true → w ≡ operator_word o)
+    → (operator_or other (named_in os w) ≡ Some x → w ≡ expression_text x) → operator_or other (cond b (Some o) (named_in os w)) ≡ Some x
+    → w ≡ expression_text x
+by_test os w x other o true found rest h =
+    let e : expression.Binary (binary.Arithmetic o) ≡ x = cc in
+    found refl ∙ ap expression_text e
+by_test os w x other o false found rest h = rest h
 
-  by_test : (os : List Operator) (w : List ℕ) (x : ExprWord) (other : Option ExprWord) → (other ≡ Some x → w ≡ expression_text x)
-      → (o : Operator) (b : Bool) → (b ≡ true → w ≡ operator_word o) → operator_or other (cond b (Some o) (named_in os w)) ≡ Some x → w ≡ expression_text x
-  by_test os w x other others o true found h =
-      let e : expression.Binary (binary.Arithmetic o) ≡ x = cc in
-      found refl ∙ ap expression_text e
-  by_test os w x other others o false found h = operator_or-is os w x other others h
+-- the first of these that has the word, or what else it is
+operator_or-is : (os : List Operator) (w : List ℕ) (x : ExprWord) (other : Option ExprWord) → (other ≡ Some x → w ≡ expression_text x)
+    → operator_or other (named_in os w) ≡ Some x → w ≡ expression_text x
+operator_or-is [] w x other others h = others h
+operator_or-is (o ∷ os) w x other others h =
+    by_test os w x other o (same w (operator_word o)) (bytes_eq-Decides w (operator_word o)).0 (operator_or-is os w x other others) h
 
 pub expression_word-is : (w : List ℕ) (x : ExprWord) → expression_word w ≡ Some x → w ≡ expression_text x
 unfolding expression_word

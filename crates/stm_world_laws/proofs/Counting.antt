@@ -1,29 +1,24 @@
 -- The replies tell the store's revision after each event.
-use Rattle.std.proofs.Common.{◌≡◌, ℕ, zero, suc, ◌+◌, List, [], ◌∷◌, ◌++◌, length, Option, Some, None, Bool, true, false, cond, Ok, Err, refl, sym, ap, ◌∙◌}
+use Rattle.std.proofs.Common.{◌≡◌, ℕ, zero, suc, ◌+◌, List, [], ◌∷◌, length, Option, Some, None, Bool, true, false, cond, Ok, Err, refl, sym, ap, ◌∙◌}
 use Rattle.std.specs.Prelude.{Result, nat_lt, nat_eq}
 use Rattle.std.specs.FinMap as finmap
 use Rattle.stm_history.specs.declared.change.Change.{Change}
 use Rattle.stm_history.specs.declared.key_state.ReadAnswer.{ReadAnswer}
 use Rattle.stm_history.specs.History.{History, now, key_now}
-use Rattle.stm_program.specs.declared.level.Level.{Level}
 use Rattle.stm_steps.specs.declared.run.End.{End}
 use Rattle.stm_steps.specs.declared.run.End.TheVariants.{Done as DoneEnd, Aborted as AbortedEnd, Faulted as FaultedEnd}
 use Rattle.stm_steps.specs.declared.run.Run.{Run}
 use Rattle.stm_steps.specs.declared.run.Answered.{Answered}
 use Rattle.stm_steps.specs.declared.run.Answered.TheVariants.{Ended as EndedRun, Wants}
-use Rattle.stm_leases.specs.declared.errors.GrantError.{GrantError}
-use Rattle.stm_leases.specs.LeaseLog.{Term}
 use Rattle.stm_leases.specs.Live.{is_live_in, grant_refusal}
 use Rattle.stm_leases.specs.DueFirst.{first_due}
 use Rattle.stm_watch.specs.declared.refusal.WatchRefusal.{WatchRefusal}
 use Rattle.stm_watch.specs.declared.refusal.PollRefusal.{PollRefusal}
 use Rattle.stm_watch.specs.declared.refusal.PollRefusal.TheVariants.{NoWatcher as NoneToPoll, Compacted as LostToPoll, OutOfMemory as NoMemoryToPoll}
-use Rattle.stm_watch.specs.declared.watched.Watched.{Watched}
 use Rattle.stm_watch.specs.declared.watched.Watched.TheVariants.{Key, Range}
 use Rattle.stm_watch.specs.declared.watchers.Batch.{Batch}
 use Rattle.stm_watch.specs.Watching.{Watching}
 use Rattle.stm_watch.specs.Calls.{watch, poll, watcher_at, Step as WatchStep}
-use Rattle.stm_outcome.specs.declared.advance.Expired.{Expired}
 use Rattle.stm_outcome.specs.declared.answer.FailedCompare.{FailedCompare}
 use Rattle.stm_outcome.specs.declared.answer.OpAnswer.{OpAnswer}
 use Rattle.stm_outcome.specs.declared.txn.Txn.{Txn}
@@ -37,7 +32,7 @@ use Rattle.stm_outcome.specs.Outcome.{Done, outcome, chosen, finished, unless, w
 use Rattle.stm_txn.specs.LeaseKeys.{deletions_of}
 use Rattle.stm_txn.specs.Grants.{grant_refusal_of}
 use Rattle.stm_txn.specs.Standing.{Standing, Step as StoreStep, Advance as StoreAdvance, terms_of, step_of, transacted, with_lease, granted, kept_alive, without_lease}
-use Rattle.stm_txn.specs.Standing.{ended, with_revision, revoked, after, expired_in, expire_up_to, at_moment, advanced, watch_step, watched, poll_step, polled}
+use Rattle.stm_txn.specs.Standing.{ended, with_revision, after, expired_in, expire_up_to, at_moment, advanced, watch_step, watched, poll_step}
 use Rattle.stm_txn.specs.Standing.{cancel_step, cancelled, with_floor, floor_step, compaction_refusal, raised}
 use Rattle.stm_compile.specs.Committed.{committed}
 use Rattle.stm_attempt.specs.Entering.{is_due}
@@ -47,15 +42,14 @@ use Rattle.stm_events.specs.declared.event.WorldEvent.{WorldEvent}
 use Rattle.stm_events.specs.declared.event.WorldEvent.TheVariants.{Start, Step, Txn as TxnEvent, Grant, Keep, Revoke, Advance}
 use Rattle.stm_events.specs.declared.event.WorldEvent.TheVariants.{WatchKey, WatchRange, Poll, Cancel, Compact}
 use Rattle.stm_events.specs.declared.reply.Reply.{Reply}
-use Rattle.stm_events.specs.declared.reply.Reply.TheVariants.{Started, Granted, Kept, Revoked, Watching as WatchingReply, Cancelled, Compacted}
+use Rattle.stm_events.specs.declared.reply.Reply.TheVariants.{Granted, Kept, Revoked, Watching as WatchingReply, Cancelled, Compacted}
 use Rattle.stm_events.specs.declared.refusal.Denied.{Denied}
-use Rattle.stm_events.specs.declared.refusal.EventRefusal.TheVariants.{BadLimit}
 use Rattle.stm_events.specs.Replies.{txn_reply, reply_to, store_after_call, advance_reply, poll_reply, store_after_poll}
 use Rattle.stm_world.specs.Task.{Task}
-use Rattle.stm_world.specs.World.{World, Stepped, Runner, Slot, Live, begin, refused, start_runner, runner_at, fetch, fetch_at, fetch_list, decided, commit_reported}
+use Rattle.stm_world.specs.World.{World, Stepped, Runner, start_runner, runner_at, fetch, fetch_at, fetch_list, decided, commit_reported}
 use Rattle.stm_world.specs.World.{commit, finish, step_on, step_live, step_runner, step, replies_to}
 use Rattle.stm_reasons.specs.Counters.{last_expired, counter_after, counters}
-use Rattle.stm_world_laws.specs.Reasons.{revisions_reached, RepliesTellRevisions}
+use Rattle.stm_world_laws.specs.Reasons.{RepliesTellRevisions}
 
 -- the reply tells the revision that the next world's store is at
 abbrev Tells : World → Stepped → Type 0

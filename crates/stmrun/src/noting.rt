@@ -71,7 +71,7 @@ pub(crate) struct Keeping<W> {
     bytes: Vec<u8>,
 }
 
-impl<W> Keeping<W> {
+impl<W: Drop> Keeping<W> {
     /// A writer to which nothing has been written.
     pub(crate) fn new(alloc: Global, device: W) -> Keeping<W> {
         Keeping {

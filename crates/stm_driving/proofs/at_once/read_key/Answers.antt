@@ -1,6 +1,5 @@
-use Rattle.std.proofs.Common.{All, List, subst, sym, rules}
+use Rattle.std.proofs.Common.{All, subst, sym, rules}
 use Rattle.std.proofs.lemmas.List.Elements.{All-push}
-use Rattle.stm_history.specs.declared.key_state.ReadAnswer.{ReadAnswer}
 use Rattle.stm_driving.specs.AtOnce.{IsReadNow}
 use Rattle.stm_driving.proofs.ReadsNow.{read_is_now}
 use Rattle.stm_driving.proofs.at_once.read_key.Goals as goal

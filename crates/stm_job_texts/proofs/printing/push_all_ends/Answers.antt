@@ -1,4 +1,4 @@
-use Rattle.std.proofs.Common.{◌∷◌, ◌++◌, map, length, refl, string_bytes, codes, ◌∙◌}
+use Rattle.std.proofs.Common.{◌∷◌, ◌++◌, map, refl, string_bytes, codes}
 use Rattle.stm_job.specs.Ends.{attempts_of}
 use Rattle.stm_job_texts.specs.Lines.{attempts_in_all, conflicts_line, count_line, lines_of_ends}
 use Rattle.stm_job_texts.proofs.LineLemmas.{three_parts}

@@ -1,4 +1,4 @@
-use Rattle.std.proofs.Common.{◌≡◌, subst, sym}
+use Rattle.std.proofs.Common.{subst, sym}
 use Rattle.stm_watch.specs.Calls.{StandFor}
 use Rattle.stm_tests.proofs.revisions.watched.Goals as goal
 

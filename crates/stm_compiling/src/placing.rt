@@ -300,6 +300,22 @@ fn programs_started(
     programs
 }
 
+/// The programs of a source of this text that has a rule of a name; of another, those with the line behind it that starts the program of that name, with
+/// these words as its arguments.
+fn programs_with(
+    alloc: Global,
+    text: &str,
+    name: &str,
+    words: &[String],
+) -> Result<MarkedPrograms, AllocError> {
+    let programs = programs_of(alloc, text)?;
+    if program_of_rule(programs.rules.as_slice(), name).is_some() {
+        return Ok(programs);
+    }
+    drop(programs);
+    programs_started(alloc, text, name, words)
+}
+
 /// The program of the rule of a name, or else the one that is started last.
 fn program_named<'a>(programs: &'a MarkedPrograms, name: &str) -> Option<&'a MarkedProgram> {
     match program_of_rule(programs.rules.as_slice(), name) {
@@ -339,7 +355,7 @@ pub fn placed_program<'a>(
     let places = SourcePlaces {
         name,
         text,
-        programs: programs_started(alloc, text, program, words)?,
+        programs: programs_with(alloc, text, program, words)?,
     };
     let indices = indices_of(alloc, pointer)?;
     let at = place_named(alloc, &places.programs, program, indices.as_slice())?;

@@ -63,15 +63,16 @@ fn judge_beside<O: Observer>(
     requires comparing { setting.now.comparing ≡ true → IsComparing (beginning setting.now) }
     ensures { IfOk result (λ answers. AreFoundBeside setting.now.waits.now rules.now (beginning setting.now) setting.now.ends.now answers.items) }
 {
-    let Setting {
-        world,
-        others,
-        programs,
-        comparing,
-        ..
-    } = setting;
     match setting.waits {
-        [] => judge(alloc, world, others, programs, *comparing, rules, budget),
+        [] => judge(
+            alloc,
+            setting.world,
+            setting.others,
+            setting.programs,
+            setting.comparing,
+            rules,
+            budget,
+        ),
         [_, ..] => judge_waiting(alloc, setting, When::Each, rules, seen, budget),
     }
 }
@@ -210,14 +211,14 @@ fn judge_and_tell<O: Audience>(
 }
 
 /// Whether each rule is kept after every schedule in which these runners wait, once these events were run in a world, which start these programs.
-fn explore_from<O: Audience>(
+fn explore_from<'a, O: Audience>(
     alloc: Global,
-    world: &mut World,
+    world: &'a mut World,
     setup: &[WorldEvent],
-    others: &[WorldEvent],
-    programs: &[Program],
+    others: &'a [WorldEvent],
+    programs: &'a [Program],
     comparing: bool,
-    waits: &[Wait],
+    waits: &'a [Wait],
     rules: &[Rule],
     budget: &mut Budget<O>,
 ) -> Result<Vec<RuleAnswer>, AllocError>

@@ -85,7 +85,7 @@ fn ends_json(alloc: Global, entries: &[Entry], ends: &[JobEnd]) -> Result<Json, 
 }
 
 /// A key with its value.
-fn pair_json(alloc: Global, key: &str, value: &str) -> Result<Json, AllocError>
+fn pair_json<'a>(alloc: Global, key: &'a str, value: &'a str) -> Result<Json, AllocError>
     ensures { IfOk result (λ v. view v ≡ pair_data key.now value.now) }
 {
     parts_json(alloc, &[&key, &value])

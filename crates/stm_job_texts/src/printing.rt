@@ -25,7 +25,7 @@ fn count_json(alloc: Global, word: &str, count: u64) -> Result<Json, AllocError>
 }
 
 /// The line of a key that is present.
-fn value_json(alloc: Global, key: &str, value: &str) -> Result<Json, AllocError>
+fn value_json<'a>(alloc: Global, key: &'a str, value: &'a str) -> Result<Json, AllocError>
     ensures { IfOk result (λ v. view v ≡ value_line key.now value.now) }
 {
     worded_json(alloc, "value", &[&key, &value])
@@ -66,11 +66,11 @@ fn number_json(
 }
 
 /// The line of a job whose end has a text.
-fn text_json(
+fn text_json<'a>(
     alloc: Global,
     job: u64,
-    word: &str,
-    reported: &str,
+    word: &'a str,
+    reported: &'a str,
     attempts: u64,
 ) -> Result<Json, AllocError>
     ensures { IfOk result (λ v. view v ≡ job_line job word.now (string reported.now) attempts) }

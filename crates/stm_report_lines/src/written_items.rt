@@ -191,11 +191,11 @@ impl Spelled for OpReply {
 }
 
 /// A word, a key, and what it has.
-pub(crate) fn keyed_json(
+pub(crate) fn keyed_json<'a>(
     alloc: Global,
     word: &str,
-    key: &str,
-    state: &KeyState,
+    key: &'a str,
+    state: &'a KeyState,
 ) -> Result<Json, AllocError>
     ensures { IfOk result (λ v. view v ≡ keyed_data word.now key.now state.now) }
 {

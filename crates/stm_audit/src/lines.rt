@@ -7,9 +7,9 @@ ghost use Rattle.stm_audit.specs.Lines.{finding_word, finding_line, findings_tex
 
 use crate::auditing::Audited;
 use crate::finding::Finding;
-use serde_json::{Value as Json, json};
+use serde_json::Value as Json;
 use std::alloc::{AllocError, Global};
-use stm_report_lines::push_line;
+use stm_report_lines::{push_line, worded_json};
 
 /// The word that the line of a finding begins with.
 fn finding_word(is_broken: bool) -> &'static str
@@ -23,7 +23,18 @@ fn finding_json(alloc: Global, finding: &Finding) -> Result<Json, AllocError>
     ensures { IfOk result (λ v. view v ≡ finding_line finding.now) }
 {
     let word = finding_word(finding.is_broken);
-    json!(in alloc; [word, finding.commit, finding.anomaly.name(), finding.key.as_str(), finding.seen, finding.held])
+    let anomaly = finding.anomaly.name();
+    worded_json(
+        alloc,
+        word,
+        &[
+            &finding.commit,
+            &anomaly,
+            &finding.key,
+            &finding.seen,
+            &finding.held,
+        ],
+    )
 }
 
 /// Adds the line of a finding.
@@ -49,8 +60,8 @@ fn end_json(alloc: Global, off: Option<u64>, commits: u64) -> Result<Json, Alloc
     ensures { IfOk result (λ v. view v ≡ end_line off commits) }
 {
     match off {
-        Some(number) => json!(in alloc; ["off", number]),
-        None => json!(in alloc; ["commits", commits]),
+        Some(number) => worded_json(alloc, "off", &[&number]),
+        None => worded_json(alloc, "commits", &[&commits]),
     }
 }
 

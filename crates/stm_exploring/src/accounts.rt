@@ -762,9 +762,8 @@ fn make_account<O: Audience>(
     tell_orders(&account, answers, seen, audience)
 }
 
-/// Says how the runs ended of the runners of which it is told, each program run alone in every serial order, or at the ends of schedules, where these were
-/// seen, and which keys the rules ask for that are not
-/// there and that nothing puts. Or it says that an allocation failed for it.
+/// Says how the runs ended of the runners of which it is told, each program run alone in every serial order, or at the ends of schedules, where these
+/// were seen, and which keys the rules ask for that are not there and that nothing puts. Or it says that an allocation failed for it.
 pub(crate) fn tell_account<O: Audience>(
     alloc: Global,
     world: &World,

@@ -105,11 +105,13 @@ fn finish<W: Sink, E: Sink>(searched: Result<Printed, ExploreFault>, out: &mut W
 /// and after every schedule of at most LENGTH moves it does. The observer of `budget` is notified of how far the search is, and that it has ended
 /// before anything is written.
 ///
-/// Of the schedules those alone are looked at in which the runners wait for others, as `waits` says. The steps of the scenario are left out. Each start is taken at `level`, where one is named. The scenario is read and judged first, then the
-/// program, and then whether the scenario has the runners of the waits. Status 2 is for a bad scenario, a bad program and a bad wait, 3 for a failed allocation and for a failed device other than `err`: then nothing was written,
-/// but for a front where `out` has failed. On `err` it says what went wrong, and takes no memory for it: `stmrun: bad scenario at PLACE: CAUSE`,
-/// `stmrun: bad program at PLACE: CAUSE`, `stmrun: bad wait RUNNER:FIRST: Range`, `stmrun: out of memory` or `stmrun: device fault`, whole where `err` then has not failed. That `err`
-/// fails changes no status. None of the devices has failed before. `scenario` and `keeps` are read at most 16777217 times each.
+/// Of the schedules those alone are looked at in which the runners wait for others, as `waits` says. The steps of the scenario are left out. Each
+/// start is taken at `level`, where one is named. The scenario is read and judged first, then the program, and then whether the scenario has the
+/// runners of the waits. Status 2 is for a bad scenario, a bad program and a bad wait, 3 for a failed allocation and for a failed device other than
+/// `err`: then nothing was written, but for a front where `out` has failed. On `err` it says what went wrong, and takes no memory for it:
+/// `stmrun: bad scenario at PLACE: CAUSE`, `stmrun: bad program at PLACE: CAUSE`, `stmrun: bad wait RUNNER:FIRST: Range`, `stmrun: out of memory` or
+/// `stmrun: device fault`, whole where `err` then has not failed. That `err` fails changes no status. None of the devices has failed before.
+/// `scenario` and `keeps` are read at most 16777217 times each.
 pub fn explore_to<S: Source, R: Source, W: Sink, E: Sink, O: Audience>(
     alloc: Global,
     scenario: &mut S,

@@ -41,11 +41,12 @@ fn search_alone<O: Audience>(
 /// Reads a scenario from its source to the end, then the program of a rule from its own, and looks after which schedules of the scenario the
 /// rule is kept: the first by length, and then by the order of their moves, after which it is not, or that there is none.
 ///
-/// Of the schedules those alone are looked at in which the runners wait for others, as `waits` says. The steps of the scenario are left out. Each start is taken at the level that is named, where one is. At most as many events are taken as `budget` has left, and its observer is notified
-/// of how far the search is. Neither source has failed before. It fails as `BadScenario` with the scenario's first fault,
-/// and then the program is not read; as `BadProgram` with the program's first fault; as `BadWait` with the first wait for which the scenario does not have
-/// the runners; as `OutOfMemory` where an allocation failed; and as
-/// `Device` exactly where a source has failed. At most 16777217 bytes of each are read, in at most that many reads of each.
+/// Of the schedules those alone are looked at in which the runners wait for others, as `waits` says. The steps of the scenario are left out. Each
+/// start is taken at the level that is named, where one is. At most as many events are taken as `budget` has left, and its observer is notified of
+/// how far the search is. Neither source has failed before. It fails as `BadScenario` with the scenario's first fault, and then the program is not
+/// read; as `BadProgram` with the program's first fault; as `BadWait` with the first wait for which the scenario does not have the runners; as
+/// `OutOfMemory` where an allocation failed; and as `Device` exactly where a source has failed. At most 16777217 bytes of each are read, in at most
+/// that many reads of each.
 pub fn explore_sources<S: Source, R: Source, O: Audience>(
     alloc: Global,
     scenario: &mut S,

@@ -36,6 +36,7 @@ mod searching;
 mod seen_ends;
 mod serial;
 mod serial_levels;
+mod setting;
 mod setup;
 mod waits;
 mod watching;

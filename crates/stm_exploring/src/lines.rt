@@ -9,18 +9,18 @@ ghost use Rattle.stm_exploring.specs.Lines.{count_line, end_data};
 
 use crate::judging::Answer;
 use crate::rules::RuleAnswer;
-use serde_json::{Value as Json, json};
+use serde_json::Value as Json;
 use std::alloc::{AllocError, Global};
 use stm_explore::Explored;
 use stm_history::Text;
 use stm_meaning::End;
-use stm_report_lines::push_line;
+use stm_report_lines::{push_line, worded_json};
 
 /// The line of a word and a number.
 fn count_json(alloc: Global, word: &str, count: u64) -> Result<Json, AllocError>
     ensures { IfOk result (λ v. view v ≡ count_line word.now count) }
 {
-    json!(in alloc; [word, count])
+    worded_json(alloc, word, &[&count])
 }
 
 /// Adds the line of a word and a number.
@@ -41,9 +41,9 @@ fn end_json(alloc: Global, end: &End) -> Result<Json, AllocError>
     ensures { IfOk result (λ v. view v ≡ end_data end.now) }
 {
     match end {
-        End::Done => json!(in alloc; ["done"]),
-        End::Aborted(text) => json!(in alloc; ["aborted", text.as_str()]),
-        End::Faulted(fault) => json!(in alloc; ["faulted", fault.name()]),
+        End::Done => worded_json(alloc, "done", &[]),
+        End::Aborted(text) => worded_json(alloc, "aborted", &[text]),
+        End::Faulted(fault) => worded_json(alloc, "faulted", &[fault]),
     }
 }
 
@@ -51,9 +51,8 @@ fn end_json(alloc: Global, end: &End) -> Result<Json, AllocError>
 pub(crate) fn count_parts(alloc: Global, word: &str, count: u64) -> Result<Vec<Json>, AllocError>
     ensures { IfOk result (λ parts. map view parts.items ≡ string word.now ∷ whole count ∷ []) }
 {
-    let word = json!(in alloc; word)?;
-    let count = json!(in alloc; count)?;
-    let parts = vec![in alloc; word, count]?;
+    let word = Json::try_from_str(alloc, word)?;
+    let parts = vec![in alloc; word, Json::from(count)]?;
     Ok(parts)
 }
 
@@ -61,7 +60,7 @@ pub(crate) fn count_parts(alloc: Global, word: &str, count: u64) -> Result<Vec<J
 fn always_parts(alloc: Global) -> Result<Vec<Json>, AllocError>
     ensures { IfOk result (λ parts. map view parts.items ≡ string (codes "always") ∷ null ∷ []) }
 {
-    let word = json!(in alloc; "always")?;
+    let word = Json::try_from_str(alloc, "always")?;
     let parts = vec![in alloc; word, Json::Null]?;
     Ok(parts)
 }
@@ -70,10 +69,9 @@ fn always_parts(alloc: Global) -> Result<Vec<Json>, AllocError>
 fn broken_parts(alloc: Global, moves: u64, end: &End) -> Result<Vec<Json>, AllocError>
     ensures { IfOk result (λ parts. map view parts.items ≡ string (codes "broken") ∷ whole moves ∷ end_data end.now ∷ []) }
 {
-    let word = json!(in alloc; "broken")?;
-    let moves = json!(in alloc; moves)?;
+    let word = Json::try_from_str(alloc, "broken")?;
     let end = end_json(alloc, end)?;
-    let parts = vec![in alloc; word, moves, end]?;
+    let parts = vec![in alloc; word, Json::from(moves), end]?;
     Ok(parts)
 }
 
@@ -105,7 +103,7 @@ fn answer_parts(alloc: Global, answer: &Answer) -> Result<Vec<Json>, AllocError>
 pub(crate) fn push_word(alloc: Global, parts: &mut Vec<Json>, word: &str) -> Result<(), AllocError>
     ensures { OnOk result (map view parts.new.items ≡ map view parts.old.items ++ string word.now ∷ []) }
 {
-    let word = json!(in alloc; word)?;
+    let word = Json::try_from_str(alloc, word)?;
     parts.push(word)?;
     Ok(())
 }

@@ -9,12 +9,12 @@ ghost use Rattle.stm_exploring.specs.Questions.{witness_text};
 use crate::lines::push_count;
 use crate::lists::{Written, list_json};
 use crate::schedule_lines::push_scheduled;
-use serde_json::{Value as Json, json};
+use serde_json::Value as Json;
 use std::alloc::{AllocError, Global};
 use std::collections::BTreeSet;
 use stm_history::{Sequence, Text};
 use stm_meaning::Value;
-use stm_report_lines::{array_json, push_line};
+use stm_report_lines::{parts_json, push_line, worded_json};
 use stm_schedules::{KeyValue, Move, Outcome, RunnerEnd};
 use stm_texts::Scenario;
 
@@ -22,7 +22,7 @@ impl Written for KeyValue {
     ghost written = { key_value_data };
 
     fn to_json(&self, alloc: Global) -> Result<Json, AllocError> {
-        json!(in alloc; [self.key.as_str(), self.value.as_str()])
+        parts_json(alloc, &[&self.key, &self.value])
     }
 }
 
@@ -30,8 +30,7 @@ impl Written for KeyValue {
 fn committed_json(alloc: Global, output: &[Value]) -> Result<Json, AllocError>
     ensures { IfOk result (λ v. view v ≡ runner_end_data (Committed output.now)) }
 {
-    let output = array_json(alloc, output)?;
-    json!(in alloc; ["committed", output])
+    worded_json(alloc, "committed", &[&output])
 }
 
 impl Written for RunnerEnd {
@@ -40,10 +39,10 @@ impl Written for RunnerEnd {
     fn to_json(&self, alloc: Global) -> Result<Json, AllocError> {
         match self {
             RunnerEnd::Committed { output } => committed_json(alloc, output.as_slice()),
-            RunnerEnd::GaveUp { key } => json!(in alloc; ["gaveup", key.as_str()]),
-            RunnerEnd::Aborted { text } => json!(in alloc; ["aborted", text.as_str()]),
-            RunnerEnd::Faulted { fault } => json!(in alloc; ["faulted", fault.name()]),
-            RunnerEnd::Ended { cause } => json!(in alloc; ["ended", cause.name()]),
+            RunnerEnd::GaveUp { key } => worded_json(alloc, "gaveup", &[key]),
+            RunnerEnd::Aborted { text } => worded_json(alloc, "aborted", &[text]),
+            RunnerEnd::Faulted { fault } => worded_json(alloc, "faulted", &[fault]),
+            RunnerEnd::Ended { cause } => worded_json(alloc, "ended", &[cause]),
         }
     }
 }
@@ -52,9 +51,11 @@ impl Written for RunnerEnd {
 fn outcome_json(alloc: Global, outcome: &Outcome) -> Result<Json, AllocError>
     ensures { IfOk result (λ v. view v ≡ outcome_line outcome.now) }
 {
+    let word = Json::try_from_str(alloc, "outcome")?;
     let state = list_json(alloc, outcome.state.as_slice())?;
     let ends = list_json(alloc, outcome.ends.as_slice())?;
-    json!(in alloc; ["outcome", state, ends])
+    let parts = vec![in alloc; word, state, ends]?;
+    Ok(Json::Array(parts))
 }
 
 /// Adds the line of an outcome.

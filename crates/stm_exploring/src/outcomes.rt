@@ -178,9 +178,10 @@ fn answer<O: Audience>(
 /// Reads a scenario from its source to the end, and looks what its whole schedules come to: the state, and how each runner ended. Where it is asked,
 /// each has the scenario with a schedule that comes to it, or it is told whether a serial order comes to each.
 ///
-/// The steps of the scenario are left out. Each start is taken at the level that is named, where one is. At most as many events are taken as `budget` has left, and its observer is notified
-/// of how far the search is. The source has not failed before. It fails as `BadScenario` with the scenario's first fault; as `OutOfMemory` where an allocation failed; and as `Device` exactly where the source has failed. At most 16777217 bytes are read, in at
-/// most that many reads.
+/// The steps of the scenario are left out. Each start is taken at the level that is named, where one is. At most as many events are taken as `budget`
+/// has left, and its observer is notified of how far the search is. The source has not failed before. It fails as `BadScenario` with the scenario's
+/// first fault; as `OutOfMemory` where an allocation failed; and as `Device` exactly where the source has failed. At most 16777217 bytes are read, in
+/// at most that many reads.
 pub fn outcomes_of_source<S: Source, O: Audience>(
     alloc: Global,
     question: Question,

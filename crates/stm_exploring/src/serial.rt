@@ -15,7 +15,7 @@ use crate::naming::tell_name;
 use crate::printed::{Printed, SearchAnswer};
 use crate::schedule_lines::push_scheduled;
 use crate::setup::{run_setup, setup_and_others};
-use serde_json::{Value as Json, json};
+use serde_json::Value as Json;
 use std::alloc::{AllocError, Global};
 use stm_explore::{Budget, Outcome, SerialAnswer, find_anomaly};
 use stm_history::Text;
@@ -27,11 +27,10 @@ use stm_texts::{Scenario, WorldEvent, opens_with};
 fn anomaly_parts(alloc: Global, outcome: &Outcome, moves: u64) -> Result<Vec<Json>, AllocError>
     ensures { IfOk result (λ parts. map view parts.items ≡ anomaly_parts outcome.now moves) }
 {
-    let word = json!(in alloc; "anomaly")?;
-    let moves = json!(in alloc; moves)?;
+    let word = Json::try_from_str(alloc, "anomaly")?;
     let state = list_json(alloc, outcome.state.as_slice())?;
     let ends = list_json(alloc, outcome.ends.as_slice())?;
-    let parts = vec![in alloc; word, moves, state, ends]?;
+    let parts = vec![in alloc; word, Json::from(moves), state, ends]?;
     Ok(parts)
 }
 

@@ -4,6 +4,7 @@
 //! `written_*` write. No line has a number that is not whole.
 #![tactic(auto)]
 
+mod arrays;
 mod event_lines;
 pub mod laws;
 mod lines;
@@ -15,6 +16,7 @@ mod words;
 mod written_items;
 mod written_lines;
 
+pub use arrays::{parts_json, worded_json};
 pub use reading::read_report;
 pub use stm_events::{
     CommittedRead, Denied, Event, EventRefusal, Expired, Fault, KeyRead, OpReply, Reply, Report,

@@ -7,7 +7,8 @@ ghost use Rattle.stm_meaning.specs.Faults.{fault_name};
 ghost use Rattle.stm_report_lines.specs.LineData.{list, whole, null_or, value_data, trace_data, answer_data, state_data};
 ghost use Rattle.stm_report_lines.specs.LineData.{op_data, read_data, expired_data, keyed_data, event_data};
 
-use serde_json::{Value as Json, json};
+use crate::arrays::{parts_json, worded_json};
+use serde_json::Value as Json;
 use std::alloc::{AllocError, Global};
 use stm_events::{
     CommittedRead, Event, EventRefusal, Expired, Fault, KeyRead, OpReply, TraceItem, Value,
@@ -51,6 +52,14 @@ impl Spelled for bool {
     }
 }
 
+impl Spelled for &str {
+    ghost spelled = { λ text. string text.now };
+
+    fn to_json(&self, alloc: Global) -> Result<Json, AllocError> {
+        Json::try_from_str(alloc, *self)
+    }
+}
+
 impl Spelled for Text {
     ghost spelled = { string };
 
@@ -79,7 +88,16 @@ impl Spelled for KeyState {
     ghost spelled = { state_data };
 
     fn to_json(&self, alloc: Global) -> Result<Json, AllocError> {
-        json!(in alloc; [self.value.as_str(), self.create_rev, self.mod_rev, self.version, self.lease])
+        parts_json(
+            alloc,
+            &[
+                &self.value,
+                &self.create_rev,
+                &self.mod_rev,
+                &self.version,
+                &self.lease,
+            ],
+        )
     }
 }
 
@@ -92,6 +110,14 @@ impl<T: Spelled> Spelled for Option<T> {
             None => Ok(Json::Null),
             Some(it) => it.to_json(alloc),
         }
+    }
+}
+
+impl<T: Spelled> Spelled for &[T] {
+    ghost spelled = { λ items. list (map T.spelled items.now) };
+
+    fn to_json(&self, alloc: Global) -> Result<Json, AllocError> {
+        array_json(alloc, *self)
     }
 }
 
@@ -119,8 +145,8 @@ impl Spelled for TraceItem {
 
     fn to_json(&self, alloc: Global) -> Result<Json, AllocError> {
         match self {
-            TraceItem::Get { key, value } => json!(in alloc; ["get", key.as_str(), value.as_str()]),
-            TraceItem::Rev { key, mod_rev } => json!(in alloc; ["rev", key.as_str(), *mod_rev]),
+            TraceItem::Get { key, value } => worded_json(alloc, "get", &[key, value]),
+            TraceItem::Rev { key, mod_rev } => worded_json(alloc, "rev", &[key, mod_rev]),
         }
     }
 }
@@ -129,8 +155,10 @@ impl Spelled for CommittedRead {
     ghost spelled = { answer_data };
 
     fn to_json(&self, alloc: Global) -> Result<Json, AllocError> {
-        let value = self.value.to_json(alloc)?;
-        json!(in alloc; [self.key.as_str(), value, self.mod_rev, self.of_rev])
+        parts_json(
+            alloc,
+            &[&self.key, &self.value, &self.mod_rev, &self.of_rev],
+        )
     }
 }
 
@@ -138,7 +166,7 @@ impl Spelled for KeyRead {
     ghost spelled = { read_data };
 
     fn to_json(&self, alloc: Global) -> Result<Json, AllocError> {
-        json!(in alloc; [self.key.as_str(), self.mod_rev])
+        parts_json(alloc, &[&self.key, &self.mod_rev])
     }
 }
 
@@ -146,7 +174,7 @@ impl Spelled for Expired {
     ghost spelled = { expired_data };
 
     fn to_json(&self, alloc: Global) -> Result<Json, AllocError> {
-        json!(in alloc; [self.id, self.revision])
+        parts_json(alloc, &[&self.id, &self.revision])
     }
 }
 
@@ -155,26 +183,34 @@ impl Spelled for OpReply {
 
     fn to_json(&self, alloc: Global) -> Result<Json, AllocError> {
         match self {
-            OpReply::Get { revision, kv } => {
-                let kv = kv.to_json(alloc)?;
-                json!(in alloc; ["get", *revision, kv])
-            }
-            OpReply::Put => json!(in alloc; ["put"]),
-            OpReply::Del { count } => json!(in alloc; ["del", *count]),
+            OpReply::Get { revision, kv } => worded_json(alloc, "get", &[revision, kv]),
+            OpReply::Put => worded_json(alloc, "put", &[]),
+            OpReply::Del { count } => worded_json(alloc, "del", &[count]),
         }
     }
 }
 
 /// A word, a key, and what it has.
-pub(crate) fn keyed_json(
+pub(crate) fn keyed_json<'a>(
     alloc: Global,
     word: &str,
-    key: &str,
-    state: &KeyState,
+    key: &'a str,
+    state: &'a KeyState,
 ) -> Result<Json, AllocError>
     ensures { IfOk result (λ v. view v ≡ keyed_data word.now key.now state.now) }
 {
-    json!(in alloc; [word, key, state.value.as_str(), state.create_rev, state.mod_rev, state.version, state.lease])
+    worded_json(
+        alloc,
+        word,
+        &[
+            &key,
+            &state.value,
+            &state.create_rev,
+            &state.mod_rev,
+            &state.version,
+            &state.lease,
+        ],
+    )
 }
 
 impl Spelled for Event {
@@ -183,7 +219,10 @@ impl Spelled for Event {
     fn to_json(&self, alloc: Global) -> Result<Json, AllocError> {
         match self {
             Event::Put { key, state } => keyed_json(alloc, "PUT", key.as_str(), state),
-            Event::Delete { key, revision } => json!(in alloc; ["DELETE", key.as_str(), *revision]),
+            Event::Delete { key, revision } => {
+                let key = key.as_str();
+                worded_json(alloc, "DELETE", &[&key, revision])
+            }
         }
     }
 }

@@ -5,8 +5,9 @@ ghost use Rattle.serde_json.specs.Written.{has_float};
 ghost use Rattle.stm_events.specs.declared.line.ReportLine.TheVariants.{Key, Lease, End};
 ghost use Rattle.stm_report_lines.specs.LineData.{numbered, line_data, reply_data, event_data_of};
 
+use crate::arrays::worded_json;
 use crate::written_items::{Spelled, keyed_json};
-use serde_json::{Value as Json, json};
+use serde_json::Value as Json;
 use std::alloc::{AllocError, Global};
 use stm_events::{Denied, Reply};
 use stm_history::KeyState;
@@ -131,12 +132,12 @@ pub fn key_json(alloc: Global, key: &str, state: &KeyState) -> Result<Json, Allo
 pub fn lease_json(alloc: Global, id: u64, ttl: u64, renewed: u64) -> Result<Json, AllocError>
     ensures { IfOk result (λ v. view v ≡ line_data (Lease id ttl renewed)) }
 {
-    json!(in alloc; ["lease", id, ttl, renewed])
+    worded_json(alloc, "lease", &[&id, &ttl, &renewed])
 }
 
 /// The last line: the store's revision, and how many entries were made. It fails where an allocation failed.
 pub fn end_json(alloc: Global, revision: u64, entries: u64) -> Result<Json, AllocError>
     ensures { IfOk result (λ v. view v ≡ line_data (End revision entries)) }
 {
-    json!(in alloc; ["end", revision, entries])
+    worded_json(alloc, "end", &[&revision, &entries])
 }

@@ -3,13 +3,15 @@ ghost use Rattle.std.specs.Prelude.{◌≡◌, [], ◌∷◌, IfOk};
 ghost use Rattle.serde_json.specs.View.{view};
 ghost use Rattle.stm_json.specs.Parts.{spelled};
 
-use serde_json::{Value, json};
+use serde_json::Value;
 use std::alloc::{AllocError, Global};
 
 pub(crate) fn one_part(alloc: Global, word: &str, part: Value) -> Result<Value, AllocError>
     ensures { IfOk result (λ v. view v ≡ spelled word.now (view part ∷ [])) }
 {
-    json!(in alloc; [word, part])
+    let word = Value::try_from_str(alloc, word)?;
+    let parts = vec![in alloc; word, part]?;
+    Ok(Value::from(parts))
 }
 
 pub(crate) fn two_parts(
@@ -20,7 +22,9 @@ pub(crate) fn two_parts(
 ) -> Result<Value, AllocError>
     ensures { IfOk result (λ v. view v ≡ spelled word.now (view first ∷ view second ∷ [])) }
 {
-    json!(in alloc; [word, first, second])
+    let word = Value::try_from_str(alloc, word)?;
+    let parts = vec![in alloc; word, first, second]?;
+    Ok(Value::from(parts))
 }
 
 pub(crate) fn three_parts(
@@ -32,7 +36,7 @@ pub(crate) fn three_parts(
 ) -> Result<Value, AllocError>
     ensures { IfOk result (λ v. view v ≡ spelled word.now (view first ∷ view second ∷ view third ∷ [])) }
 {
-    let word = json!(in alloc; word)?;
+    let word = Value::try_from_str(alloc, word)?;
     let parts = vec![in alloc; word, first, second, third]?;
     Ok(Value::from(parts))
 }
@@ -47,7 +51,7 @@ pub(crate) fn four_parts(
 ) -> Result<Value, AllocError>
     ensures { IfOk result (λ v. view v ≡ spelled word.now (view first ∷ view second ∷ view third ∷ view fourth ∷ [])) }
 {
-    let word = json!(in alloc; word)?;
+    let word = Value::try_from_str(alloc, word)?;
     let parts = vec![in alloc; word, first, second, third, fourth]?;
     Ok(Value::from(parts))
 }

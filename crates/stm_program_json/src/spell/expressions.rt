@@ -5,7 +5,7 @@ ghost use Rattle.stm_json.specs.Parts.{spelled};
 ghost use Rattle.stm_program_json.specs.Writing.{written_expression, written_condition};
 
 use crate::spell::arrays::{one_part, two_parts};
-use serde_json::{Value, json};
+use serde_json::Value;
 use std::alloc::{AllocError, Global};
 use stm_program::{Cond, CondNode, Expr, ExprNode};
 
@@ -30,7 +30,7 @@ pub(crate) fn expression_value(alloc: Global, expression: &Expr) -> Result<Value
     ensures { IfOk result (λ v. view v ≡ written_expression expression.now) }
 {
     match &expression.node {
-        ExprNode::Text(text) => json!(in alloc; text.as_str()),
+        ExprNode::Text(text) => Value::try_from_str(alloc, text.as_str()),
         ExprNode::Number(number) => Ok(Value::from(*number)),
         ExprNode::Variable(variable) => { one_part(alloc, "var", Value::from(variable.number())) }
         ExprNode::Get(part) => one_part(alloc, "get", expression_value(alloc, part)?),

@@ -1,0 +1,8 @@
+use Rattle.std.proofs.Common.{◌≡◌, ◌∷◌, map, take}
+use Rattle.serde_json.specs.Data.{string}
+use Rattle.serde_json.specs.View.{view}
+use Rattle.stm_texts.proofs.written_lists.worded_json.Given as goal
+
+-- the word, and the parts so far
+abbrev pub invariant-loop-part : goal.invariant-loop-part
+invariant-loop-part g l = map view l.values.items ≡ string l.word ∷ map (λ part. (goal.Written-dyn g part.now).written part.now.1) (take l.part-index l.parts)

@@ -206,6 +206,27 @@ fn asked_by<'a>(
     }
 }
 
+/// An option that there is not: a final has no file of its own.
+const FINAL: &str = "--finally";
+
+/// Says where a final stands, where words ask for one by an option.
+fn say_of_finals<R: Eprint>(rt: &R, words: &[String]) {
+    if words.iter().any(|word| word.as_str() == FINAL) {
+        let _ = rt.eprintln(
+            "\n  tip: a final stands in a source, as finally NAME { .. }: explore FILE.stm asks it, and --keeps FILE.stm:NAME it alone",
+        );
+    }
+}
+
+/// What `reported` does, and where a final stands is said where words ask for one by an option.
+fn refused<R: Print + Eprint>(rt: &R, words: &[String], error: &Error) -> u8
+    ensures { IsReportedBy (kind_of error.now) result }
+{
+    let status = reported(rt, error);
+    say_of_finals(rt, words);
+    status
+}
+
 /// What these words ask for, of which the first is the program's name, with the arguments of a program behind them.
 ///
 /// Where they are refused, or ask for help or the version, the answer was printed, and this is the status: 0 for help and version, 2 for usage, printed
@@ -228,6 +249,6 @@ pub fn asked_of<'a, R: Print + Eprint>(
             Err(Unasked::OutOfMemory) => Err(fail(rt, "stmrun: out of memory", 3)),
             Err(Unasked::Refused) => Err(fail(rt, "stmrun: bad command line", 2)),
         },
-        Err(error) => Err(reported(rt, &error)),
+        Err(error) => Err(refused(rt, words, &error)),
     }
 }

@@ -209,21 +209,35 @@ fn asked_by<'a>(
 /// An option that there is not: a final has no file of its own.
 const FINAL: &str = "--finally";
 
-/// Says where a final stands, where words ask for one by an option.
-fn say_of_finals<R: Eprint>(rt: &R, words: &[String]) {
-    if words.iter().any(|word| word.as_str() == FINAL) {
-        let _ = rt.eprintln(
-            "\n  tip: a final stands in a source, as finally NAME { .. }: explore FILE.stm asks it, and --keeps FILE.stm:NAME it alone",
-        );
+/// Whether words have a file of JSON behind the scenario of a search, where a rule has no place.
+fn name_a_rule(words: &[String]) -> bool {
+    match words {
+        [_, command, _, rule, ..] => command.as_str() == "explore"
+            && rule.as_str().ends_with(".json"),
+        _ => false,
     }
 }
 
-/// What `reported` does, and where a final stands is said where words ask for one by an option.
+/// How to ask for what these words ask for, and are refused; nothing, where that is not known.
+fn tip_for(words: &[String]) -> &'static str {
+    if words.iter().any(|word| word.as_str() == FINAL) {
+        return "a final stands in a source, as finally NAME { .. }: explore FILE.stm asks it, and --keeps FILE.stm:NAME it alone";
+    }
+    if name_a_rule(words) {
+        return "a rule that is a file of its own is asked by --keeps: explore SCENARIO --keeps RULE.json";
+    }
+    ""
+}
+
+/// What `reported` does, and behind it a tip, where there is one.
 fn refused<R: Print + Eprint>(rt: &R, words: &[String], error: &Error) -> u8
     ensures { IsReportedBy (kind_of error.now) result }
 {
     let status = reported(rt, error);
-    say_of_finals(rt, words);
+    let tip = tip_for(words);
+    if status == 2 && !tip.is_empty() {
+        let _ = eprintln!(rt; "\n  tip: {tip}");
+    }
     status
 }
 

@@ -236,7 +236,8 @@ fn refused<R: Print + Eprint>(rt: &R, words: &[String], error: &Error) -> u8
     let status = reported(rt, error);
     let tip = tip_for(words);
     if status == 2 && !tip.is_empty() {
-        let _ = eprintln!(rt; "\n  tip: {tip}");
+        let _ = rt.eprint("\n  tip: ");
+        let _ = rt.eprintln(tip);
     }
     status
 }

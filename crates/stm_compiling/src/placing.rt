@@ -311,6 +311,19 @@ fn program_named<'a>(programs: &'a MarkedPrograms, name: &str) -> Option<&'a Mar
     }
 }
 
+/// Where in the source the node begins to which these indices lead in the JSON of the rule of a name, or else of the program that is started last.
+fn place_named(
+    alloc: Global,
+    programs: &MarkedPrograms,
+    name: &str,
+    indices: &[usize],
+) -> Result<Option<usize>, AllocError> {
+    match program_named(programs, name) {
+        Some(program) => place_in(alloc, program, indices),
+        None => Ok(None),
+    }
+}
+
 /// The same of a line `FAULT at POINTER: REASON` of a run of the rule or the program of a name, with these words as its arguments.
 pub fn placed_program<'a>(
     alloc: Global,
@@ -329,9 +342,6 @@ pub fn placed_program<'a>(
         programs: programs_started(alloc, text, program, words)?,
     };
     let indices = indices_of(alloc, pointer)?;
-    let at = match program_named(&places.programs, program) {
-        Some(program) => place_in(alloc, program, indices.as_slice())?,
-        None => None,
-    };
+    let at = place_named(alloc, &places.programs, program, indices.as_slice())?;
     places.placed_at(alloc, at, head, reason)
 }

@@ -20,52 +20,50 @@ pub enum Refused {
     Arguments(String),
 }
 
+/// Adds the parameters with which these tokens begin.
+fn push_parameters(head: &mut String, tokens: &[Token]) -> Result<(), AllocError> {
+    for token in tokens {
+        match &token.kind {
+            TokenKind::Name(parameter) => head.push_str(parameter.as_str())?,
+            TokenKind::Symbol(Symbol::Dots) => head.push_str("..")?,
+            TokenKind::Symbol(Symbol::Comma) => head.push_str(", ")?,
+            _ => return Ok(()),
+        }
+    }
+    Ok(())
+}
+
 /// The head of a program that is defined among tokens, `NAME(PARAMETER, ..)`; its name alone, where none of them defines one.
 fn head_of(alloc: Global, tokens: &[Token], name: &str) -> Result<String, AllocError> {
     let mut head = String::from_str(alloc, name)?;
-    let Some(index) = given_at(tokens, name) else {
-        return Ok(head);
-    };
-    let mut before = "(";
-    for token in tokens.iter().skip(index.saturating_add(3)) {
-        match &token.kind {
-            TokenKind::Name(parameter) => {
-                head.push_str(before)?;
-                head.push_str(parameter.as_str())?;
-                before = ", ";
-            }
-            TokenKind::Symbol(Symbol::Dots) => head.push_str("..")?,
-            TokenKind::Symbol(Symbol::Comma) => {}
-            _ => break,
-        }
+    if let Some(index) = given_at(tokens, name) {
+        let behind = tokens.get(index.saturating_add(3)..).unwrap_or(&[]);
+        head.push_str("(")?;
+        push_parameters(&mut head, behind)?;
+        head.push_str(")")?;
     }
-    if before == "(" {
-        head.push_str(before)?;
-    }
-    head.push_str(")")?;
     Ok(head)
 }
 
-/// How many arguments a program takes that has so many parameters, of which the last may stand for all that are left.
-fn wanted_words(alloc: Global, parameters: usize, has_list: bool) -> Result<String, AllocError> {
-    let (count, more) = if has_list {
-        (parameters.saturating_sub(1), " or more")
-    } else {
-        (parameters, "")
-    };
+/// So many arguments, in words.
+fn arguments_in_words(alloc: Global, count: usize) -> Result<String, AllocError> {
     match count {
-        0 => format!(in alloc; "no arguments{more}"),
-        1 => format!(in alloc; "1 argument{more}"),
-        _ => format!(in alloc; "{count} arguments{more}"),
+        0 => String::from_str(alloc, "no arguments"),
+        1 => String::from_str(alloc, "1 argument"),
+        _ => format!(in alloc; "{count} arguments"),
     }
 }
 
 /// What is said of a program or a rule that takes another number of arguments than stand in the place where it is started.
 fn count_words(alloc: Global, name: &str, spot: Spot<'_>) -> Result<String, AllocError> {
     let head = head_of(alloc, spot.before, name)?;
-    let parameters = parameters_of(spot.before, name);
-    let wanted = wanted_words(alloc, parameters, takes_list(spot.before, name))?;
     let given = listed_behind(spot.from);
+    let parameters = parameters_of(spot.before, name);
+    if takes_list(spot.before, name) {
+        let least = arguments_in_words(alloc, parameters.saturating_sub(1))?;
+        return format!(in alloc; "{head} takes {least} or more: {given} found");
+    }
+    let wanted = arguments_in_words(alloc, parameters)?;
     format!(in alloc; "{head} takes {wanted}: {given} found")
 }
 

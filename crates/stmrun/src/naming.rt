@@ -73,8 +73,27 @@ fn push_runner(
     }
 }
 
-/// What a final asks for by a key that is laid over the state, of which this stands behind its `#`: `end(NAME)`, `why(NAME)` or `out(NAME, PLACE)`; nothing of
-/// another key.
+/// What a final asks for of a runner: `end(NAME)`, `why(NAME)` or `out(NAME, PLACE)`; nothing, where a word and what stands behind a number are none of it.
+fn asked_of(
+    alloc: Global,
+    word: &str,
+    name: &str,
+    behind: &str,
+) -> Result<Option<String>, AllocError> {
+    match (word, behind.strip_prefix('/')) {
+        ("end" | "why", None) => {
+            let asked = format!(in alloc; "{word}({name})")?;
+            Ok(Some(asked))
+        }
+        ("out", Some(place)) => {
+            let asked = format!(in alloc; "out({name}, {place})")?;
+            Ok(Some(asked))
+        }
+        _ => Ok(None),
+    }
+}
+
+/// The same by a key that is laid over the state, of which this stands behind its `#`.
 fn asked_by(
     alloc: Global,
     runners: &[NamedRunner],
@@ -83,14 +102,16 @@ fn asked_by(
     let Some((word, rest)) = key.split_once('/') else {
         return Ok(None);
     };
-    let (digits, place) = digits_of(rest);
-    let name = name_in(runners, 1, digits).unwrap_or(digits);
-    let asked = match (word, place.strip_prefix('/')) {
-        ("end" | "why", None) => format!(in alloc; "{word}({name})")?,
-        ("out", Some(place)) => format!(in alloc; "out({name}, {place})")?,
-        _ => return Ok(None),
-    };
-    Ok(Some(asked))
+    let (digits, behind) = digits_of(rest);
+    match name_in(runners, 1, digits) {
+        Some(name) => asked_of(alloc, word, name, behind),
+        None => asked_of(alloc, word, digits, behind),
+    }
+}
+
+/// What stands behind what a final asks for, where this stands behind its key.
+fn behind_asked(rest: &str) -> &str {
+    if rest == EMPTY { " is \"\"" } else { rest }
 }
 
 /// A line of a final's fault with what its source has in the place of the key that it says; nothing of another line.
@@ -107,7 +128,7 @@ fn with_asked(
     };
     match asked_by(alloc, runners, key)? {
         Some(asked) => {
-            let rest = if rest == EMPTY { " is \"\"" } else { rest };
+            let rest = behind_asked(rest);
             let line = format!(in alloc; "{front}{asked}{rest}")?;
             Ok(Some(line))
         }

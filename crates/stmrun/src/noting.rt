@@ -68,7 +68,7 @@ pub(crate) struct Keeping<W> {
     /// The writer.
     device: W,
     /// What was written.
-    pub(crate) bytes: Vec<u8>,
+    bytes: Vec<u8>,
 }
 
 impl<W> Keeping<W> {
@@ -78,6 +78,12 @@ impl<W> Keeping<W> {
             device,
             bytes: Vec::new(alloc),
         }
+    }
+
+    /// What was written.
+    pub(crate) fn into_bytes(self) -> Vec<u8> {
+        let Keeping { bytes, .. } = self;
+        bytes
     }
 }
 

@@ -10,9 +10,9 @@ use std::io::Input;
 use std::rt::Files;
 use stm_commands::{RunnerLabel, Std};
 use stm_compiling::{
-    Beside, CalledRunner, Compiled, NamedRunner, Part, PlacedLine, Refused, Rule, SourcePlaces,
-    Wait, called_runners, compile_to, compiled, compiled_part, named_runners, notes_of,
-    placed_program, refused_in,
+    Beside, CalledRunner, Compiled, NamedRunner, Part, PlacedLine, Printed, Refused, Rule,
+    SourcePlaces, Wait, called_runners, compile_to, compiled, compiled_part, named_runners,
+    notes_of, placed_program, refused_in,
 };
 use stm_devices::{ReadFault, read_all};
 use stm_history::{Sequence, Text};
@@ -458,6 +458,12 @@ fn say_part(
     status
 }
 
+/// A copy of a text, where there is one; none, where an allocation fails.
+fn copy_of(rt: &HostRuntime, text: Option<&str>) -> Option<String> {
+    let text = text?;
+    String::from_str(rt.alloc(), text).ok()
+}
+
 /// A program that is read as JSON, and the text of the source that has it, where one has.
 #[derive(Drop)]
 pub(crate) struct GivenProgram<'a> {
@@ -481,18 +487,14 @@ pub(crate) fn program_at<'a>(
     let part = Part::Program { name, words };
     let explained = explained_name(path, explain);
     let printed = match compiled_part(rt.alloc(), part, explained, &mut input, &mut err) {
-        Ok(printed) => Ok(printed.line),
+        Ok(Printed { line, .. }) => Ok(line),
         Err(status) => Err(say_part(rt, path, part, status, &err, input.text())),
     };
+    let text = copy_of(rt, input.text());
     if explain {
         say_unread(rt, name_of(path), input.source.device.failure);
     }
     let file = line_of(rt, path, printed?)?;
-    let text = if input.is_cut {
-        None
-    } else {
-        String::from_utf8(input.bytes).ok()
-    };
     Ok(GivenProgram { file, text })
 }
 

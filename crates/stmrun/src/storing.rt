@@ -256,7 +256,7 @@ fn tried(
     say_unwritten(rt, out.device.failure.take());
     match would {
         Ok(true) => Ok(None),
-        Ok(false) => Ok(Some(out.device.into_device().bytes)),
+        Ok(false) => Ok(Some(out.device.into_device().into_bytes())),
         Err(fault) => Err(say_fault(rt, store, &fault)),
     }
 }
@@ -275,7 +275,7 @@ fn ran(
     say_unwritten(rt, out.device.failure.take());
     match ran {
         Ok(true) => Ok(None),
-        Ok(false) => Ok(Some(out.device.into_device().bytes)),
+        Ok(false) => Ok(Some(out.device.into_device().into_bytes())),
         Err(fault) => Err(say_fault(rt, store, &fault)),
     }
 }

@@ -322,27 +322,32 @@ fn form_of<'a>(format: Option<&str>, source: Option<&'a SourceText>) -> Form<'a>
     }
 }
 
-/// The source of the scenario, where it has one, under its name.
+/// The source of the scenario, where it has one, under the name of its path.
 fn source_of<'a>(
-    words: &ExploreWords<'a>,
+    path: &'a str,
+    has_rules: bool,
     source: Option<&'a SourceText>,
 ) -> Option<NamedSource<'a>> {
     match source {
         Some(source) => Some(NamedSource {
-            name: name_of(words.scenario),
+            name: name_of(path),
             text: source.text.as_str(),
-            has_rules: words.keeps.as_slice().is_empty(),
+            has_rules,
         }),
         None => None,
     }
 }
 
-/// How many events may be taken, and how runners are named.
-fn told_of<'a>(words: &ExploreWords<'a>, source: Option<&'a SourceText>) -> Told<'a> {
+/// How many events may be taken, and how the runners of a path's scenario are named.
+fn told_of<'a>(
+    words: &ExploreWords<'_>,
+    path: &'a str,
+    source: Option<&'a SourceText>,
+) -> Told<'a> {
     Told {
         events: words.budget,
         runners: runners_of(source),
-        source: source_of(words, source),
+        source: source_of(path, words.keeps.as_slice().is_empty(), source),
         strict: words.strict,
     }
 }
@@ -372,7 +377,7 @@ pub(crate) fn run_search(
         levels: words.levels,
         witness: words.witness,
         serial: words.serial,
-        told: told_of(words, source.as_ref()),
+        told: told_of(words, words.scenario, source.as_ref()),
         explain,
         form: form_of(words.format, source.as_ref()),
     };

@@ -386,7 +386,8 @@ fn runners_in(alloc: Global, text: &str) -> Result<Vec<NamedRunner>, AllocError>
     let called = called_runners(alloc, text)?;
     let mut runners = Vec::new(alloc);
     for (index, runner) in called.into_iter().enumerate() {
-        if let Some(name) = runner.name {
+        let CalledRunner { name, .. } = runner;
+        if let Some(name) = name {
             let number = (index as u64).saturating_add(1);
             runners.push(NamedRunner { number, name })?;
         }

@@ -192,8 +192,15 @@ fn asked_by<'a>(
     }
 }
 
-/// An option that there is not: a final has no file of its own.
+/// Options that there are not, by which people ask for a final, and for a rule.
 const FINAL: &str = "--finally";
+
+const RULE: &str = "--rule";
+
+/// Whether one of these words is an option.
+fn have(words: &[String], option: &str) -> bool {
+    words.iter().any(|word| word.as_str() == option)
+}
 
 /// Whether words have a file of JSON behind the scenario of a search, where a rule has no place.
 fn name_a_rule(words: &[String]) -> bool {
@@ -206,8 +213,11 @@ fn name_a_rule(words: &[String]) -> bool {
 
 /// How to ask for what these words ask for, and are refused; nothing, where that is not known.
 fn tip_for(words: &[String]) -> &'static str {
-    if words.iter().any(|word| word.as_str() == FINAL) {
+    if have(words, FINAL) {
         return "a final stands in a source, as finally NAME { .. }: explore FILE.stm asks it, and --keeps FILE.stm:NAME it alone";
+    }
+    if have(words, RULE) {
+        return "explore FILE.stm asks the rules of a source, and --keeps FILE.stm:NAME one of them alone";
     }
     if name_a_rule(words) {
         return "a rule that is a file of its own is asked by --keeps: explore SCENARIO --keeps RULE.json";

@@ -23,6 +23,11 @@ fn is_number(kind: Option<&TokenKind>) -> Option<bool> {
     }
 }
 
+/// Whether a value that begins with this token is a number or a text as it stands.
+fn stands_as_it_is(kind: Option<&TokenKind>) -> bool {
+    matches!(kind, Some(TokenKind::Number(_) | TokenKind::Text(_)))
+}
+
 /// Whether a number is wanted beside this token, and not a text; nothing where the token does not tell.
 fn wants_number_beside(kind: Option<&TokenKind>) -> Option<bool> {
     match kind {
@@ -160,8 +165,14 @@ pub(crate) fn said_of_value(
         Some(true) if is_beside_add(spot) => format!(in alloc;
             "found {found}, where a number is wanted: texts are joined by ++, and num_of(TEXT) makes a number of one"
         ),
+        Some(true) if stands_as_it_is(spot.kind()) => format!(in alloc;
+            "found {found}, where a number is wanted: a number stands without quotes, and num_of(TEXT) makes one of a text"
+        ),
         Some(true) => format!(in alloc;
             "found {found}, where a number is wanted: num_of(TEXT) makes one of a text"
+        ),
+        Some(false) if stands_as_it_is(spot.kind()) => format!(in alloc;
+            "found {found}, where a text is wanted: a text stands in quotes, and text_of(NUMBER) makes one of a number"
         ),
         Some(false) => format!(in alloc;
             "found {found}, where a text is wanted: text_of(NUMBER) makes one of a number"

@@ -124,6 +124,9 @@ fn in_event(spot: Spot<'_>) -> Wanted {
     if is_behind_number_name(spot) {
         return Wanted::Said("a whole number");
     }
+    if spot.is_behind_symbol(0, Symbol::Arithmetic(Operator::Mul)) {
+        return Wanted::Said("a number of steps, as in step ana*2,");
+    }
     if spot.is_behind(1, "grant") {
         return Wanted::Said("ttl NUMBER");
     }

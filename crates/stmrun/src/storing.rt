@@ -257,9 +257,10 @@ fn tried(
     let mut out = Std::new(Noting::new(Keeping::new(rt.alloc(), rt.stdout())));
     let would = run_anew(rt.alloc(), program, manner, &mut out);
     say_unwritten(rt, out.device.failure.take());
+    let line = out.device.into_device().into_bytes();
     match would {
         Ok(true) => Ok(None),
-        Ok(false) => Ok(Some(out.device.into_device().into_bytes())),
+        Ok(false) => Ok(Some(line)),
         Err(fault) => Err(say_fault(rt, store, &fault)),
     }
 }
@@ -276,9 +277,10 @@ fn ran(
     let mut out = Std::new(Noting::new(Keeping::new(rt.alloc(), rt.stdout())));
     let ran = run_kept(&mut records, bytes, text, program, manner, &mut out);
     say_unwritten(rt, out.device.failure.take());
+    let line = out.device.into_device().into_bytes();
     match ran {
         Ok(true) => Ok(None),
-        Ok(false) => Ok(Some(out.device.into_device().into_bytes())),
+        Ok(false) => Ok(Some(line)),
         Err(fault) => Err(say_fault(rt, store, &fault)),
     }
 }

@@ -459,6 +459,24 @@ fn say_part(
     status
 }
 
+/// The line of a part of a path's source that was compiled; or the status, once what is wrong with it was said.
+fn line_printed(
+    rt: &HostRuntime,
+    path: &str,
+    part: Part<'_>,
+    printed: Result<Printed, u8>,
+    err: &Std<Vec<u8>>,
+    text: Option<&str>,
+) -> Result<Text, u8> {
+    match printed {
+        Ok(printed) => {
+            let Printed { line, .. } = printed;
+            Ok(line)
+        }
+        Err(status) => Err(say_part(rt, path, part, status, err, text)),
+    }
+}
+
 /// A copy of a text, where there is one; none, where an allocation fails.
 fn copy_of(rt: &HostRuntime, text: Option<&str>) -> Option<String> {
     let text = text?;
@@ -487,10 +505,8 @@ pub(crate) fn program_at<'a>(
     let mut err = Std::new(said);
     let part = Part::Program { name, words };
     let explained = explained_name(path, explain);
-    let printed = match compiled_part(rt.alloc(), part, explained, &mut input, &mut err) {
-        Ok(Printed { line, .. }) => Ok(line),
-        Err(status) => Err(say_part(rt, path, part, status, &err, input.text())),
-    };
+    let printed = compiled_part(rt.alloc(), part, explained, &mut input, &mut err);
+    let printed = line_printed(rt, path, part, printed, &err, input.text());
     let text = copy_of(rt, input.text());
     if explain {
         say_unread(rt, name_of(path), input.source.device.failure);

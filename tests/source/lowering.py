@@ -327,12 +327,19 @@ def closed_copies(copies, after):
 
 def lowered_program(program, arguments):
     """Returns the program of these arguments. A parameter that stands for itself is a number."""
+    return measured_program(program, arguments)[0]
+
+
+def measured_program(program, arguments):
+    """Returns the same, and why it is refused for its size, or None."""
     lowering = Lowering(program, arguments)
     keys = lowering.keys(program.body.keys)
-    statements = closed(lowering.statements(program.body.statements, 0), NOTHING)
+    parts = lowering.statements(program.body.statements, 0)
+    statements = closed(parts, NOTHING)
     if lowering.wrong:
         raise ArgumentFault(*min(lowering.wrong, key=lambda it: it[0]))
-    return ([["prefetch", keys]] if keys else []) + statements
+    cause = node_fault(statements) or ("TooManyNodes" if written_nodes(parts) > MOST_NODES else None)
+    return ([["prefetch", keys]] if keys else []) + statements, cause
 
 
 # ---- limits
@@ -371,6 +378,22 @@ def node_fault(statements):
         if count > MOST_NODES:
             return "TooManyNodes"
     return None
+
+
+def written_nodes(parts):
+    """Returns how many nodes statements have where they stand, whether they are reached or not."""
+    count = 0
+    for part in parts:
+        match part:
+            case list():
+                count += sum(1 for _ in nodes_of([part]))
+            case ("if", condition, yes, no):
+                count += 1 + sum(1 for _ in nodes_in(condition, 1)) + written_nodes(yes) + written_nodes(no)
+            case ("copies", copies):
+                count += sum(written_nodes(it) for it in copies)
+            case ("for", _, number, _, body):
+                count += 1 + sum(1 for _ in nodes_in(number, 1)) + written_nodes(body)
+    return count
 
 
 def value_nodes(node, bound=None):

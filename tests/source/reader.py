@@ -1,7 +1,7 @@
 """A reader of sources, from front to back: what a source is, or its first fault."""
 from cursor import HIGHEST, Names
 from kinds import KindFault, check_body, kind_of
-from lowering import ArgumentFault, lowered_program, node_fault, value_nodes
+from lowering import ArgumentFault, lowered_program, measured_program, value_nodes
 from statements import Statements
 from tokens import EVENTS, KEYWORDS, Fault, decoded
 from tree import TEXT, Asked, Body, Definition, Listed, Literal, Named, Parameter, Program, Use
@@ -75,8 +75,7 @@ class Reader(Statements):
 
     def fits(self, program, arguments, token):
         """Returns the program of these arguments, where it is within the limits."""
-        statements = lowered_program(program, arguments)
-        cause = node_fault(statements)
+        statements, cause = measured_program(program, arguments)
         if cause:
             raise self.wrong(cause, token)
         return statements
@@ -119,7 +118,7 @@ class Reader(Statements):
     def agree(self, program, arguments, token):
         """Refuses arguments that alone make the program wrong."""
         try:
-            statements = lowered_program(program, arguments)
+            _, cause = measured_program(program, arguments)
         except ArgumentFault as fault:
             raise Fault(fault.at, fault.cause) from None
         if program.is_looked_at:
@@ -127,7 +126,6 @@ class Reader(Statements):
                 check_body(program, arguments)
             except KindFault:
                 raise self.wrong("Kind", token) from None
-        cause = node_fault(statements)
         if cause:
             raise self.wrong(cause, token)
 

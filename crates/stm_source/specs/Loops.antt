@@ -1,15 +1,14 @@
 -- What loops go over: how far one counts, and the items of one over items.
-use Rattle.std.specs.Prelude.{ℕ, pos, negsuc, List, length, Bool, true, not, ◌||◌, ◌&&◌, Option, Some, None, is_some, Result, Ok, Err}
+use Rattle.std.specs.Prelude.{ℕ, pos, negsuc, List, length, Bool, true, not, ◌||◌, ◌&&◌, Option, Some, None, is_some, Ok, Err}
 use Rattle.std.specs.Prelude.{nat_eq, nat_le, if◌then◌else◌, codes}
 use Rattle.stm_tokens.specs.declared.token.Token.{Token}
 use Rattle.stm_tokens.specs.declared.token.Symbol.TheVariants as symbol
 use Rattle.stm_program.specs.declared.operator.Operator.TheVariants.{Sub}
-use Rattle.stm_program.specs.declared.limits.TheConstants.{MAX_DEPTH, MAX_TURNS}
-use Rattle.stm_program.specs.Syntax.{Expression, Number, Block, End, Then}
+use Rattle.stm_program.specs.declared.limits.TheConstants.{MAX_TURNS}
+use Rattle.stm_program.specs.Syntax.{Expression, Number}
 use Rattle.stm_terms.specs.declared.arguments.Argument.{Argument}
 use Rattle.stm_terms.specs.declared.arguments.Argument.TheVariants.{Either}
 use Rattle.stm_terms.specs.declared.constants.Item.{Item}
-use Rattle.stm_terms.specs.declared.faults.SourceCause.{SourceCause}
 use Rattle.stm_terms.specs.declared.faults.SourceCause.TheVariants as cause
 use Rattle.stm_terms.specs.declared.kinds.Kind.TheVariants as value_kind
 use Rattle.stm_terms.specs.declared.scope.Scope.{Scope}
@@ -18,7 +17,6 @@ use Rattle.stm_terms.specs.Cursor.{place, unexpected, after_symbol, after_name, 
 use Rattle.stm_terms.specs.Items.{item_as, items_at}
 use Rattle.stm_terms.specs.Literals.{number_given}
 use Rattle.stm_terms.specs.Outcome.{Outcome, Read, bad}
-use Rattle.stm_terms.specs.Room.{block_room}
 use Rattle.stm_terms.specs.Scope.{argument_named, blame, numbered_variable, variable_of, with_name, next_of, may_give}
 
 -- ---- a count
@@ -89,12 +87,3 @@ items_of scope at name tokens =
 -- one that is not known
 abbrev pub unknown_item : Item
 unknown_item = item_as Either None
-
-abbrev pub left_by : Result ℕ SourceCause → ℕ
-left_by (Ok left) = left
-left_by (Err c) = 0
-
--- how many nodes may follow these statements: none, where they are too many or too deep, or where there are none, since others like them are none, too
-abbrev pub room_behind : ℕ → Block → ℕ
-room_behind room End = 0
-room_behind room (Then s b) = left_by (block_room MAX_DEPTH room (Then s b))

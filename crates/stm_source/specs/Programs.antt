@@ -22,6 +22,7 @@ use Rattle.stm_source.specs.declared.programs.Look.{Look}
 use Rattle.stm_leaving.specs.Source.{Sources}
 use Rattle.stm_leaving.specs.Closed.{nothing, closed}
 use Rattle.stm_leaving.specs.Written.{is_too_long}
+use Rattle.stm_source.specs.Kept.{parts_left}
 use Rattle.stm_source.specs.Leaving.{around_all}
 use Rattle.stm_source.specs.Statements.{statements_at}
 
@@ -81,9 +82,11 @@ program_by at keys statements (Ok left) =
 abbrev pub program_in_room : ℕ → List (List ℕ) → Block → Outcome ProgramTree
 program_in_room at keys statements = program_by at keys statements (block_room MAX_DEPTH MAX_NODES statements)
 
--- the same of statements of a source: what follows a statement goes into the branches that come to it
+-- the same of statements of a source: what follows a statement goes into the branches that come to it. Those that are never reached are counted, too
 abbrev pub program_of : ℕ → List (List ℕ) → Sources → Outcome ProgramTree
-program_of at keys parts = if is_too_long MAX_NODES parts then bad at cause.TooManyNodes else program_in_room at keys (closed parts nothing)
+program_of at keys parts =
+    if is_too_long MAX_NODES parts then bad at cause.TooManyNodes
+    else (program_in_room at keys (closed parts nothing) >>= λ p. if nat_eq (parts_left MOST_KEPT parts) 0 then bad at cause.TooManyNodes else Ok p)
 
 -- no name of a variable is in sight at its beginning
 abbrev pub first_scope : Arguments → Look → List Token → Scope

@@ -8,7 +8,7 @@ use Rattle.stm_tokens.specs.declared.token.Symbol.TheVariants as symbol
 use Rattle.stm_tokens.specs.declared.token.Word.{Word}
 use Rattle.stm_tokens.specs.declared.token.Word.TheVariants as word
 use Rattle.stm_tokens.specs.Same.{same_symbol, same_word}
-use Rattle.stm_program.specs.declared.limits.TheConstants.{MAX_DEPTH, MAX_LEASE, MAX_NODES}
+use Rattle.stm_program.specs.declared.limits.TheConstants.{MAX_LEASE}
 use Rattle.stm_program.specs.BlockView.{block_of}
 use Rattle.stm_program.specs.declared.operator.Operator.TheVariants.{Add, Sub}
 use Rattle.stm_program.specs.Syntax.{Expression, Variable, Statement, Set, Put, Del, Emit, Abort}
@@ -18,12 +18,11 @@ use Rattle.stm_terms.specs.declared.look_ups.Fronted.{Fronted}
 use Rattle.stm_terms.specs.LookUps.{with_front, pair_with_front}
 use Rattle.stm_terms.specs.declared.operators.Join.{Join}
 use Rattle.stm_terms.specs.declared.operators.Join.TheVariants as join
-use Rattle.stm_source.specs.Loops.{counted_in, limit_at, after_zero, items_of, unknown_item, left_by, room_behind}
+use Rattle.stm_source.specs.Kept.{room_left, condition_left, parts_left}
+use Rattle.stm_source.specs.Loops.{counted_in, limit_at, after_zero, items_of, unknown_item}
 use Rattle.stm_leaving.specs.Source.{Source, Sources, Plain, Choice, Items, Count, Nil, Next}
 use Rattle.stm_leaving.specs.PartsView.{sources_of}
 use Rattle.stm_leaving.specs.CopiesView.{copies_of}
-use Rattle.stm_leaving.specs.Closed.{nothing, closed}
-use Rattle.stm_leaving.specs.Written.{is_too_long}
 use Rattle.stm_marks.specs.Marks.{mark}
 use Rattle.stm_source.specs.declared.leaving.Around.{Around}
 use Rattle.stm_source.specs.declared.leaving.Leave.{Leave}
@@ -42,7 +41,6 @@ use Rattle.stm_terms.specs.declared.kinds.Kind.{Kind}
 use Rattle.stm_terms.specs.declared.kinds.Kind.TheVariants as value_kind
 use Rattle.stm_terms.specs.Kinds.{kind_of, want}
 use Rattle.stm_terms.specs.Values.{joined, join_kind, bracketed_at, value_at, value_of}
-use Rattle.stm_terms.specs.Room.{condition_room, block_room}
 use Rattle.stm_terms.specs.declared.conditions.Tested.{Tested}
 use Rattle.stm_terms.specs.Conditions.{condition_at}
 
@@ -186,15 +184,12 @@ with_room scope room = record scope { room = room }
 
 -- behind statements: a program that has them has at least so many nodes more. Those with marks were read before without them
 abbrev pub left_behind : Around → ℕ → Sources → ℕ
-left_behind around room parts =
-    if around.marks then room
-    else (if is_too_long MAX_NODES parts then 0
-    else left_by (block_room MAX_DEPTH room (closed parts nothing)))
+left_behind around room parts = if around.marks then room else parts_left room parts
 
 -- behind a condition and what is set in front of it
 abbrev pub left_in_choice : Around → ℕ → Tested → ℕ
 left_in_choice around room t =
-    if around.marks then room else left_by (condition_room MAX_DEPTH (left_by (block_room MAX_DEPTH room (block_of t.front))) t.condition)
+    if around.marks then room else condition_left (room_left room (block_of t.front)) t.condition
 
 abbrev pub in_choice : Around → Scope → Tested → Scope
 in_choice around scope t = with_room scope (left_in_choice around scope.room t)
@@ -263,9 +258,13 @@ count_loop block levels scope at name tokens =
 abbrev pub copy_at : Blocks → Scope → List ℕ → ℕ → Item → List Token → Read Sources
 copy_at block scope name room item tokens = block (with_room (with_item scope name item) room) tokens >>= λ b. Ok (b.0, b.2)
 
--- how many nodes may follow a copy; those with marks were read before without them
+-- how many nodes may follow a copy, of which so many are left: none behind one that has none, since others like it have none, too
+abbrev pub copies_room : ℕ → ℕ → ℕ
+copies_room room left = if nat_eq left room then 0 else left
+
+-- the same; those with marks were read before without them
 abbrev pub copy_room : Around → ℕ → Sources → ℕ
-copy_room around room copy = if around.marks then room else (if is_too_long MAX_NODES copy then 0 else room_behind room (closed copy nothing))
+copy_room around room copy = if around.marks then room else copies_room room (parts_left room copy)
 
 -- behind these, those for each item, read of the same tokens, while there may be more nodes; those for the first in any case
 abbrev pub copies_from : (ℕ → Item → List Token → Read Sources) → Around → List Token → ℕ → List Sources → List Item → List Token → Read (List Sources)

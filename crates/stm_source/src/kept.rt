@@ -5,12 +5,11 @@ ghost use Rattle.stm_source.specs.Kept.{pushed_up};
 ghost use Rattle.stm_leaving.specs.PartsView.{sources_of};
 
 use crate::leaving::Around;
-use crate::loops::{condition_left, room_behind, room_left};
+use crate::room::{condition_left, parts_left, room_left, statements_left};
 use std::alloc::{AllocError, Global};
 use std::sync::Arc;
 use stm_history::Sequence;
-use stm_leaving::{Part, Parts, closed_parts, is_too_long};
-use stm_program::MAX_NODES;
+use stm_leaving::{Part, Parts};
 use stm_terms::{Scope, Tested};
 
 /// The block of statements.
@@ -21,24 +20,19 @@ pub(crate) fn block_of_all(alloc: Global, parts: Sequence<Part>) -> Result<Parts
     Ok(Parts { parts })
 }
 
-/// How many of so many nodes are kept behind statements: a program that has them has at least so many more. Marks are not counted: all that were read before
-/// without them are read.
+/// How many of so many nodes are kept behind statements. Marks are not counted: all that were read before without them are read.
 fn left_behind(
     alloc: Global,
     around: Around,
-    parts: &Parts,
+    parts: &[Part],
     room: usize,
 ) -> Result<usize, AllocError>
-    ensures { IfOk result (λ left. left ≡ spec.left_behind around room parts.now) }
+    ensures { IfOk result (λ left. left ≡ spec.left_behind around room (sources_of parts.now)) }
 {
     if around.marks {
         return Ok(room);
     }
-    if is_too_long(parts, MAX_NODES) {
-        return Ok(0);
-    }
-    let statements = closed_parts(alloc, parts)?;
-    Ok(room_left(statements.as_slice(), room))
+    statements_left(alloc, parts, room)
 }
 
 /// The same behind a condition and what is set in front of it.
@@ -76,12 +70,13 @@ pub(crate) fn behind_block(
     ensures { IfOk result (λ inner. inner ≡ spec.behind_block around scope.now yes.now) }
 {
     let mut inner = scope.copy(alloc)?;
-    inner.room = left_behind(alloc, around, yes, scope.room)?;
+    let statements: &Vec<Part> = &yes.parts;
+    inner.room = left_behind(alloc, around, statements, scope.room)?;
     Ok(inner)
 }
 
-/// How many nodes may follow a copy of a loop's block, of which there may be so many with its own. Marks are not counted: all that were read before
-/// without them are read.
+/// How many nodes may follow a copy of a loop's block, of which there may be so many with its own: none behind one that has none, since others like it
+/// have none, too. Marks are not counted: all that were read before without them are read.
 pub(crate) fn copy_room(
     alloc: Global,
     around: Around,
@@ -93,22 +88,8 @@ pub(crate) fn copy_room(
     if around.marks {
         return Ok(room);
     }
-    if is_too_long(copy, MAX_NODES) {
-        return Ok(0);
-    }
-    let statements = closed_parts(alloc, copy)?;
-    Ok(room_behind(statements.as_slice(), room))
-}
-
-/// The statements of a block that nothing else owns.
-fn into_parts(block: Parts) -> Result<Vec<Part>, AllocError>
-    ensures { IfOk result (λ parts. sources_of parts.items ≡ block) }
-{
-    let Parts { parts } = block;
-    match Arc::into_inner(parts) {
-        Some(parts) => Ok(parts),
-        None => Err(AllocError),
-    }
+    let left = parts_left(alloc, copy, room)?;
+    if left == room { Ok(0) } else { Ok(left) }
 }
 
 /// A statement, and how many of so many nodes are kept behind it.
@@ -121,10 +102,8 @@ pub(crate) fn measured(
     ensures same { IfOk result (λ x. x.0.items ≡ statement) }
     ensures left { IfOk result (λ x. x.1 ≡ spec.left_behind around room (sources_of statement)) }
 {
-    let block = block_of_all(alloc, statement)?;
-    let left = left_behind(alloc, around, &block, room)?;
-    let parts = into_parts(block)?;
-    Ok((parts, left))
+    let left = left_behind(alloc, around, statement.as_slice(), room)?;
+    Ok((statement.into_vec(), left))
 }
 
 /// Adds a statement, and what is set in front of it, where more nodes are kept.

@@ -15,6 +15,7 @@ mod loops;
 mod openings;
 mod places;
 mod programs;
+mod room;
 mod rules;
 mod runners;
 mod simple;

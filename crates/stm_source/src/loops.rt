@@ -3,18 +3,15 @@ ghost use Rattle.std.specs.Prelude.{◌≡◌, option_map, IfOk};
 ghost use Rattle.stm_terms.specs.Cursor as cursor;
 ghost use Rattle.stm_terms.specs.Outcome.{Returns};
 ghost use Rattle.stm_terms.specs.Scope.{argument_named, blame};
-ghost use Rattle.stm_program.specs.BlockView.{block_of};
-ghost use Rattle.stm_program.specs.declared.limits.TheConstants.{MAX_DEPTH};
-ghost use Rattle.stm_terms.specs.Room.{block_room, condition_room};
 ghost use Rattle.stm_source.specs.Loops as spec;
 
 use std::alloc::{AllocError, Global};
 use stm_history::{Sequence, Text};
-use stm_program::{Cond, Expr, ExprNode, MAX_DEPTH, MAX_TURNS, Operator, Stmt, Variable};
+use stm_program::{Expr, ExprNode, MAX_TURNS, Operator, Variable};
 use stm_terms::{
     Argument, Item, Kind, Scope, Shared, SharedText, SourceCause, SourceError, after_name,
-    after_symbol, argument_number, condition_room, fault, list_of_items, next_name, next_number,
-    next_text, numbered_variable, place, statements_room, unexpected,
+    after_symbol, argument_number, fault, list_of_items, next_name, next_number, next_text,
+    numbered_variable, place, unexpected,
 };
 use stm_tokens::{Symbol, Token};
 
@@ -163,36 +160,6 @@ pub(crate) fn items<'a>(
         return Err(fault(at, SourceCause::Name));
     }
     list_of_items(alloc, scope, true, tokens)
-}
-
-/// How many nodes may follow statements, of which a program has room for so many before them: none, where they are too many or too deep.
-pub(crate) fn room_left(statements: &[Stmt], room: usize) -> usize
-    ensures { result ≡ spec.left_by (block_room MAX_DEPTH room (block_of statements.now)) }
-{
-    match statements_room(statements, MAX_DEPTH, room) {
-        Ok(left) => left,
-        Err(_) => 0,
-    }
-}
-
-/// How many nodes may follow a condition, of which a program has room for so many before it: none, where it has too many or is too deep.
-pub(crate) fn condition_left(condition: &Cond, room: usize) -> usize
-    ensures { result ≡ spec.left_by (condition_room MAX_DEPTH room condition.now) }
-{
-    match condition_room(condition, MAX_DEPTH, room) {
-        Ok(left) => left,
-        Err(_) => 0,
-    }
-}
-
-/// How many nodes may follow statements, but none where there are no statements, since others like them are none, too.
-pub(crate) fn room_behind(statements: &[Stmt], room: usize) -> usize
-    ensures { result ≡ spec.room_behind room (block_of statements.now) }
-{
-    match statements {
-        [] => 0,
-        [_, ..] => room_left(statements, room),
-    }
 }
 
 /// An item that is not known: where a loop has none, its block is read with it.

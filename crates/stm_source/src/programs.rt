@@ -6,6 +6,7 @@ ghost use Rattle.stm_terms.specs.Outcome.{Returns};
 ghost use Rattle.stm_source.specs.Programs as spec;
 
 use crate::leaving::around_all;
+use crate::room::parts_left;
 use crate::statements::statements;
 use std::alloc::{AllocError, Global};
 use std::sync::Arc;
@@ -155,7 +156,8 @@ fn program_in_room(
     Ok(program)
 }
 
-/// The program of a list and of statements of a source: what follows a statement goes into the branches that come to it.
+/// The program of a list and of statements of a source: what follows a statement goes into the branches that come to it. Behind so many statements that
+/// they are too many, though they may never be reached, others were not kept.
 pub(crate) fn program_of(
     alloc: Global,
     at: usize,
@@ -171,7 +173,12 @@ pub(crate) fn program_of(
         return Err(fault(at, SourceCause::TooManyNodes));
     }
     let statements = closed_parts(alloc, &parts)?;
-    program_in_room(alloc, at, keys, statements)
+    let left = parts_left(alloc, &parts, MOST_KEPT)?;
+    let program = program_in_room(alloc, at, keys, statements)?;
+    if left == 0 {
+        return Err(fault(at, SourceCause::TooManyNodes));
+    }
+    Ok(program)
 }
 
 /// What is in sight where a program begins, of which these tokens are left.

@@ -304,6 +304,10 @@ fn say_placed(
 /// Says lines that explain the runs of a scenario, of runners that are called so: with the places of its source, where it has one, and with the names that
 /// this gives to runners.
 pub(crate) fn say_of_runs(rt: &HostRuntime, given: &Given<'_>, called: Called, lines: &str) {
+    // The places take a second reading of the source.
+    if lines.is_empty() {
+        return;
+    }
     let runners = runners_of(rt, given);
     let name = given.scenario.name();
     let name = name.strip_suffix(COMPILED).unwrap_or(name);

@@ -16,7 +16,7 @@ use crate::other_kinds::said_of_value;
 use crate::spots::{Event, Place, Spot, name_in, spot_at};
 use crate::titles::{near_name, said_of_names};
 use crate::wanted::{
-    EVENT, EVENTS, STATEMENT, Wanted, allowed, is_behind_condition_word, nearest, numbers_at,
+    EVENT_NOUN, EVENTS, STATEMENT, Wanted, allowed, is_behind_condition_word, nearest, numbers_at,
     wanted_at,
 };
 use serde_json::Value as Json;
@@ -251,7 +251,7 @@ fn no_such_word(
         );
     }
     let said = said_of_no_event(spot);
-    if noun == EVENT && !said.is_empty() {
+    if noun == EVENT_NOUN && !said.is_empty() {
         return format!(in alloc; "{found} is no event: {said}");
     }
     let list = allowed(alloc, words, beside, name)?;

@@ -25,7 +25,7 @@ const OPTIONS: [&str; 16] = [
 const ORDERS: [&str; 4] = ["==", "!=", "<", ">"];
 
 /// What is wanted where one of these words may begin it.
-pub(crate) const EVENT: &str = "event";
+pub(crate) const EVENT_NOUN: &str = "event";
 
 /// The same in a program.
 pub(crate) const STATEMENT: &str = "statement";
@@ -144,7 +144,7 @@ fn in_event(spot: Spot<'_>) -> Wanted {
             Wanted::Words("order", &ORDERS, "")
         }
         Some(Event::Start) => Wanted::Words("event, and nothing of a start", &OPTIONS, ""),
-        _ => Wanted::Words(EVENT, &EVENTS, ""),
+        _ => Wanted::Words(EVENT_NOUN, &EVENTS, ""),
     }
 }
 

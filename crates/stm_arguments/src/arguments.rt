@@ -192,6 +192,52 @@ fn asked_by<'a>(
     }
 }
 
+/// Options that there are not, by which people ask for a final, and for a rule.
+const FINAL: &str = "--finally";
+
+const RULE: &str = "--rule";
+
+/// Whether one of these words is an option.
+fn have(words: &[String], option: &str) -> bool {
+    words.iter().any(|word| word.as_str() == option)
+}
+
+/// Whether words have a file of JSON behind the scenario of a search, where a rule has no place.
+fn name_a_rule(words: &[String]) -> bool {
+    match words {
+        [_, command, _, rule, ..] => command.as_str() == "explore"
+            && rule.as_str().ends_with(".json"),
+        _ => false,
+    }
+}
+
+/// How to ask for what these words ask for, and are refused; nothing, where that is not known.
+fn tip_for(words: &[String]) -> &'static str {
+    if have(words, FINAL) {
+        return "a final stands in a source, as finally NAME { .. }: explore FILE.stm asks it, and --keeps FILE.stm:NAME it alone";
+    }
+    if have(words, RULE) {
+        return "explore FILE.stm asks the rules of a source, and --keeps FILE.stm:NAME one of them alone";
+    }
+    if name_a_rule(words) {
+        return "a rule that is a file of its own is asked by --keeps: explore SCENARIO --keeps RULE.json";
+    }
+    ""
+}
+
+/// What `reported` does, and behind it a tip, where there is one.
+fn refused<R: Print + Eprint>(rt: &R, words: &[String], error: &Error) -> u8
+    ensures { IsReportedBy (kind_of error.now) result }
+{
+    let status = reported(rt, error);
+    let tip = tip_for(words);
+    if status == 2 && !tip.is_empty() {
+        let _ = rt.eprint("\n  tip: ");
+        let _ = rt.eprintln(tip);
+    }
+    status
+}
+
 /// What these words ask for, of which the first is the program's name, with the arguments of a program behind them.
 ///
 /// Where they are refused, or ask for help or the version, the answer was printed, and this is the status: 0 for help and version, 2 for usage, printed
@@ -214,6 +260,6 @@ pub fn asked_of<'a, R: Print + Eprint>(
             Err(Unasked::OutOfMemory) => Err(fail(rt, "stmrun: out of memory", 3)),
             Err(Unasked::Refused) => Err(fail(rt, "stmrun: bad command line", 2)),
         },
-        Err(error) => Err(reported(rt, &error)),
+        Err(error) => Err(refused(rt, words, &error)),
     }
 }

@@ -34,7 +34,8 @@ pub enum StoreFault {
     NoThread,
     /// The end of this job is not what the hall says.
     Audit(u64),
-    /// The transactions that were made of what jobs have changed do not change the same. Nothing was kept.
+    /// What was to be kept does not do what was run: the transactions that were made of what jobs have changed, or the scenario of a program's run. Nothing
+    /// was kept.
     Disagrees,
 }
 
@@ -112,7 +113,7 @@ impl fmt::Display for StoreFault {
             StoreFault::Output => f.write_str("the report could not be written"),
             StoreFault::NoThread => f.write_str("no thread"),
             StoreFault::Audit(job) => write!(f, "audit {job}"),
-            StoreFault::Disagrees => f.write_str("what the jobs have changed could not be kept"),
+            StoreFault::Disagrees => f.write_str("what was run could not be kept: it would not do the same again"),
         }
     }
 }

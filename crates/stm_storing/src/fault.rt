@@ -113,7 +113,9 @@ impl fmt::Display for StoreFault {
             StoreFault::Output => f.write_str("the report could not be written"),
             StoreFault::NoThread => f.write_str("no thread"),
             StoreFault::Audit(job) => write!(f, "audit {job}"),
-            StoreFault::Disagrees => f.write_str("what was run could not be kept: it would not do the same again"),
+            StoreFault::Disagrees => f.write_str(
+                "what was run could not be kept: it would not do the same again",
+            ),
         }
     }
 }

@@ -154,11 +154,25 @@ impl Runner {
         ensures same { self.new.runner ≡ self.old.runner }
         ensures ahead { IfOk result (λ ahead. IsAhead ahead self.old.runner) }
     {
-        let next = self.attempt.advance(&self.program)?;
-        let ahead = ahead_of(&next, self.attempt.reads());
-        drop(next);
-        rest(&mut self.attempt)?;
+        let ahead = self.look()?;
+        self.rest()?;
         Ok(ahead)
+    }
+
+    /// Goes on as far as the answers take the program, and says what the next step is.
+    fn look(&mut self) -> Result<Ahead, AllocError>
+        ensures same { self.new.runner ≡ self.old.runner }
+        ensures ahead { IfOk result (λ ahead. IsAhead ahead self.old.runner) }
+    {
+        let next = self.attempt.advance(&self.program)?;
+        Ok(ahead_of(&next, self.attempt.reads()))
+    }
+
+    /// Lets the attempt rest.
+    fn rest(&mut self) -> Result<(), AllocError>
+        ensures { self.new.runner ≡ self.old.runner }
+    {
+        rest(&mut self.attempt)
     }
 
     /// Takes the answer that the runner waits for.

@@ -14,7 +14,7 @@ fn program_in(tokens: &[Token]) -> &[Token] {
     for (index, token) in tokens.iter().enumerate() {
         open = open_behind(open, &token.kind);
         if open == 0 && token.kind.is_symbol(Symbol::RightBrace) {
-            return tokens.get(..=index).unwrap_or(tokens);
+            return tokens.get(..index.saturating_add(1)).unwrap_or(tokens);
         }
     }
     tokens
@@ -96,19 +96,20 @@ fn with_arguments(
     Ok(text)
 }
 
-/// The line of the first fault of a text, where that is one of kinds.
-fn line_of_kinds(alloc: Global, text: &[u8]) -> Result<Option<usize>, AllocError> {
+/// The line of a fault of a text, where that is one of kinds.
+fn line_of_kinds(text: &[u8], bad: BadSource) -> Option<usize> {
+    match bad.cause {
+        SourceCause::Kind => Some(position_in(text, bad.at).line),
+        _ => None,
+    }
+}
+
+/// The same of its first fault.
+fn line_in(alloc: Global, text: &[u8]) -> Result<Option<usize>, AllocError> {
     match read_source(alloc, text) {
-        Err(
-            SourceError::Bad(
-                BadSource {
-                    at,
-                    cause: SourceCause::Kind,
-                },
-            ),
-        ) => Ok(Some(position_in(text, at).line)),
+        Ok(_) => Ok(None),
+        Err(SourceError::Bad(bad)) => Ok(line_of_kinds(text, bad)),
         Err(SourceError::OutOfMemory) => Err(AllocError),
-        _ => Ok(None),
     }
 }
 
@@ -125,5 +126,5 @@ pub(crate) fn line_of_second_use(
     let program = program_in(spot.before.get(index.saturating_add(1)..).unwrap_or(&[]));
     let source = str::from_utf8(source).unwrap_or("");
     let text = with_arguments(alloc, source, program, spot.from)?;
-    line_of_kinds(alloc, text.as_str().as_bytes())
+    line_in(alloc, text.as_str().as_bytes())
 }

@@ -20,7 +20,6 @@ pub fn ascending_is_unique()
 {}
 
 /// A lease has one list of keys.
-#[tactic(auto, using(crate::proofs::KeyLaws::one_list_of_keys))]
 pub fn one_list_of_keys()
     ensures { OneListOfKeys }
 {}

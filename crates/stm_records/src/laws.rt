@@ -3,13 +3,11 @@ ghost use Rattle.stm_records.specs.Laws.{ServesTheAcknowledged, TellsDamage};
 
 /// A file of acknowledged records, one more in flight, a crash, and an opening: what is served is what was acknowledged, in order, with the one in flight
 /// or without.
-#[tactic(auto, using(crate::proofs::Restart::serves))]
 pub fn serves_the_acknowledged()
     ensures { ServesTheAcknowledged }
 {}
 
 /// A record that is not the last, and whose bytes are no record any more: nothing is served, its offset is told, and no other one.
-#[tactic(auto, using(crate::proofs::Restart::tells))]
 pub fn tells_damage()
     ensures { TellsDamage }
 {}

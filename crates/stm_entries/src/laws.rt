@@ -2,20 +2,17 @@
 ghost use Rattle.stm_entries.specs.Laws.{ReplayGoesOn, LegalityGoesOn, ReplayOnlyAdds};
 
 /// The replay of entries and more entries is the replay of the later ones from where the earlier ones lead.
-#[tactic(auto, using(crate::proofs::Replaying::replay_goes_on))]
 pub fn replay_goes_on()
     ensures { ReplayGoesOn }
 {}
 
 /// Entries are legal exactly where a prefix of them is, and the rest from where that prefix leads.
-#[tactic(auto, using(crate::proofs::Replaying::legality_goes_on))]
 pub fn legality_goes_on()
     ensures { LegalityGoesOn }
 {}
 
 /// Whatever is replayed, the history is the one before with revisions added to it, each of which changes
 /// something and no key twice.
-#[tactic(auto, using(crate::proofs::Adding::replay_only_adds))]
 pub fn replay_only_adds()
     ensures { ReplayOnlyAdds }
 {}

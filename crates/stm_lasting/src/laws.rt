@@ -2,13 +2,11 @@
 ghost use Rattle.stm_lasting.specs.Laws.{OpensToOne, ServesTheKept};
 
 /// A file opens to one world.
-#[tactic(auto, using(crate::proofs::Restarts::to_one))]
 pub fn opens_to_one()
     ensures { OpensToOne }
 {}
 
 /// A world was kept, one more text was in flight, a crash came, and the file was opened: the world is the one that was kept, or the one after the text.
-#[tactic(auto, using(crate::proofs::Restarts::serves))]
 pub fn serves_the_kept()
     ensures { ServesTheKept }
 {}

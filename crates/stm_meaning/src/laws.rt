@@ -9,62 +9,52 @@ ghost use Rattle.stm_meaning.specs.Leaves.{GetGives, RevGives, TextsAreKeys, Num
 ///
 /// Where the run on the answers came to its end, by `abort` or by a fault too, it is the other run. Where it
 /// wants a key, what it saw until then is the beginning of what the other run sees.
-#[tactic(auto, using(crate::proofs::RunLaws::answers_give_the_run))]
 pub fn answers_give_the_run()
     ensures { AnswersGiveTheRun }
 {}
 
 /// A run over a look-up that knows every key, such as a state, comes to its end.
-#[tactic(auto, using(crate::proofs::RunLaws::whole_lookups_end))]
 pub fn whole_lookups_end()
     ensures { WholeLookupsEnd }
 {}
 
 /// A key that a run wants is not empty, and its look-up knows nothing of it.
-#[tactic(auto, using(crate::proofs::RunLaws::wanted_keys_are_unknown))]
 pub fn wanted_keys_are_unknown()
     ensures { WantedKeysAreUnknown }
 {}
 
 /// No key that a run writes or reads is empty, and none of its latest writes is of the empty key.
-#[tactic(auto, using(crate::proofs::RunKeyLaws::keys_are_not_empty))]
 pub fn keys_are_not_empty()
     ensures { KeysAreNotEmpty }
 {}
 
 /// The look-up of a run knows each key that the run reads, and no key stands twice among them.
-#[tactic(auto, using(crate::proofs::RunKeyLaws::reads_are_known))]
 pub fn reads_are_known()
     ensures { ReadsAreKnown }
 {}
 
 /// The effect of writes leaves of each key what its last write leaves: its last write of the key is the key's
 /// last write, or nothing where that one deletes an absent key.
-#[tactic(auto, using(crate::proofs::EffectLemmas::effect_leaves_last_writes))]
 pub fn effect_leaves_last_writes()
     ensures { EffectLeavesLastWrites }
 {}
 
 /// Over a look-up that knows every key, a `get` gives the key's value after the run's writes.
-#[tactic(auto, using(crate::proofs::LeafLaws::get_gives))]
 pub fn get_gives_the_value()
     ensures { GetGives }
 {}
 
 /// Over a look-up that knows every key, a `rev` gives the key's modification revision there.
-#[tactic(auto, using(crate::proofs::LeafLaws::rev_gives))]
 pub fn rev_gives_the_revision()
     ensures { RevGives }
 {}
 
 /// A text that is not empty is a key, and a put and a deletion of it are writes.
-#[tactic(auto, using(crate::proofs::LeafLaws::texts_are_keys))]
 pub fn texts_are_keys()
     ensures { TextsAreKeys }
 {}
 
 /// A number in range that was written as text is read back.
-#[tactic(auto, using(crate::proofs::LeafLaws::numbers_are_read_back))]
 pub fn numbers_are_read_back()
     ensures { NumbersAreReadBack }
 {}

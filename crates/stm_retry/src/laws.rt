@@ -16,7 +16,6 @@ pub fn stops_go_on()
 
 /// Some wrong accounts of how a run goes on after an advance that had expired leases when it was stopped: the advance reports its
 /// whole list again; the world is as it was before the advance.
-#[tactic(auto, using(crate::proofs::Stops::wrong_stops))]
 pub fn wrong_stops_are_none()
     ensures { WrongStops }
 {}

@@ -3,7 +3,6 @@ ghost use Rattle.stm_sites.specs.Laws.{SitesAreFirst};
 
 /// Where the run of a block stops, the place of its site begins with the index of a statement of the block, counted from 0: the statements
 /// before that one come to their end, and with it the run stops as it does.
-#[tactic(auto, using(crate::proofs::SiteLemmas::sites_are_first))]
 pub fn sites_are_first()
     ensures { SitesAreFirst }
 {}

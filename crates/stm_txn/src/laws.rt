@@ -3,20 +3,17 @@ ghost use Rattle.stm_txn.specs.Advances.{KeysOfLeaseAreAttached, AdvanceExpires}
 ghost use Rattle.stm_txn.specs.PresentKeys.{PresentKeysAreListed};
 
 /// The keys of a lease, as they are computed from the history, are those that are attached to it, ascending by bytes.
-#[tactic(auto, using(crate::proofs::Naming::are_keys))]
 pub fn keys_of_lease_are_attached()
     ensures { KeysOfLeaseAreAttached }
 {}
 
 /// An advance that does not go back ends due leases one after another, each the first that is due, until none
 /// is due or the next one can't end.
-#[tactic(auto, using(crate::proofs::Advancing::advance_expires))]
 pub fn advance_expires()
     ensures { AdvanceExpires }
 {}
 
 /// The keys that are present, as they are computed from the history, are every ascending list of exactly these.
-#[tactic(auto, using(crate::proofs::Naming::present_listed))]
 pub fn present_keys_are_listed()
     ensures { PresentKeysAreListed }
 {}

@@ -4,20 +4,17 @@ ghost use Rattle.stm_workers.specs.Laws.{AttemptsAreCounted};
 ghost use Rattle.stm_workers.specs.Stops.{StopsAreOfOneState};
 
 /// Where all ends stand, each commit among them is an entry of its own.
-#[tactic(auto, using(crate::proofs::EndLaws::apart))]
 pub fn commits_are_apart()
     ensures { CommitsAreApart }
 {}
 
 /// Of a job at a serializable level that aborted or came to a fault, there is a state of the hall's history since it was handed in on which its
 /// program, run alone, ends so.
-#[tactic(auto, using(crate::proofs::StopLaws::stops_are_of_one_state))]
 pub fn stops_are_of_one_state()
     ensures { StopsAreOfOneState }
 {}
 
 /// Of each job that was run at least one attempt was made, and at most as many as it may send commits; of one that gave up it was exactly that many.
-#[tactic(auto, using(crate::proofs::AttemptLaws::attempts_are_counted))]
 pub fn attempts_are_counted()
     ensures { AttemptsAreCounted }
 {}

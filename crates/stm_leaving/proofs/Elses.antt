@@ -78,7 +78,7 @@ module _ (look : Lookup) (v : ℕ) (y : Value) (Fit : List Value → Type 0) whe
   carried (Stops stop s) = Stops stop (with_variable v y s)
 
   -- the second, begun with the variable set, does what the first does
-  record Same {X : Type 0} (f g : Session → Outcome X) : Type 0 where
+  pub record Same {X : Type 0} (f g : Session → Outcome X) : Type 0 where
     goes : (s : Session) → Fit s.variables → g (with_variable v y s) ≡ carried (f s)
     sized : (s : Session) → Fit s.variables → Sized (f s)
 

@@ -20,7 +20,7 @@ use Rattle.stm_leaving.specs.SourceElses.{sets_part, needs_source, needs_part, n
 use Rattle.stm_leaving.specs.Heads.{fill_condition, fill_head}
 use Rattle.stm_leaving.specs.Unseen.{names}
 use Rattle.stm_leaving.proofs.Elses.{set_again, or_none, Sized, carried, sized_then, same_given, same_evaluate, but_for_carried, Sizes, hits, ended, test, sized_get, or_else-sized, set_else_runs_alike}
-use Rattle.stm_leaving.proofs.UnseenLemmas.{unneeded_behind, Any, Unseen, then_unseen, then_exact, same_unseen, own, same_holds, puts, begin_unseen, begin_exact, setter_exact, filled_holds, head_same, head_exact}
+use Rattle.stm_leaving.proofs.UnseenLemmas.{unneeded_behind, Any, Unseen, then_unseen, then_exact, same_unseen, own, same_holds, puts, begin_unseen, begin_exact, setter_exact, statement_unseen, filled_holds, head_same, head_exact}
 
 module _ (look : Lookup) (v : ℕ) where
   abbrev going : Unit {0} → Session → Outcome Way

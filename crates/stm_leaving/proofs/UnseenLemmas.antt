@@ -17,7 +17,7 @@ use Rattle.stm_leaving.specs.Heads.{fill_condition, fill_head, needs_inside, Lif
 use Rattle.stm_leaving.specs.Unseen.{names, sets, needs, needs_one, FreeVariablesAreUnseen, LiftedInFront}
 use Rattle.stm_steps.specs.declared.fault.Fault.TheVariants.{TurnLimit}
 use Rattle.stm_steps.specs.declared.stop.Stop.TheVariants.{Faulted}
-use Rattle.stm_leaving.proofs.Elses.{set_again, set_behind, or_none, Sized, carried, sized_then, same_then, same_given, same_evaluate, same_own, but_for_carried, writing, same_write, plain_same, Sizes, hits}
+use Rattle.stm_leaving.proofs.Elses.{Same, set_again, set_behind, or_none, Sized, carried, sized_then, same_then, same_given, same_evaluate, same_own, but_for_carried, writing, same_write, plain_same, Sizes, hits}
 use Rattle.stm_leaving.proofs.Elses.{then_set, sized_get, lifted_goes, or_else-sized, but_for_all}
 
 pub unneeded_behind : (x y : Bool) → (not x && y) ≡ false → (x ≡ true) ⊎ (y ≡ false)
@@ -195,7 +195,7 @@ module _ (look : Lookup) (v : ℕ) where
   mutual
     unfolding run_statement needs
 
-    statement_unseen : (p : Statement) → needs_one v p ≡ false → Unseen (run_statement look p)
+    pub statement_unseen : (p : Statement) → needs_one v p ≡ false → Unseen (run_statement look p)
     statement_unseen (Set w e) h s t near =
         then_unseen (evaluate look e s) (evaluate look e t) (puts w) (same_unseen (evaluate look e) (own e h) s t near) (puts_unseen w)
     statement_unseen (Put e f lease) h s t near =

@@ -8,7 +8,7 @@ ghost use Rattle.stm_report_lines.specs.LineData.{list, whole, null_or, value_da
 ghost use Rattle.stm_report_lines.specs.LineData.{op_data, read_data, expired_data, keyed_data, event_data};
 
 use crate::arrays::{parts_json, worded_json};
-use serde_json::Value as Json;
+use serde_json::{Value as Json, json};
 use std::alloc::{AllocError, Global};
 use stm_events::{
     CommittedRead, Event, EventRefusal, Expired, Fault, KeyRead, OpReply, TraceItem, Value,
@@ -191,26 +191,15 @@ impl Spelled for OpReply {
 }
 
 /// A word, a key, and what it has.
-pub(crate) fn keyed_json<'a>(
+pub(crate) fn keyed_json(
     alloc: Global,
     word: &str,
-    key: &'a str,
-    state: &'a KeyState,
+    key: &str,
+    state: &KeyState,
 ) -> Result<Json, AllocError>
     ensures { IfOk result (λ v. view v ≡ keyed_data word.now key.now state.now) }
 {
-    worded_json(
-        alloc,
-        word,
-        &[
-            &key,
-            &state.value,
-            &state.create_rev,
-            &state.mod_rev,
-            &state.version,
-            &state.lease,
-        ],
-    )
+    json!(in alloc; [word, key, state.value.as_str(), state.create_rev, state.mod_rev, state.version, state.lease])
 }
 
 impl Spelled for Event {
@@ -219,10 +208,7 @@ impl Spelled for Event {
     fn to_json(&self, alloc: Global) -> Result<Json, AllocError> {
         match self {
             Event::Put { key, state } => keyed_json(alloc, "PUT", key.as_str(), state),
-            Event::Delete { key, revision } => {
-                let key = key.as_str();
-                worded_json(alloc, "DELETE", &[&key, revision])
-            }
+            Event::Delete { key, revision } => json!(in alloc; ["DELETE", key.as_str(), *revision]),
         }
     }
 }

@@ -1,5 +1,5 @@
 -- Copying in what is defined outside of programs: a value whose parameters are its variables, in their order.
-use Rattle.std.specs.Prelude.{ℕ, zero, suc, ◌+◌, ◌-◌, List, [], ◌∷◌, ◌++◌, length, take, drop, Bool, true, false, ◌&&◌, not, Option, Some, None, is_some, Ok, Err, Result, is_ok, slice_get, unwrap_or, nat_eq, nat_lt, if◌then◌else◌}
+use Rattle.std.specs.Prelude.{ℕ, zero, suc, ◌+◌, ◌-◌, List, [], ◌∷◌, ◌++◌, length, take, drop, Bool, true, false, ◌&&◌, not, Option, Some, None, is_some, Ok, Err, is_ok, slice_get, unwrap_or, nat_eq, nat_lt, if◌then◌else◌}
 use Rattle.stm_tokens.specs.declared.token.Token.{Token}
 use Rattle.stm_program.specs.declared.limits.TheConstants.{MAX_NODES}
 use Rattle.stm_program.specs.Size.{expression_nodes}

@@ -66,7 +66,7 @@ fn collect_layers<O: Observer>(
     let most = budget.left;
     for gone_through in 0..most {
         budget.observer.passed(gone_through, budget.left);
-        match next_layer(alloc, gathered, layer.as_slice(), budget) {
+        match next_layer(alloc, gathered, layer, budget) {
             Ok(next) => {
                 collect_whole(alloc, others, next.as_slice(), found, schedules)?;
                 if !can_go_on(gathered, next.as_slice())? {

@@ -384,6 +384,18 @@ gone_made {P} {M} {O} s layer left next old now gone rule =
     ap (count_among (s rule) 1) (sym gone.split) ∙ count_of_both (s rule) gone.before left in
     omega (arith, both, gone.made rule)
 
+-- nor where it stopped amid the moves from a place
+pub gone_made_amid : {P M O : Type 0} (s : ℕ → Steps P M O) (layer left next : List (Reached P M)) (r : Reached P M) (old now then : ℕ) →
+    HasGoneOn P M O s layer (r ∷ left) next old now → (rule : ℕ) → now ≤ then + count_among (s rule) 1 (r ∷ []) → old ≤ then + count_among (s rule) 1 layer
+gone_made_amid {P} {M} {O} s layer left next r old now then gone rule made =
+    let both : count_among (s rule) 1 layer ≡ count_among (s rule) 1 gone.before + count_among (s rule) 1 (r ∷ left) =
+    ap (count_among (s rule) 1) (sym gone.split) ∙ count_of_both (s rule) gone.before (r ∷ left) in
+    omega (arith, both, gone.made rule, made)
+
+pub nothing_left : {A : Type 0} (xs : List A) → length xs ≡ 0 → xs ≡ []
+nothing_left [] none = refl
+nothing_left (x ∷ xs) none = absurd (omega (arith, none))
+
 -- none is left
 pub gone_all : {P M O : Type 0} (s : ℕ → Steps P M O) (layer next : List (Reached P M)) (old now : ℕ) → HasGoneOn P M O s layer [] next old now →
     (rule : ℕ) → StandFor P M O (s rule) next (moved_from_each (s rule) layer)

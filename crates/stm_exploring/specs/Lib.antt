@@ -1,6 +1,5 @@
 pub mod Asking
 pub mod Lines
-pub mod Settings
 pub mod Judging
 pub mod Waits
 pub mod Anomalies

@@ -37,7 +37,6 @@ mod searching;
 mod seen_ends;
 mod serial;
 mod serial_levels;
-mod setting;
 mod setup;
 mod waits;
 mod watching;

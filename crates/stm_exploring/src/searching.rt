@@ -8,7 +8,6 @@ ghost use Rattle.stm_serial_search.specs.Started.{HaveNoStep};
 ghost use Rattle.stm_exploring.specs.declared.rules.Rule.{Rule as RuleValue};
 ghost use Rattle.stm_exploring.specs.Asking.{opening_of, place_of};
 ghost use Rattle.stm_exploring.specs.Exploring.{IsPrinted};
-ghost use Rattle.stm_exploring.specs.Settings.{beginning};
 ghost use Rattle.stm_exploring.specs.Judging.{AreAnswers, AreFound, AreFoundBeside, AreFoundFrom, AreFoundWhen};
 
 use crate::accounts::tell_account;
@@ -20,7 +19,6 @@ use crate::printed::Printed;
 use crate::printing::print;
 use crate::rules::{Rule, RuleAnswer};
 use crate::seen_ends::SeenEnds;
-use crate::setting::Setting;
 use crate::setup::{run_setup, setup_and_others};
 use crate::watching::judge_waiting;
 use std::alloc::{AllocError, Global};
@@ -54,52 +52,71 @@ fn judge<O: Observer>(
 /// Whether each is kept after every schedule in which these runners wait, of whose ends this is known.
 fn judge_beside<O: Observer>(
     alloc: Global,
-    setting: &Setting<'_>,
+    world: &World,
+    others: &[WorldEvent],
+    ends: &[Option<RunnerEnd>],
+    programs: &[Program],
+    comparing: bool,
+    waits: &[Wait],
     rules: &[Program],
     seen: &SeenEnds,
     budget: &mut Budget<O>,
 ) -> Result<Vec<Answer>, AllocError>
-    requires programs { AreProgramsOf setting.now.programs.now setting.now.world.now.runners }
-    requires comparing { setting.now.comparing ≡ true → IsComparing (beginning setting.now) }
-    ensures { IfOk result (λ answers. AreFoundBeside setting.now.waits.now rules.now (beginning setting.now) setting.now.ends.now answers.items) }
+    requires programs { AreProgramsOf programs.now world.now.runners }
+    requires comparing { comparing ≡ true → IsComparing (record { world = world.now; others = others.now }) }
+    ensures { IfOk result (λ answers. AreFoundBeside waits.now rules.now (record { world = world.now; others = others.now }) ends.now answers.items) }
 {
-    match setting.waits {
-        [] => judge(
+    match waits {
+        [] => judge(alloc, world, others, programs, comparing, rules, budget),
+        [_, ..] => judge_waiting(
             alloc,
-            setting.world,
-            setting.others,
-            setting.programs,
-            setting.comparing,
+            world,
+            others,
+            ends,
+            waits,
+            When::Each,
             rules,
+            seen,
             budget,
         ),
-        [_, ..] => judge_waiting(alloc, setting, When::Each, rules, seen, budget),
     }
 }
 
 /// The same of rules that are asked then.
 fn judge_when<O: Observer>(
     alloc: Global,
-    setting: &Setting<'_>,
+    world: &World,
+    others: &[WorldEvent],
+    ends: &[Option<RunnerEnd>],
+    programs: &[Program],
+    comparing: bool,
+    waits: &[Wait],
     when: When,
     rules: &[Program],
     seen: &SeenEnds,
     budget: &mut Budget<O>,
 ) -> Result<Vec<Answer>, AllocError>
-    requires programs { AreProgramsOf setting.now.programs.now setting.now.world.now.runners }
-    requires comparing { setting.now.comparing ≡ true → IsComparing (beginning setting.now) }
-    ensures { IfOk result (λ answers. AreFoundWhen when setting.now.waits.now rules.now (beginning setting.now) setting.now.ends.now answers.items) }
+    requires programs { AreProgramsOf programs.now world.now.runners }
+    requires comparing { comparing ≡ true → IsComparing (record { world = world.now; others = others.now }) }
+    ensures { IfOk result (λ answers. AreFoundWhen when waits.now rules.now (record { world = world.now; others = others.now }) ends.now answers.items) }
 {
     match when {
-        When::Each => judge_beside(alloc, setting, rules, seen, budget),
-        When::Last => judge_waiting(alloc, setting, when, rules, seen, budget),
+        When::Each => judge_beside(
+            alloc, world, others, ends, programs, comparing, waits, rules, seen, budget,
+        ),
+        When::Last => judge_waiting(alloc, world, others, ends, waits, when, rules, seen, budget),
     }
 }
 
 /// What is known of these rules, all of which are asked then: they are searched for in one walk, for which at most so many moves are made.
 fn judge_group<O: Observer>(
     alloc: Global,
-    setting: &Setting<'_>,
+    world: &World,
+    others: &[WorldEvent],
+    ends: &[Option<RunnerEnd>],
+    programs: &[Program],
+    comparing: bool,
+    waits: &[Wait],
     when: When,
     rules: &[Rule],
     seen: &SeenEnds,
@@ -107,15 +124,27 @@ fn judge_group<O: Observer>(
     budget: &mut Budget<O>,
     answers: &mut Vec<RuleAnswer>,
 ) -> Result<(), AllocError>
-    requires programs { AreProgramsOf setting.now.programs.now setting.now.world.now.runners }
-    requires comparing { setting.now.comparing ≡ true → IsComparing (beginning setting.now) }
+    requires programs { AreProgramsOf programs.now world.now.runners }
+    requires comparing { comparing ≡ true → IsComparing (record { world = world.now; others = others.now }) }
     requires when { All (λ (rule : RuleValue). rule.when ≡ when) rules.now }
-    ensures { OnOk result ((before : List RuleValue) → AreFoundFrom setting.now.waits.now before (beginning setting.now) setting.now.ends.now answers.old.items
-        → AreFoundFrom setting.now.waits.now (before ++ rules.now) (beginning setting.now) setting.now.ends.now answers.new.items) }
+    ensures { OnOk result ((before : List RuleValue) → AreFoundFrom waits.now before (record { world = world.now; others = others.now }) ends.now answers.old.items
+        → AreFoundFrom waits.now (before ++ rules.now) (record { world = world.now; others = others.now }) ends.now answers.new.items) }
 {
     let asked = asked_by(alloc, rules)?;
     budget.left = most;
-    let found = judge_when(alloc, setting, when, asked.as_slice(), seen, budget)?;
+    let found = judge_when(
+        alloc,
+        world,
+        others,
+        ends,
+        programs,
+        comparing,
+        waits,
+        when,
+        asked.as_slice(),
+        seen,
+        budget,
+    )?;
     push_answers(rules, when, found, answers)?;
     Ok(())
 }
@@ -124,14 +153,19 @@ fn judge_group<O: Observer>(
 /// moves may be made as `budget` has left.
 fn judge_rules<O: Observer>(
     alloc: Global,
-    setting: &Setting<'_>,
+    world: &World,
+    others: &[WorldEvent],
+    ends: &[Option<RunnerEnd>],
+    programs: &[Program],
+    comparing: bool,
+    waits: &[Wait],
     rules: &[Rule],
     seen: &SeenEnds,
     budget: &mut Budget<O>,
 ) -> Result<Vec<RuleAnswer>, AllocError>
-    requires programs { AreProgramsOf setting.now.programs.now setting.now.world.now.runners }
-    requires comparing { setting.now.comparing ≡ true → IsComparing (beginning setting.now) }
-    ensures { IfOk result (λ answers. AreFoundFrom setting.now.waits.now rules.now (beginning setting.now) setting.now.ends.now answers.items) }
+    requires programs { AreProgramsOf programs.now world.now.runners }
+    requires comparing { comparing ≡ true → IsComparing (record { world = world.now; others = others.now }) }
+    ensures { IfOk result (λ answers. AreFoundFrom waits.now rules.now (record { world = world.now; others = others.now }) ends.now answers.items) }
 {
     let most = budget.left;
     let mut answers = Vec::new(alloc);
@@ -145,7 +179,12 @@ fn judge_rules<O: Observer>(
         let group = group_of(rules, done, end);
         judge_group(
             alloc,
-            setting,
+            world,
+            others,
+            ends,
+            programs,
+            comparing,
+            waits,
             when,
             group,
             seen,
@@ -169,23 +208,30 @@ fn seen_if_waiting<'a>(waits: &[Wait], seen: &'a SeenEnds) -> Option<&'a SeenEnd
 /// The same, and it is said what that covers. These ends are seen.
 fn judge_seen<O: Audience>(
     alloc: Global,
-    setting: &Setting<'_>,
+    world: &World,
+    others: &[WorldEvent],
+    ends: &[Option<RunnerEnd>],
+    programs: &[Program],
+    comparing: bool,
+    waits: &[Wait],
     rules: &[Rule],
     seen: &SeenEnds,
     budget: &mut Budget<O>,
 ) -> Result<Vec<RuleAnswer>, AllocError>
-    requires programs { AreProgramsOf setting.now.programs.now setting.now.world.now.runners }
-    requires comparing { setting.now.comparing ≡ true → IsComparing (beginning setting.now) }
-    ensures { IfOk result (λ answers. AreFoundFrom setting.now.waits.now rules.now (beginning setting.now) setting.now.ends.now answers.items) }
+    requires programs { AreProgramsOf programs.now world.now.runners }
+    requires comparing { comparing ≡ true → IsComparing (record { world = world.now; others = others.now }) }
+    ensures { IfOk result (λ answers. AreFoundFrom waits.now rules.now (record { world = world.now; others = others.now }) ends.now answers.items) }
 {
-    let answers = judge_rules(alloc, setting, rules, seen, budget)?;
+    let answers = judge_rules(
+        alloc, world, others, ends, programs, comparing, waits, rules, seen, budget,
+    )?;
     let audience = &mut budget.observer;
-    let seen = seen_if_waiting(setting.waits, seen);
+    let seen = seen_if_waiting(waits, seen);
     tell_account(
         alloc,
-        setting.world,
-        setting.others,
-        setting.programs,
+        world,
+        others,
+        programs,
         answers.as_slice(),
         seen,
         audience,
@@ -196,29 +242,36 @@ fn judge_seen<O: Audience>(
 /// The same.
 fn judge_and_tell<O: Audience>(
     alloc: Global,
-    setting: &Setting<'_>,
+    world: &World,
+    others: &[WorldEvent],
+    ends: &[Option<RunnerEnd>],
+    programs: &[Program],
+    comparing: bool,
+    waits: &[Wait],
     rules: &[Rule],
     budget: &mut Budget<O>,
 ) -> Result<Vec<RuleAnswer>, AllocError>
-    requires programs { AreProgramsOf setting.now.programs.now setting.now.world.now.runners }
-    requires comparing { setting.now.comparing ≡ true → IsComparing (beginning setting.now) }
-    ensures { IfOk result (λ answers. AreFoundFrom setting.now.waits.now rules.now (beginning setting.now) setting.now.ends.now answers.items) }
+    requires programs { AreProgramsOf programs.now world.now.runners }
+    requires comparing { comparing ≡ true → IsComparing (record { world = world.now; others = others.now }) }
+    ensures { IfOk result (λ answers. AreFoundFrom waits.now rules.now (record { world = world.now; others = others.now }) ends.now answers.items) }
 {
-    let seen = SeenEnds::new(alloc, setting.world.runner_count())?;
-    let answers = judge_seen(alloc, setting, rules, &seen, budget);
+    let seen = SeenEnds::new(alloc, world.runner_count())?;
+    let answers = judge_seen(
+        alloc, world, others, ends, programs, comparing, waits, rules, &seen, budget,
+    );
     drop(seen);
     answers
 }
 
 /// Whether each rule is kept after every schedule in which these runners wait, once these events were run in a world, which start these programs.
-fn explore_from<'a, O: Audience>(
+fn explore_from<O: Audience>(
     alloc: Global,
-    world: &'a mut World,
+    world: &mut World,
     setup: &[WorldEvent],
-    others: &'a [WorldEvent],
-    programs: &'a [Program],
+    others: &[WorldEvent],
+    programs: &[Program],
     comparing: bool,
-    waits: &'a [Wait],
+    waits: &[Wait],
     rules: &[Rule],
     budget: &mut Budget<O>,
 ) -> Result<Vec<RuleAnswer>, AllocError>
@@ -230,15 +283,9 @@ fn explore_from<'a, O: Audience>(
     let ends = run_setup(alloc, world, setup)?;
     tell_parts(alloc, setup.len(), others.len(), &mut budget.observer);
     let known = ends.as_slice();
-    let setting = Setting {
-        world: &*world,
-        others,
-        ends: known,
-        programs,
-        comparing,
-        waits,
-    };
-    judge_and_tell(alloc, &setting, rules, budget)
+    judge_and_tell(
+        alloc, world, others, known, programs, comparing, waits, rules, budget,
+    )
 }
 
 /// The world of a scenario before its first event.

@@ -7,7 +7,7 @@ ghost use Rattle.stm_audit.specs.Lines.{finding_word, finding_line, findings_tex
 
 use crate::auditing::Audited;
 use crate::finding::Finding;
-use serde_json::Value as Json;
+use serde_json::{Value as Json, json};
 use std::alloc::{AllocError, Global};
 use stm_report_lines::{push_line, worded_json};
 
@@ -23,18 +23,7 @@ fn finding_json(alloc: Global, finding: &Finding) -> Result<Json, AllocError>
     ensures { IfOk result (λ v. view v ≡ finding_line finding.now) }
 {
     let word = finding_word(finding.is_broken);
-    let anomaly = finding.anomaly.name();
-    worded_json(
-        alloc,
-        word,
-        &[
-            &finding.commit,
-            &anomaly,
-            &finding.key,
-            &finding.seen,
-            &finding.held,
-        ],
-    )
+    json!(in alloc; [word, finding.commit, finding.anomaly.name(), finding.key.as_str(), finding.seen, finding.held])
 }
 
 /// Adds the line of a finding.

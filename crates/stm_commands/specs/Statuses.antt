@@ -6,9 +6,6 @@ use Rattle.stm_report.specs.declared.run_script.ScriptFault.{ScriptFault}
 use Rattle.stm_report.specs.declared.run_script.ScriptFault.TheVariants.{OutOfMemory, Bad, Read, Write}
 use Rattle.stm_devices.specs.Ends.{Devices}
 use Rattle.stm_report.specs.Script.{Does}
-use Rattle.stm_report.specs.declared.format.Format.{Format}
-use Rattle.stm_formats.specs.declared.format_label.RunnerLabel.{RunnerLabel}
-use Rattle.stm_report.specs.FormatScript.{DoesAs}
 
 -- 2 for bad input, 3 where memory ran out or a device failed
 abbrev pub status_of : ScriptFault → ℕ
@@ -36,11 +33,6 @@ EndsBy before after failed (Err fault) status = SaysOf before after failed fault
 abbrev pub Ends : Devices → Option (List ℕ) → Option (List ℕ) → Bool → ℕ → Type 0
 Ends devices before after failed status =
     (ended : Result (Unit {0}) ScriptFault) × Does devices ended × EndsBy before after failed ended status
-
--- the same of a script that writes in a format
-abbrev pub EndsAs : Format → List RunnerLabel → Devices → Option (List ℕ) → Option (List ℕ) → Bool → ℕ → Type 0
-EndsAs format labels devices before after failed status =
-    (ended : Result (Unit {0}) ScriptFault) × DoesAs format labels devices ended × EndsBy before after failed ended status
 
 abbrev pub no_format : List ℕ
 no_format =

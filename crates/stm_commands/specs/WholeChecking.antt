@@ -1,11 +1,11 @@
 -- What the command `check --whole` does to its devices, its statuses, and what it says.
-use Rattle.std.specs.Prelude.{◌≡◌, ◌==◌, ℕ, List, ◌++◌, length, Bool, false, if◌then◌else◌, Option, Result, Ok, Err, codes, decimal}
+use Rattle.std.specs.Prelude.{◌≡◌, ◌==◌, ℕ, List, ◌++◌, length, Bool, false, if◌then◌else◌, Option, Result, codes, decimal}
 use Rattle.std.specs.Io.KnownBytes.{Keeps}
 use Rattle.stm_check.specs.declared.sources.CheckFault.{CheckFault}
 use Rattle.stm_report.specs.declared.whole_comparing.WholeChecked.{WholeChecked}
 use Rattle.stm_report.specs.declared.whole_comparing.WholeChecked.TheVariants.{Yes, No}
 use Rattle.stm_report.specs.WholeJudging.{Judges}
-use Rattle.stm_commands.specs.Checking.{Devices, DoesTo, SaysOf}
+use Rattle.stm_commands.specs.Checking.{Devices, DoesTo}
 use Rattle.stm_commands.specs.Statuses.{Says}
 
 -- ---- answers
@@ -35,12 +35,3 @@ SaysOfAnswer before after failed (No line expected) status = SaysExpected before
 -- what `check --whole` did, by its answer
 abbrev pub Does : Devices → Result WholeChecked CheckFault → Type 0
 Does d result = DoesTo answer_text Judges d result
-
-abbrev pub EndsBy : Option (List ℕ) → Option (List ℕ) → Bool → Result WholeChecked CheckFault → ℕ → Type 0
-EndsBy before after failed (Ok checked) status = SaysOfAnswer before after failed checked status
-EndsBy before after failed (Err fault) status = SaysOf before after failed fault status
-
--- The command's end: an answer, with its status and what is said of it, or a fault, with what is said of it.
-abbrev pub Ends : Devices → Option (List ℕ) → Option (List ℕ) → Bool → ℕ → Type 0
-Ends devices before after failed status =
-    (ended : Result WholeChecked CheckFault) × Does devices ended × EndsBy before after failed ended status

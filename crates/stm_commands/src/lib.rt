@@ -10,8 +10,8 @@ mod showing;
 mod whole_checking;
 
 pub use checking::check_to;
-pub use explaining::{check_explained_to, check_whole_explained_to, script_explained_to};
-pub use formats::{NO_FORMAT, no_format_to, script_as_to};
+pub use explaining::{check_as_to, check_whole_to, script_as_to};
+pub use formats::{NO_FORMAT, no_format_to};
 pub use recipes::{USAGE, recipe_to};
 pub use scripting::script_to;
 pub use showing::show_to;
@@ -19,4 +19,3 @@ pub use stm_explain::{Input, KeptSource};
 pub use stm_recipe_lines::RecipeWords;
 pub use stm_report::{BadInput, DeviceFault, Format, RunnerLabel, Sink, Source, Std};
 pub use stm_show::Shown;
-pub use whole_checking::check_whole_to;

@@ -1,10 +1,9 @@
-//! The command `check --whole` over devices.
+//! What the command `check --whole` answers, and what it says of a no.
 ghost use Rattle.std.specs.Prelude.{◌≡◌, ◌≤◌, ◌+◌, ◌++◌, codes, false, IfOk, string_bytes};
 ghost use Rattle.stm_devices.specs.declared.transfer.TheConstants.{MOST_READ};
 ghost use Rattle.stm_devices.specs.Transfers.{HasWritten};
-ghost use Rattle.stm_commands.specs.WholeChecking.{no_text, answer_text, expected_text, SaysExpected, SaysOfAnswer, Does, Ends};
+ghost use Rattle.stm_commands.specs.WholeChecking.{no_text, answer_text, expected_text, SaysExpected, SaysOfAnswer, Does};
 
-use crate::checking::report_fault;
 use std::alloc::{AllocError, Global};
 use stm_check::CheckFault;
 use stm_explain::write_text;
@@ -95,44 +94,5 @@ pub(crate) fn say<E: Sink>(err: &mut E, checked: &WholeChecked) -> u8
     match checked {
         WholeChecked::Yes => 0,
         WholeChecked::No { expected, .. } => say_expected(err, expected.as_slice()),
-    }
-}
-
-/// Compares the text of `report` with the report that `script` writes of the scenario of `scenario`, line by line, and writes `yes` or
-/// `no LINE Differs` to `out`: the first line that is not alike, counted from 1.
-///
-/// The scenario is read and judged first, then the text. Gives the status: 0 for yes, 1 for no, 2 where the scenario is bad or the text
-/// is no report in its format, 3 where an allocation failed or one of the devices but `err` failed. On `err` it says at a no what is
-/// expected, `stmrun: expected LINE`, or `stmrun: expected no more lines` where the scenario's report has ended, and of a fault what
-/// `check` says of it; that takes no memory, and is whole where `err` then has not failed. That `err` fails changes no status. None of
-/// the devices has failed before. `scenario` and `report` are read at most 16777217 times each.
-pub fn check_whole_to<S: Source, R: Source, W: Sink, E: Sink>(
-    alloc: Global,
-    scenario: &mut S,
-    report: &mut R,
-    out: &mut W,
-    err: &mut E,
-) -> u8
-    requires scenario_works { S.failed scenario.old ≡ false }
-    requires report_works { R.failed report.old ≡ false }
-    requires out_works { W.failed out.old ≡ false }
-    requires err_works { E.failed err.old ≡ false }
-    ensures ends { Ends (record {
-      sources = record {
-        scenario = S.left scenario.old;
-        report = R.left report.old;
-        scenario_failed = S.failed scenario.new;
-        report_failed = R.failed report.new;
-      };
-      before = W.held out.old;
-      after = W.held out.new;
-      sink_failed = W.failed out.new;
-    }) (E.held err.old) (E.held err.new) (E.failed err.new) result }
-    ensures scenario_bounded { S.reads scenario.new ≤ S.reads scenario.old + MOST_READ }
-    ensures report_bounded { R.reads report.new ≤ R.reads report.old + MOST_READ }
-{
-    match answer(alloc, scenario, report, out) {
-        Ok(checked) => say(err, &checked),
-        Err(fault) => report_fault(err, &fault),
     }
 }

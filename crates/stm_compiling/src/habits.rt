@@ -7,7 +7,8 @@ use stm_tokens::{Operator, Symbol, TokenKind, Word};
 /// What is said of words that have no place in a source, which people know from elsewhere; nothing of others.
 pub(crate) fn said_of_word(word: &str) -> &'static str {
     match word {
-        "var" | "const" => "a new variable is let NAME = VALUE",
+        "var" => "a new variable is let NAME = VALUE",
+        "const" => "a constant is let NAME = VALUE",
         "func" | "fn" | "def" => "a program is program NAME(PARAMETER, ..) { .. }",
         "switch" | "case" | "match" => "choices are if, else if and else",
         "elif" | "elsif" | "elseif" => "another choice is else if CONDITION { .. }",

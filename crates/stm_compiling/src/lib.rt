@@ -24,6 +24,7 @@ mod placing;
 mod program;
 mod refusing;
 mod runners;
+mod second_uses;
 mod spans;
 mod spots;
 mod titles;

@@ -1,6 +1,7 @@
 //! Which argument of a start is of another kind than its program wants.
 
 use crate::calls::takes_list;
+use crate::second_uses::line_of_second_use;
 use crate::spots::Spot;
 use std::alloc::{AllocError, Global};
 use stm_program::Operator;
@@ -85,14 +86,25 @@ fn misfit_words(alloc: Global, name: &str, misfit: Misfit) -> Result<Option<Stri
 }
 
 /// What is said of a program that cannot be started with these arguments, none of which is of another kind than the first place that it stands in wants.
-fn both_words(alloc: Global, spot: Spot<'_>, name: &str) -> Result<Option<String>, AllocError> {
-    let why = if takes_list(spot.before, name) {
-        "the last ones are of two kinds, or one of them is wanted as a text and as a number"
-    } else {
-        "one is wanted as a text and as a number: text_of(NUMBER) makes a text of it there"
-    };
-    let said = format!(in alloc; "{name} cannot be started with these arguments: {why}")?;
-    Ok(Some(said))
+fn both_words(
+    alloc: Global,
+    source: &[u8],
+    spot: Spot<'_>,
+    name: &str,
+) -> Result<String, AllocError> {
+    if takes_list(spot.before, name) {
+        return format!(in alloc;
+            "{name} cannot be started with these arguments: the last ones are of two kinds, or one of them is wanted as a text and as a number"
+        );
+    }
+    match line_of_second_use(alloc, source, spot, name)? {
+        Some(line) => format!(in alloc;
+            "{name} cannot be started with these arguments: one is wanted as a text, and in line {line} as a number: num_of(TEXT) makes a number of it there"
+        ),
+        None => format!(in alloc;
+            "{name} cannot be started with these arguments: one is wanted as a text and as a number: text_of(NUMBER) makes a text of it there"
+        ),
+    }
 }
 
 /// What is said of the name of a program that is started, with which argument it cannot be; nothing of other names.
@@ -111,7 +123,7 @@ fn said_of_name(
     let kinds = kinds_before(alloc, source, start.at, name.as_str())?;
     match first_misfit(behind, kinds.as_slice()) {
         Some(misfit) => misfit_words(alloc, name.as_str(), misfit),
-        None => both_words(alloc, spot, name.as_str()),
+        None => Ok(Some(both_words(alloc, source, spot, name.as_str())?)),
     }
 }
 

@@ -5,9 +5,9 @@ ghost use Rattle.stm_explore.specs.Witnesses.{AreOrdered, AreWitnesses};
 ghost use Rattle.stm_explore.specs.Spots.{place_of};
 
 use crate::collecting::collect_whole;
-use crate::ends::copy_of_ends;
 use crate::gathering::Gathered;
 use crate::places::{ReportedPlace, WorldPlace, shared_copy};
+use crate::shared_ends::SharedEnds;
 use std::alloc::{AllocError, Global};
 use stm_history::Sequence;
 use stm_retry::World;
@@ -66,7 +66,7 @@ fn collect_layers<O: Observer>(
     let most = budget.left;
     for gone_through in 0..most {
         budget.observer.passed(gone_through, budget.left);
-        match next_layer(alloc, gathered, layer.as_slice(), budget) {
+        match next_layer(alloc, gathered, layer, budget) {
             Ok(next) => {
                 collect_whole(alloc, others, next.as_slice(), found, schedules)?;
                 if !can_go_on(gathered, next.as_slice())? {
@@ -100,11 +100,11 @@ fn collect_all<O: Observer>(
     ensures spent { IfOk result (λ stopped. OnSome stopped (budget.new.left ≡ 0)) }
     ensures far { IfOk result (λ stopped. IfSome stopped (λ n. budget.old.left ≤ count_up_to (suc n) (record { world = world.now; others = others.now }))) }
 {
-    let ends = copy_of_ends(alloc, ends)?;
+    let ends = SharedEnds::copy_of(alloc, ends)?;
     let world = shared_copy(alloc, world)?;
     let start = ReportedPlace {
         at: WorldPlace { world, taken: 0 },
-        ends: Sequence::of(ends),
+        ends,
     };
     let gathered = Gathered { alloc, others };
     let stopped = collect_layers(alloc, &gathered, start, budget, found, schedules)?;

@@ -1,17 +1,16 @@
 //! The places of a scenario, with what they show where no move can be made.
-ghost use Rattle.std.specs.Prelude.{◌≡◌, [], ◌∷◌, true, IfOk, IfSome, OnOk};
+ghost use Rattle.std.specs.Prelude.{◌≡◌, [], ◌∷◌, true, IfOk, IfSome};
 ghost use Rattle.stm_retry.specs.AtBase.{NextIsAtBase};
 ghost use Rattle.stm_schedules.specs.declared.moves.Move.TheVariants.{Step as StepOf};
 ghost use Rattle.stm_explore.specs.Spots.{outcome_steps, ShowTheSame};
 ghost use Rattle.stm_explore.specs.AlikeSpots.{outcomes_respected};
 
 use crate::alike::{hint_of, is_alike};
-use crate::ends::{are_same_ends, copy_of_ends};
+use crate::ends::are_same_ends;
 use crate::moving::{find_at_base, moves_at, rest_of, taken_after};
 use crate::places::{ReportedPlace, WorldPlace};
 use crate::reporting::describe_move;
 use std::alloc::{AllocError, Global};
-use stm_history::Sequence;
 use stm_retry::SharedWorld;
 use stm_schedules::{Move, Outcome};
 use stm_visited::System;
@@ -75,20 +74,19 @@ impl<'a> System for Gathered<'a> {
     }
 
     fn moved(&self, place: &ReportedPlace, chosen: Move) -> Result<ReportedPlace, AllocError> {
-        let mut ends = copy_of_ends(self.alloc, place.ends.as_slice())?;
-        let world = describe_move(
+        let (world, ends) = describe_move(
             self.alloc,
             &place.at.world,
             rest_of(self.others, place.at.taken),
             chosen,
-            &mut ends,
+            &place.ends,
         )?;
         Ok(ReportedPlace {
             at: WorldPlace {
                 world,
                 taken: taken_after(self.others, place.at.taken, chosen),
             },
-            ends: Sequence::of(ends),
+            ends,
         })
     }
 

@@ -24,6 +24,7 @@ mod orders;
 mod places;
 mod reporting;
 mod revisions;
+mod shared_ends;
 mod shown;
 mod turns;
 mod waiting;

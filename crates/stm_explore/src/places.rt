@@ -1,10 +1,9 @@
 //! The places that a search goes through.
 ghost use Rattle.std.specs.Prelude.{◌≡◌, IfOk};
 
+use crate::shared_ends::SharedEnds;
 use std::alloc::{AllocError, Global};
-use stm_history::Sequence;
 use stm_retry::{SharedWorld, World};
-use stm_schedules::RunnerEnd;
 
 /// A world, and how many of the others' events were taken.
 #[derive(Drop)]
@@ -17,7 +16,7 @@ pub(crate) struct WorldPlace {
 #[derive(Drop)]
 pub(crate) struct ReportedPlace {
     pub(crate) at: WorldPlace,
-    pub(crate) ends: Sequence<Option<RunnerEnd>>,
+    pub(crate) ends: SharedEnds,
 }
 
 /// A copy of a world, which others can share.

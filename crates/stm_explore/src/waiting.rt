@@ -9,15 +9,14 @@ ghost use Rattle.stm_explore.specs.Spots.{ShowTheSame};
 ghost use Rattle.stm_explore.specs.Waiting.{is_allowed, asks_if_there, waiting_steps, waiting_rules_steps, waiting_respected, IsExploredPatiently};
 
 use crate::asking::{When, asks, end_for};
-use crate::ends::copy_of_ends;
 use crate::exploring::{Explored, copy_of_moves};
 use crate::gathering::Gathered;
 use crate::judging::rule_at;
 use crate::onlooking::{Onlooker, Watched};
 use crate::places::{ReportedPlace, WorldPlace, shared_copy};
+use crate::shared_ends::SharedEnds;
 use crate::waits::{Wait, is_allowed};
 use std::alloc::{AllocError, Global};
-use stm_history::Sequence;
 use stm_meaning::End;
 use stm_program::Program;
 use stm_retry::{SharedWorld, World};
@@ -188,11 +187,11 @@ pub(crate) fn start_of(
 ) -> Result<ReportedPlace, AllocError>
     ensures { IfOk result (λ place. place ≡ record { at = record { world = world.now; taken = 0 }; ends = ends.now }) }
 {
-    let ends = copy_of_ends(alloc, ends)?;
+    let ends = SharedEnds::copy_of(alloc, ends)?;
     let world = world.share()?;
     Ok(ReportedPlace {
         at: WorldPlace { world, taken: 0 },
-        ends: Sequence::of(ends),
+        ends,
     })
 }
 

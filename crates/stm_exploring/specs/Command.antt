@@ -15,7 +15,9 @@ use Rattle.stm_exploring.specs.declared.rules.Rule.{Rule}
 use Rattle.stm_exploring.specs.Exploring.{Sources, ReadsProgram, Searches, SearchesFor}
 use Rattle.stm_exploring.specs.Questions.{Gathers}
 use Rattle.stm_exploring.specs.Levels.{SearchesLevels}
-use Rattle.stm_explain.specs.Saying.{bad_input, memory_fault, device_fault, Reports}
+use Rattle.stm_faulted_runs.specs.Lines.{OrNothing}
+use Rattle.stm_exploring.specs.Explaining.{KeptInput, Explained, ExplainsFault, ExplainsScenario, ExplainsProgram, ExplainsSearched}
+use Rattle.stm_explain.specs.Saying.{bad_input, memory_fault, device_fault, Says, ReportsMore}
 
 -- ---- answers and faults
 
@@ -53,44 +55,61 @@ Writes (Ok p) before after failed (Ok verdict) = (verdict ≡ p.verdict) × (fai
 Writes (Ok p) before after failed (Err fault) = (fault ≡ Device) × (failed ≡ true) × WritesFront before after p.text
 Writes (Err fault) before after failed result = (result ≡ Err fault) × (failed ≡ false) × Keeps before after
 
--- what is said and answered of a fault: its own message and status
-abbrev pub SaysOf : Option (List ℕ) → Option (List ℕ) → Bool → ExploreFault → ℕ → Type 0
-SaysOf before after failed fault status = Reports (fault_status fault) (fault_message fault) before after failed status
-
--- the status of an answer, with nothing said, or that of a fault, with what is said of it
-abbrev pub EndsBy : Sunk → Result SearchAnswer ExploreFault → ℕ → Type 0
-EndsBy err (Ok verdict) status = (status ≡ verdict_status verdict) × (err.failed ≡ false) × Keeps err.before err.after
-EndsBy err (Err fault) status = SaysOf err.before err.after err.failed fault status
+-- what is said and answered of a fault: its own message, what explains it after that, and its status
+abbrev pub SaysMoreOf : Bool → (ExploreFault → List ℕ → Type 0) → Option (List ℕ) → Option (List ℕ) → Bool → ExploreFault → ℕ → Type 0
+SaysMoreOf explain Explains before after failed fault status =
+    ReportsMore (Explained explain (Explains fault)) (fault_status fault) (fault_message fault) before after failed status
 
 -- ---- the command
 
--- its end, by what a search answered
-abbrev pub Finishes : Result Printed ExploreFault → Sunk → Sunk → ℕ → Type 0
-Finishes searched out err status =
-    (ended : Result SearchAnswer ExploreFault) × Writes searched out.before out.after out.failed ended × EndsBy err ended status
+-- after what is printed of a rule that is broken stands this, where faults are explained, and else nothing
+abbrev pub SaysOfVerdict : Bool → SearchAnswer → List ℕ → Option (List ℕ) → Option (List ℕ) → Bool → Type 0
+SaysOfVerdict false verdict more before after failed = (failed ≡ false) × Keeps before after
+SaysOfVerdict true Broken more before after failed = Says before after failed more
+SaysOfVerdict true other more before after failed = (failed ≡ false) × Keeps before after
 
--- with a rule
-abbrev pub Explores : List Wait → Option Level → Sources → Sunk → Sunk → ℕ → Type 0
-Explores waits level sources out err status =
-    (searched : Result Printed ExploreFault) × Searches waits level sources searched × Finishes searched out err status
+abbrev pub RuleEndsBy : Bool → KeptInput → KeptInput → Result Printed ExploreFault → Sunk → Result SearchAnswer ExploreFault → ℕ → Type 0
+RuleEndsBy explain scenario keeps searched err (Ok verdict) status =
+    (status ≡ verdict_status verdict) × (more : List ℕ) × OrNothing (Explained explain (ExplainsSearched keeps searched)) more
+    × SaysOfVerdict explain verdict more err.before err.after err.failed
+RuleEndsBy explain scenario keeps searched err (Err fault) status = SaysMoreOf explain (ExplainsFault scenario keeps) err.before err.after err.failed fault status
+
+abbrev pub RuleFinishes : Bool → KeptInput → KeptInput → Result Printed ExploreFault → Sunk → Sunk → ℕ → Type 0
+RuleFinishes explain scenario keeps searched out err status =
+    (ended : Result SearchAnswer ExploreFault) × Writes searched out.before out.after out.failed ended
+    × RuleEndsBy explain scenario keeps searched err ended status
+
+-- with a rule: it is explained, where faults are, where it is broken by a fault
+abbrev pub Explores : Bool → List Wait → Option Level → KeptInput → KeptInput → Sources → Sunk → Sunk → ℕ → Type 0
+Explores explain waits level scenario keeps sources out err status =
+    (searched : Result Printed ExploreFault) × Searches waits level sources searched × RuleFinishes explain scenario keeps searched out err status
+
+abbrev pub EndsBy : Bool → KeptInput → Sunk → Result SearchAnswer ExploreFault → ℕ → Type 0
+EndsBy explain scenario err (Ok verdict) status = (status ≡ verdict_status verdict) × (err.failed ≡ false) × Keeps err.before err.after
+EndsBy explain scenario err (Err fault) status = SaysMoreOf explain (ExplainsScenario scenario) err.before err.after err.failed fault status
+
+abbrev pub Finishes : Bool → KeptInput → Result Printed ExploreFault → Sunk → Sunk → ℕ → Type 0
+Finishes explain scenario gathered out err status =
+    (ended : Result SearchAnswer ExploreFault) × Writes gathered out.before out.after out.failed ended × EndsBy explain scenario err ended status
 
 -- the program of a rule was read, or it is said why not
-abbrev pub ReadsRule : Option (List ℕ) → Bool → Sunk → Result ProgramTree ℕ → Type 0
-ReadsRule known failed err (Ok program) = ReadsProgram known failed (Ok program) × (err.failed ≡ false) × Keeps err.before err.after
-ReadsRule known failed err (Err status) =
-    (fault : ExploreFault) × ReadsProgram known failed (Err fault) × SaysOf err.before err.after err.failed fault status
+abbrev pub ReadsRule : Bool → KeptInput → Option (List ℕ) → Bool → Sunk → Result ProgramTree ℕ → Type 0
+ReadsRule explain rule known failed err (Ok program) = ReadsProgram known failed (Ok program) × (err.failed ≡ false) × Keeps err.before err.after
+ReadsRule explain rule known failed err (Err status) =
+    (fault : ExploreFault) × ReadsProgram known failed (Err fault)
+    × SaysMoreOf explain (ExplainsProgram rule) err.before err.after err.failed fault status
 
 -- with rules that are known
-abbrev pub ExploresFor : List Wait → Option Level → List Rule → Option (List ℕ) → Bool → Sunk → Sunk → ℕ → Type 0
-ExploresFor waits level rules known failed out err status =
-    (searched : Result Printed ExploreFault) × SearchesFor waits level rules known failed searched × Finishes searched out err status
+abbrev pub ExploresFor : Bool → List Wait → Option Level → List Rule → KeptInput → Option (List ℕ) → Bool → Sunk → Sunk → ℕ → Type 0
+ExploresFor explain waits level rules scenario known failed out err status =
+    (searched : Result Printed ExploreFault) × SearchesFor waits level rules known failed searched × Finishes explain scenario searched out err status
 
 -- with these at each level
-abbrev pub ExploresLevels : List Wait → List Rule → Option (List ℕ) → Bool → Sunk → Sunk → ℕ → Type 0
-ExploresLevels waits rules known failed out err status =
-    (searched : Result Printed ExploreFault) × SearchesLevels waits rules known failed searched × Finishes searched out err status
+abbrev pub ExploresLevels : Bool → List Wait → List Rule → KeptInput → Option (List ℕ) → Bool → Sunk → Sunk → ℕ → Type 0
+ExploresLevels explain waits rules scenario known failed out err status =
+    (searched : Result Printed ExploreFault) × SearchesLevels waits rules known failed searched × Finishes explain scenario searched out err status
 
 -- without one
-abbrev pub GoesThrough : Question → Option Level → Option (List ℕ) → Bool → Sunk → Sunk → ℕ → Type 0
-GoesThrough question level known failed out err status =
-    (gathered : Result Printed ExploreFault) × Gathers question level known failed gathered × Finishes gathered out err status
+abbrev pub GoesThrough : Bool → Question → Option Level → KeptInput → Option (List ℕ) → Bool → Sunk → Sunk → ℕ → Type 0
+GoesThrough explain question level scenario known failed out err status =
+    (gathered : Result Printed ExploreFault) × Gathers question level known failed gathered × Finishes explain scenario gathered out err status

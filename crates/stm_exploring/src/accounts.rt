@@ -73,6 +73,7 @@ struct Came {
 #[derive(Drop)]
 struct Runs {
     has_committed: bool,
+    has_faulted: bool,
     ends: Vec<Came>,
     /// How many outputs a run of it had at most.
     outputs: usize,
@@ -182,6 +183,7 @@ fn count_end(ends: &mut Vec<Came>, how: String) -> Result<(), AllocError> {
 fn no_runs(alloc: Global) -> Runs {
     Runs {
         has_committed: false,
+        has_faulted: false,
         ends: Vec::new(alloc),
         outputs: 0,
         fault: None,
@@ -271,7 +273,18 @@ impl<'a> Account<'a> {
         match &run.end {
             End::Done => self.note_commit(runner, run.output.len()),
             End::Aborted(text) => self.note_abort(runner, text),
-            End::Faulted(fault) => self.note_word(runner, "faulted", fault.name()),
+            End::Faulted(fault) => {
+                self.mark_fault(runner);
+                self.note_word(runner, "faulted", fault.name())
+            }
+        }
+    }
+
+    /// Marks a runner of which a run came to a fault.
+    fn mark_fault(&mut self, runner: u64) {
+        let index = runner.saturating_sub(1);
+        if index < self.runners.len() as u64 {
+            self.runners[index as usize].has_faulted = true;
         }
     }
 
@@ -504,8 +517,13 @@ fn runner_key_line(
     key_line(alloc, who.as_str(), &asked.key, is_sure, near)
 }
 
-/// Says of a key that a runner asks for that nothing puts it: where another key is most likely meant, and where it is to be said how its runs ended. That
-/// is worth a doubt, if none of them committed.
+/// Whether a runner came to a fault, and asks for a key that some program puts: that no run puts it says nothing of the key, since the runs ended before.
+fn is_behind_fault(account: &Account<'_>, asked: &AskedKey, runs: &Runs) -> bool {
+    runs.has_faulted && account.keys.may_be_put(&asked.key)
+}
+
+/// Says of a key that a runner asks for that nothing puts it: where another key is most likely meant, and where it is to be said how its runs ended, unless
+/// that was by a fault before the key could be put. That is worth a doubt, if none of them committed.
 fn tell_asked<O: Audience>(
     account: &Account<'_>,
     asked: &AskedKey,
@@ -514,7 +532,7 @@ fn tell_asked<O: Audience>(
 ) -> Result<(), AllocError> {
     let alloc = account.alloc;
     let meant = meant(account, &asked.key)?;
-    let is_said = is_said(runs, account.told);
+    let is_said = is_said(runs, account.told) && !is_behind_fault(account, asked, runs);
     if !meant.is_empty() || (is_said && !runs.has_committed) {
         let near = nearest(alloc, &account.keys, &asked.key, NEAR)?;
         let line = runner_key_line(account, asked, near)?;

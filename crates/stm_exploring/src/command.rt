@@ -1,100 +1,26 @@
 //! The command `explore` over devices.
-ghost use Rattle.std.specs.Prelude.{◌≡◌, ◌≤◌, ◌+◌, ◌++◌, false};
+ghost use Rattle.std.specs.Prelude.{◌≡◌, ◌≤◌, ◌+◌, false};
 ghost use Rattle.stm_devices.specs.declared.transfer.TheConstants.{MOST_READ};
-ghost use Rattle.stm_explain.specs.Saying.{status_of as code_of, text_of, Reports};
-ghost use Rattle.stm_exploring.specs.Command.{verdict_status, fault_status, fault_message, SaysOf, Writes, Finishes, Explores, ExploresFor, ExploresLevels, GoesThrough, ReadsRule};
+ghost use Rattle.stm_exploring.specs.Command.{Explores, ExploresFor, ExploresLevels, GoesThrough, ReadsRule};
 
 use crate::audience::Audience;
+use crate::explaining::{
+    report_program_fault, report_rule_fault, report_search_fault, report_verdict,
+    searched_explanation,
+};
 use crate::exploring::{explore_sources, search_for};
 use crate::leveled::search_at_levels;
+use crate::messages::{status_of, write};
 use crate::outcomes::outcomes_of_source;
-use crate::printed::{Printed, SearchAnswer};
 use crate::question::Question;
-use crate::reading::{ExploreFault, program_of};
+use crate::reading::program_of;
 use crate::rules::Rule;
 use std::alloc::Global;
 use stm_devices::{Sink, Source};
-use stm_explain::{Message, write_text};
+use stm_explain::KeptSource;
 use stm_explore::{Budget, Wait};
+use stm_faulted_runs::said_of;
 use stm_program::{Level, Program};
-
-/// The status of what a search came to.
-pub(crate) fn status_of(verdict: SearchAnswer) -> u8
-    ensures { result ≡ verdict_status verdict }
-{
-    match verdict {
-        SearchAnswer::Kept => 0,
-        SearchAnswer::Broken => 1,
-        SearchAnswer::Open => 4,
-    }
-}
-
-/// Writes what a search prints, where it came to an answer.
-pub(crate) fn write<W: Sink>(
-    out: &mut W,
-    searched: Result<Printed, ExploreFault>,
-) -> Result<SearchAnswer, ExploreFault>
-    requires { W.failed out.old ≡ false }
-    ensures { Writes searched (W.held out.old) (W.held out.new) (W.failed out.new) result }
-{
-    let printed = searched?;
-    match write_text(out, printed.text.as_str()) {
-        Ok(()) => Ok(printed.verdict),
-        Err(_) => Err(ExploreFault::Device),
-    }
-}
-
-/// What is said of a fault.
-fn message(fault: &ExploreFault) -> Message<'_>
-    ensures status { code_of result ≡ fault_status fault.now }
-    ensures text { text_of result ≡ fault_message fault.now }
-{
-    match fault {
-        ExploreFault::BadScenario(bad) => Message::Bad {
-            begin: "stmrun: bad scenario at ",
-            bad,
-        },
-        ExploreFault::BadProgram(bad) => Message::Bad {
-            begin: "stmrun: bad program at ",
-            bad,
-        },
-        ExploreFault::BadWait(bad) => Message::Bad {
-            begin: "stmrun: bad wait ",
-            bad,
-        },
-        ExploreFault::OutOfMemory => Message::OutOfMemory,
-        ExploreFault::Device => Message::Device,
-    }
-}
-
-/// Says what went wrong, and returns the status. Takes no memory.
-fn report_fault<E: Sink>(err: &mut E, fault: &ExploreFault) -> u8
-    requires { E.failed err.old ≡ false }
-    ensures { SaysOf (E.held err.old) (E.held err.new) (E.failed err.new) fault.now result }
-{
-    message(fault).report(err)
-}
-
-/// Says what went wrong and more after it, and returns the status.
-pub(crate) fn report_with<E: Sink>(err: &mut E, fault: &ExploreFault, more: &str) -> u8
-    requires { E.failed err.old ≡ false }
-    ensures { Reports (fault_status fault.now) (fault_message fault.now ++ more.now) (E.held err.old) (E.held err.new) (E.failed err.new) result }
-{
-    message(fault).report_with(err, more)
-}
-
-/// Writes what a search prints or says what went wrong, and gives the status.
-fn finish<W: Sink, E: Sink>(searched: Result<Printed, ExploreFault>, out: &mut W, err: &mut E) -> u8
-    requires out_works { W.failed out.old ≡ false }
-    requires err_works { E.failed err.old ≡ false }
-    ensures { Finishes searched (record { before = W.held out.old; after = W.held out.new; failed = W.failed out.new })
-        (record { before = E.held err.old; after = E.held err.new; failed = E.failed err.new }) result }
-{
-    match write(out, searched) {
-        Ok(verdict) => status_of(verdict),
-        Err(fault) => report_fault(err, &fault),
-    }
-}
 
 /// Looks through the interleavings of the scenario of `scenario` for one after which the program of `keeps`, run alone on the state, does not
 /// come to its last statement, and writes to `out` what that came to.
@@ -112,35 +38,41 @@ fn finish<W: Sink, E: Sink>(searched: Result<Printed, ExploreFault>, out: &mut W
 /// `stmrun: bad scenario at PLACE: CAUSE`, `stmrun: bad program at PLACE: CAUSE`, `stmrun: bad wait RUNNER:FIRST: Range`, `stmrun: out of memory` or
 /// `stmrun: device fault`, whole where `err` then has not failed. That `err` fails changes no status. None of the devices has failed before.
 /// `scenario` and `keeps` are read at most 16777217 times each.
+///
+/// Where faults are to be explained, there stands after what is said of a bad input its explanation, as a line `NAME:LINE:COLUMN: WORDS`, and after what
+/// is printed of a rule that was broken by a fault a line of that form; or nothing where an allocation failed for these.
 pub fn explore_to<S: Source, R: Source, W: Sink, E: Sink, O: Audience>(
     alloc: Global,
-    scenario: &mut S,
-    keeps: &mut R,
+    explain: bool,
+    scenario: &mut KeptSource<'_, S>,
+    keeps: &mut KeptSource<'_, R>,
     waits: &[Wait],
     level: Option<Level>,
     budget: &mut Budget<O>,
     out: &mut W,
     err: &mut E,
 ) -> u8
-    requires scenario_works { S.failed scenario.old ≡ false }
-    requires keeps_works { R.failed keeps.old ≡ false }
+    requires scenario_works { S.failed scenario.old.source ≡ false }
+    requires keeps_works { R.failed keeps.old.source ≡ false }
     requires out_works { W.failed out.old ≡ false }
     requires err_works { E.failed err.old ≡ false }
-    ensures ends { Explores waits.now level (record {
-      scenario = S.left scenario.old;
-      keeps = R.left keeps.old;
-      scenario_failed = S.failed scenario.new;
-      keeps_failed = R.failed keeps.new;
-    }) (record { before = W.held out.old; after = W.held out.new; failed = W.failed out.new })
+    ensures ends { Explores explain waits.now level (record { name = scenario.new.name.now; text = scenario.new.bytes.items })
+        (record { name = keeps.new.name.now; text = keeps.new.bytes.items }) (record {
+          scenario = S.left scenario.old.source;
+          keeps = R.left keeps.old.source;
+          scenario_failed = S.failed scenario.new.source;
+          keeps_failed = R.failed keeps.new.source;
+        }) (record { before = W.held out.old; after = W.held out.new; failed = W.failed out.new })
         (record { before = E.held err.old; after = E.held err.new; failed = E.failed err.new }) result }
-    ensures scenario_bounded { S.reads scenario.new ≤ S.reads scenario.old + MOST_READ }
-    ensures keeps_bounded { R.reads keeps.new ≤ R.reads keeps.old + MOST_READ }
+    ensures scenario_bounded { S.reads scenario.new.source ≤ S.reads scenario.old.source + MOST_READ }
+    ensures keeps_bounded { R.reads keeps.new.source ≤ R.reads keeps.old.source + MOST_READ }
 {
-    finish(
-        explore_sources(alloc, scenario, keeps, waits, level, budget),
-        out,
-        err,
-    )
+    let searched = explore_sources(alloc, scenario, keeps, waits, level, budget);
+    let explained = searched_explanation(alloc, explain, keeps, &searched);
+    match write(out, searched) {
+        Ok(verdict) => report_verdict(err, explain, verdict, said_of(&explained)),
+        Err(fault) => report_rule_fault(alloc, explain, scenario, keeps, &fault, err),
+    }
 }
 
 /// Reads the program of a rule from its source to the end, or gives a status.
@@ -149,18 +81,19 @@ pub fn explore_to<S: Source, R: Source, W: Sink, E: Sink, O: Audience>(
 /// `explore_to` does. Neither device has failed before. The source is read at most 16777217 times.
 pub fn read_rule_to<R: Source, E: Sink>(
     alloc: Global,
-    rule: &mut R,
+    explain: bool,
+    rule: &mut KeptSource<'_, R>,
     err: &mut E,
 ) -> Result<Program, u8>
-    requires rule_works { R.failed rule.old ≡ false }
+    requires rule_works { R.failed rule.old.source ≡ false }
     requires err_works { E.failed err.old ≡ false }
-    ensures reads { ReadsRule (R.left rule.old) (R.failed rule.new)
+    ensures reads { ReadsRule explain (record { name = rule.new.name.now; text = rule.new.bytes.items }) (R.left rule.old.source) (R.failed rule.new.source)
         (record { before = E.held err.old; after = E.held err.new; failed = E.failed err.new }) result }
-    ensures bounded { R.reads rule.new ≤ R.reads rule.old + MOST_READ }
+    ensures bounded { R.reads rule.new.source ≤ R.reads rule.old.source + MOST_READ }
 {
     match program_of(alloc, rule) {
         Ok(program) => Ok(program),
-        Err(fault) => Err(report_fault(err, &fault)),
+        Err(fault) => Err(report_program_fault(alloc, explain, rule, &fault, err)),
     }
 }
 
@@ -173,7 +106,8 @@ pub fn read_rule_to<R: Source, E: Sink>(
 /// All else is as with `explore_to`, which reads the rule from a device.
 pub fn explore_rules_to<S: Source, W: Sink, E: Sink, O: Audience>(
     alloc: Global,
-    scenario: &mut S,
+    explain: bool,
+    scenario: &mut KeptSource<'_, S>,
     rules: &[Rule],
     waits: &[Wait],
     level: Option<Level>,
@@ -181,19 +115,19 @@ pub fn explore_rules_to<S: Source, W: Sink, E: Sink, O: Audience>(
     out: &mut W,
     err: &mut E,
 ) -> u8
-    requires scenario_works { S.failed scenario.old ≡ false }
+    requires scenario_works { S.failed scenario.old.source ≡ false }
     requires out_works { W.failed out.old ≡ false }
     requires err_works { E.failed err.old ≡ false }
-    ensures ends { ExploresFor waits.now level rules.now (S.left scenario.old) (S.failed scenario.new)
+    ensures ends { ExploresFor explain waits.now level rules.now (record { name = scenario.new.name.now; text = scenario.new.bytes.items }) (S.left scenario.old.source) (S.failed scenario.new.source)
         (record { before = W.held out.old; after = W.held out.new; failed = W.failed out.new })
         (record { before = E.held err.old; after = E.held err.new; failed = E.failed err.new }) result }
-    ensures bounded { S.reads scenario.new ≤ S.reads scenario.old + MOST_READ }
+    ensures bounded { S.reads scenario.new.source ≤ S.reads scenario.old.source + MOST_READ }
 {
-    finish(
-        search_for(alloc, scenario, rules, waits, level, budget),
-        out,
-        err,
-    )
+    let searched = search_for(alloc, scenario, rules, waits, level, budget);
+    match write(out, searched) {
+        Ok(verdict) => status_of(verdict),
+        Err(fault) => report_search_fault(alloc, explain, scenario, &fault, err),
+    }
 }
 
 /// Looks through the interleavings of the scenario of `scenario` with its starts at each of the four levels, the weakest first, for each of these rules,
@@ -207,26 +141,27 @@ pub fn explore_rules_to<S: Source, W: Sink, E: Sink, O: Audience>(
 /// All else is as with `explore_rules_to`.
 pub fn explore_levels_to<S: Source, W: Sink, E: Sink, O: Audience>(
     alloc: Global,
-    scenario: &mut S,
+    explain: bool,
+    scenario: &mut KeptSource<'_, S>,
     rules: &[Rule],
     waits: &[Wait],
     budget: &mut Budget<O>,
     out: &mut W,
     err: &mut E,
 ) -> u8
-    requires scenario_works { S.failed scenario.old ≡ false }
+    requires scenario_works { S.failed scenario.old.source ≡ false }
     requires out_works { W.failed out.old ≡ false }
     requires err_works { E.failed err.old ≡ false }
-    ensures ends { ExploresLevels waits.now rules.now (S.left scenario.old) (S.failed scenario.new)
+    ensures ends { ExploresLevels explain waits.now rules.now (record { name = scenario.new.name.now; text = scenario.new.bytes.items }) (S.left scenario.old.source) (S.failed scenario.new.source)
         (record { before = W.held out.old; after = W.held out.new; failed = W.failed out.new })
         (record { before = E.held err.old; after = E.held err.new; failed = E.failed err.new }) result }
-    ensures bounded { S.reads scenario.new ≤ S.reads scenario.old + MOST_READ }
+    ensures bounded { S.reads scenario.new.source ≤ S.reads scenario.old.source + MOST_READ }
 {
-    finish(
-        search_at_levels(alloc, scenario, rules, waits, budget),
-        out,
-        err,
-    )
+    let searched = search_at_levels(alloc, scenario, rules, waits, budget);
+    match write(out, searched) {
+        Ok(verdict) => status_of(verdict),
+        Err(fault) => report_search_fault(alloc, explain, scenario, &fault, err),
+    }
 }
 
 /// Goes through the interleavings of the scenario of `scenario`, and writes to `out` what whole schedules, after which no move is left, come to.
@@ -243,24 +178,25 @@ pub fn explore_levels_to<S: Source, W: Sink, E: Sink, O: Audience>(
 /// All else is as with `explore_to`, for which there is a rule.
 pub fn outcomes_to<S: Source, W: Sink, E: Sink, O: Audience>(
     alloc: Global,
+    explain: bool,
     question: Question,
-    scenario: &mut S,
+    scenario: &mut KeptSource<'_, S>,
     level: Option<Level>,
     budget: &mut Budget<O>,
     out: &mut W,
     err: &mut E,
 ) -> u8
-    requires scenario_works { S.failed scenario.old ≡ false }
+    requires scenario_works { S.failed scenario.old.source ≡ false }
     requires out_works { W.failed out.old ≡ false }
     requires err_works { E.failed err.old ≡ false }
-    ensures ends { GoesThrough question level (S.left scenario.old) (S.failed scenario.new)
+    ensures ends { GoesThrough explain question level (record { name = scenario.new.name.now; text = scenario.new.bytes.items }) (S.left scenario.old.source) (S.failed scenario.new.source)
         (record { before = W.held out.old; after = W.held out.new; failed = W.failed out.new })
         (record { before = E.held err.old; after = E.held err.new; failed = E.failed err.new }) result }
-    ensures bounded { S.reads scenario.new ≤ S.reads scenario.old + MOST_READ }
+    ensures bounded { S.reads scenario.new.source ≤ S.reads scenario.old.source + MOST_READ }
 {
-    finish(
-        outcomes_of_source(alloc, question, scenario, level, budget),
-        out,
-        err,
-    )
+    let gathered = outcomes_of_source(alloc, question, scenario, level, budget);
+    match write(out, gathered) {
+        Ok(verdict) => status_of(verdict),
+        Err(fault) => report_search_fault(alloc, explain, scenario, &fault, err),
+    }
 }

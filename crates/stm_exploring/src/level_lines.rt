@@ -15,7 +15,7 @@ use serde_json::{Value as Json, json};
 use std::alloc::{AllocError, Global};
 use stm_history::Text;
 use stm_program::Level;
-use stm_report_lines::{push_line, worded_json};
+use stm_report_lines::push_line;
 
 /// The name of a level.
 pub(crate) fn level_name(level: Level) -> &'static str
@@ -172,10 +172,7 @@ fn enough_json(alloc: Global, level: Option<Level>) -> Result<Json, AllocError>
 {
     match level {
         None => json!(in alloc; ["enough", null]),
-        Some(level) => {
-            let name = level_name(level);
-            worded_json(alloc, "enough", &[&name])
-        }
+        Some(level) => json!(in alloc; ["enough", level_name(level)]),
     }
 }
 

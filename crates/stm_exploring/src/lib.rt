@@ -21,6 +21,7 @@ mod level_lines;
 mod leveled;
 mod lines;
 mod lists;
+mod messages;
 mod naming;
 mod near_keys;
 mod outcome_lines;
@@ -43,10 +44,6 @@ mod watching;
 
 pub use audience::Audience;
 pub use command::{explore_levels_to, explore_rules_to, explore_to, outcomes_to, read_rule_to};
-pub use explaining::{
-    explore_explained_to, explore_levels_explained_to, explore_rules_explained_to,
-    outcomes_explained_to, read_rule_explained_to,
-};
 pub use exploring::{explore_sources, search_for};
 pub use laws::schedules_spell;
 pub use leveled::search_at_levels;

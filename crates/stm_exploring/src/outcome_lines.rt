@@ -9,12 +9,12 @@ ghost use Rattle.stm_exploring.specs.Questions.{witness_text};
 use crate::lines::push_count;
 use crate::lists::{Written, list_json};
 use crate::schedule_lines::push_scheduled;
-use serde_json::Value as Json;
+use serde_json::{Value as Json, json};
 use std::alloc::{AllocError, Global};
 use std::collections::BTreeSet;
 use stm_history::{Sequence, Text};
 use stm_meaning::Value;
-use stm_report_lines::{parts_json, push_line, worded_json};
+use stm_report_lines::{array_json, parts_json, push_line, worded_json};
 use stm_schedules::{KeyValue, Move, Outcome, RunnerEnd};
 use stm_texts::Scenario;
 
@@ -30,7 +30,8 @@ impl Written for KeyValue {
 fn committed_json(alloc: Global, output: &[Value]) -> Result<Json, AllocError>
     ensures { IfOk result (λ v. view v ≡ runner_end_data (Committed output.now)) }
 {
-    worded_json(alloc, "committed", &[&output])
+    let output = array_json(alloc, output)?;
+    json!(in alloc; ["committed", output])
 }
 
 impl Written for RunnerEnd {

@@ -47,6 +47,14 @@ impl FileDisk {
         Ok(())
     }
 
+    /// Removes the next file where it could not be made, or given the name: the disk may be full. A disk is not usable behind a call that failed, and its
+    /// next opening makes that file anew.
+    fn remove_failed(&self, answer: &io::Result<()>) {
+        if answer.is_err() {
+            let _ = fs::remove_file(&self.rt, self.next_path.as_str());
+        }
+    }
+
     /// Makes the next file, with these bytes.
     fn make_next(&mut self, bytes: &[u8]) -> io::Result<()>
         ensures { self.new.calls ≡ self.old.calls }
@@ -174,6 +182,7 @@ impl Disk for FileDisk {
     fn write_next(&mut self, bytes: &[u8]) -> Result<(), DiskFault> {
         let copy = self.prepare(bytes)?;
         let answer = self.make_next(bytes);
+        self.remove_failed(&answer);
         self.note(Act::WroteNext, 0, copy, answer)
     }
 
@@ -181,6 +190,7 @@ impl Disk for FileDisk {
     fn sync_next(&mut self) -> Result<(), DiskFault> {
         let none = self.prepare(&[])?;
         let answer = self.sync_made();
+        self.remove_failed(&answer);
         self.note(Act::SyncedNext, 0, none, answer)
     }
 
@@ -188,6 +198,7 @@ impl Disk for FileDisk {
     fn rename(&mut self) -> Result<(), DiskFault> {
         let none = self.prepare(&[])?;
         let answer = self.take_name();
+        self.remove_failed(&answer);
         self.note(Act::Renamed, 0, none, answer)
     }
 }

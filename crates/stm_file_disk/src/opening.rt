@@ -61,6 +61,17 @@ fn folder_of(path: &str) -> &str {
     }
 }
 
+/// Refuses a path that can be no file's, as that of a folder, before a lock is made beside it. No file need be there.
+fn refuse_no_file(rt: &HostRuntime, path: &str) -> io::Result<()> {
+    let mut there = OpenOptions::new();
+    there.read(true).write(true);
+    match there.open(rt, path) {
+        Ok(_) => Ok(()),
+        Err(error) if error.kind() == io::ErrorKind::NotFound && !path.is_empty() => Ok(()),
+        Err(error) => Err(error),
+    }
+}
+
 /// Takes the lock of a path, a file beside it that is never renamed. The lock is let go when the process ends, however that comes.
 fn lock(rt: &HostRuntime, path: &str) -> Result<File, OpenError> {
     let lock_path = format!(in rt.alloc(); "{path}.lock")?;
@@ -132,6 +143,7 @@ pub fn open(rt: &HostRuntime, path: &str) -> Result<(FileDisk, Vec<u8>), OpenErr
     ensures durable { IfOk result (λ opened. (c : List ℕ) → (replay (events_of opened.0.calls.items)).may c → c ≡ opened.1.items) }
 {
     let alloc = rt.alloc();
+    refuse_no_file(rt, path)?;
     let lock = lock(rt, path)?;
     let mut old = options().open(rt, path)?;
     let mut bytes = Vec::new(alloc);

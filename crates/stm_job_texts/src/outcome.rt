@@ -8,12 +8,12 @@ ghost use Rattle.stm_job.specs.declared.job_end.JobEnd.TheVariants.{Committed};
 ghost use Rattle.stm_job_texts.specs.Outcomes.{end_data, front_text, output_in, output_of, pair_data, pairs, IsFrontOf};
 
 use crate::printing::refusal_name;
-use serde_json::Value as Json;
+use serde_json::{Value as Json, json};
 use std::alloc::{AllocError, Global};
 use stm_entries::Entry;
 use stm_job::{Gathered, JobEnd};
 use stm_meaning::{State, Value};
-use stm_report_lines::{parts_json, worded_json};
+use stm_report_lines::{array_json, worded_json};
 
 /// What the program of an entry emitted, if it is one of a commit.
 fn output_of(entry: &Entry) -> &[Value]
@@ -39,8 +39,8 @@ fn output_at(entries: &[Entry], index: usize) -> &[Value]
 fn committed_json(alloc: Global, entries: &[Entry], index: usize) -> Result<Json, AllocError>
     ensures { IfOk result (λ v. view v ≡ end_data entries.now (Committed index 0)) }
 {
-    let output = output_at(entries, index);
-    worded_json(alloc, "committed", &[&output])
+    let output = array_json(alloc, output_at(entries, index))?;
+    json!(in alloc; ["committed", output])
 }
 
 /// How a job ended.
@@ -51,10 +51,7 @@ fn end_json(alloc: Global, entries: &[Entry], end: &JobEnd) -> Result<Json, Allo
         JobEnd::Committed { index, .. } => committed_json(alloc, entries, *index),
         JobEnd::Aborted { text, .. } => worded_json(alloc, "aborted", &[text]),
         JobEnd::Faulted { fault, .. } => worded_json(alloc, "faulted", &[fault]),
-        JobEnd::Refused(refusal) => {
-            let cause = refusal_name(refusal);
-            worded_json(alloc, "ended", &[&cause])
-        }
+        JobEnd::Refused(refusal) => json!(in alloc; ["ended", refusal_name(refusal)]),
         JobEnd::GaveUp { key } => worded_json(alloc, "gaveup", &[key]),
     }
 }
@@ -85,10 +82,10 @@ fn ends_json(alloc: Global, entries: &[Entry], ends: &[JobEnd]) -> Result<Json, 
 }
 
 /// A key with its value.
-fn pair_json<'a>(alloc: Global, key: &'a str, value: &'a str) -> Result<Json, AllocError>
+fn pair_json(alloc: Global, key: &str, value: &str) -> Result<Json, AllocError>
     ensures { IfOk result (λ v. view v ≡ pair_data key.now value.now) }
 {
-    parts_json(alloc, &[&key, &value])
+    json!(in alloc; [key, value])
 }
 
 /// Adds a key with its value.

@@ -9,7 +9,7 @@ ghost use Rattle.stm_job.specs.Ends.{attempts_of};
 ghost use Rattle.stm_job_texts.specs.Lines.{count_line, value_line, value_lines, job_line, job_refusal_name, end_of_job, lines_of_ends, attempts_in_all, conflicts_line, AreEndsShown, AreLinesOf};
 
 use crate::conflicts::conflicts_of;
-use serde_json::Value as Json;
+use serde_json::{Value as Json, json};
 use std::alloc::{AllocError, Global};
 use std::collections::BTreeMap;
 use stm_history::{Sequence, Text};
@@ -25,10 +25,10 @@ fn count_json(alloc: Global, word: &str, count: u64) -> Result<Json, AllocError>
 }
 
 /// The line of a key that is present.
-fn value_json<'a>(alloc: Global, key: &'a str, value: &'a str) -> Result<Json, AllocError>
+fn value_json(alloc: Global, key: &str, value: &str) -> Result<Json, AllocError>
     ensures { IfOk result (λ v. view v ≡ value_line key.now value.now) }
 {
-    worded_json(alloc, "value", &[&key, &value])
+    json!(in alloc; ["value", key, value])
 }
 
 /// Adds the line of a count.
@@ -62,20 +62,20 @@ fn number_json(
 ) -> Result<Json, AllocError>
     ensures { IfOk result (λ v. view v ≡ job_line job word.now (whole reported) attempts) }
 {
-    worded_json(alloc, "job", &[&job, &word, &reported, &attempts])
+    json!(in alloc; ["job", job, word, reported, attempts])
 }
 
 /// The line of a job whose end has a text.
-fn text_json<'a>(
+fn text_json(
     alloc: Global,
     job: u64,
-    word: &'a str,
-    reported: &'a str,
+    word: &str,
+    reported: &str,
     attempts: u64,
 ) -> Result<Json, AllocError>
     ensures { IfOk result (λ v. view v ≡ job_line job word.now (string reported.now) attempts) }
 {
-    worded_json(alloc, "job", &[&job, &word, &reported, &attempts])
+    json!(in alloc; ["job", job, word, reported, attempts])
 }
 
 /// Adds the line of a job whose end has a number.
@@ -211,7 +211,7 @@ fn push_conflict(alloc: Global, text: &mut String, key: &str, times: u64) -> Res
 fn conflict_json(alloc: Global, key: &str, times: u64) -> Result<Json, AllocError>
     ensures { IfOk result (λ v. view v ≡ conflicts_line (key.now, times)) }
 {
-    worded_json(alloc, "conflicts", &[&key, &times])
+    json!(in alloc; ["conflicts", key, times])
 }
 
 /// Adds the number of all attempts, how often commits failed over each key, and the lines of the ends.

@@ -75,6 +75,16 @@ fn replace_attempt(place: &mut Attempt, next: Attempt)
     drop(mem::replace(place, next));
 }
 
+/// Forgets how far an attempt has run its program, which takes more memory than all else of a runner. Where many worlds share a runner, each step of it is made
+/// by a copy, which runs the program from the start.
+fn rest(attempt: &mut Attempt) -> Result<(), AllocError>
+    ensures { attempt.new ≡ attempt.old }
+{
+    let resting = attempt.copy()?;
+    replace_attempt(attempt, resting);
+    Ok(())
+}
+
 impl Runner {
     /// A number that alike runners have in common.
     pub(crate) fn hint(&self) -> u64 {
@@ -137,15 +147,32 @@ impl Runner {
         self.attempt.advance(&self.program)
     }
 
-    /// Looks at the next step: the program goes on as far as the answers take it. The runner is the same.
+    /// Looks at the next step: the program goes on as far as the answers take it. The runner is the same, and rests then.
     ///
     /// Out of memory is the only refusal.
     pub(crate) fn look_ahead(&mut self) -> Result<Ahead, AllocError>
         ensures same { self.new.runner ≡ self.old.runner }
         ensures ahead { IfOk result (λ ahead. IsAhead ahead self.old.runner) }
     {
+        let ahead = self.look()?;
+        self.rest()?;
+        Ok(ahead)
+    }
+
+    /// Goes on as far as the answers take the program, and says what the next step is.
+    fn look(&mut self) -> Result<Ahead, AllocError>
+        ensures same { self.new.runner ≡ self.old.runner }
+        ensures ahead { IfOk result (λ ahead. IsAhead ahead self.old.runner) }
+    {
         let next = self.attempt.advance(&self.program)?;
         Ok(ahead_of(&next, self.attempt.reads()))
+    }
+
+    /// Lets the attempt rest.
+    fn rest(&mut self) -> Result<(), AllocError>
+        ensures { self.new.runner ≡ self.old.runner }
+    {
+        rest(&mut self.attempt)
     }
 
     /// Takes the answer that the runner waits for.

@@ -4,8 +4,8 @@ use crate::devices::{Faults, NONE, Taker, reader_of, writer_of};
 use std::alloc::Global;
 use std::process::Abort;
 use stm_commands::{
-    Format, KeptSource, RecipeWords, Std, check_explained_to, check_to, check_whole_to, recipe_to,
-    script_explained_to, script_to,
+    Format, KeptSource, RecipeWords, Std, check_as_to, check_to, check_whole_to, recipe_to,
+    script_as_to, script_to,
 };
 
 /// What a command left: its status, how often its first reader was read, and its output and its standard error.
@@ -38,7 +38,15 @@ pub fn script_explained(alloc: Global, scenario: &[u8]) -> Left {
     let mut input = KeptSource::new(alloc, "s.json", source);
     let mut out = Std::new(writer_of(alloc, NONE.out));
     let mut err = Std::new(writer_of(alloc, NONE.err));
-    let status = script_explained_to(alloc, Format::Lines, &[], &mut input, &mut out, &mut err);
+    let status = script_as_to(
+        alloc,
+        Format::Lines,
+        &[],
+        true,
+        &mut input,
+        &mut out,
+        &mut err,
+    );
     let reads = input.source.device.calls;
     Left {
         status,
@@ -56,7 +64,7 @@ pub fn check_explained(alloc: Global, scenario: &str, report: &str) -> Left {
     let mut report = KeptSource::new(alloc, "r.txt", source);
     let mut out = Std::new(writer_of(alloc, NONE.out));
     let mut err = Std::new(writer_of(alloc, NONE.err));
-    let status = check_explained_to(alloc, &mut scenario, &mut report, &mut out, &mut err);
+    let status = check_as_to(alloc, true, &mut scenario, &mut report, &mut out, &mut err);
     let reads = scenario.source.device.calls;
     Left {
         status,
@@ -68,16 +76,18 @@ pub fn check_explained(alloc: Global, scenario: &str, report: &str) -> Left {
 
 /// Checks a report beside a scenario, line by line or as a whole.
 pub fn check(alloc: Global, scenario: &str, report: &str, is_whole: bool, faults: Faults) -> Left {
-    let mut scenario = Std::new(reader_of(scenario.as_bytes(), false, faults.scenario));
-    let mut report = Std::new(reader_of(report.as_bytes(), false, faults.report));
+    let source = Std::new(reader_of(scenario.as_bytes(), false, faults.scenario));
+    let mut scenario = KeptSource::new(alloc, "s.json", source);
+    let source = Std::new(reader_of(report.as_bytes(), false, faults.report));
+    let mut report = KeptSource::new(alloc, "r.txt", source);
     let mut out = Std::new(writer_of(alloc, faults.out));
     let mut err = Std::new(writer_of(alloc, faults.err));
     let status = if is_whole {
-        check_whole_to(alloc, &mut scenario, &mut report, &mut out, &mut err)
+        check_whole_to(alloc, false, &mut scenario, &mut report, &mut out, &mut err)
     } else {
         check_to(alloc, &mut scenario, &mut report, &mut out, &mut err)
     };
-    let reads = scenario.device.calls;
+    let reads = scenario.source.device.calls;
     Left {
         status,
         reads,

@@ -5,7 +5,7 @@ use std::alloc::Global;
 use std::cell::Cell;
 use std::io;
 use std::time::{Clock, Duration};
-use stm_exploring::{Audience, Budget, Observer, ProgressNotes, Std, explore_to};
+use stm_exploring::{Audience, Budget, KeptSource, Observer, ProgressNotes, Std, explore_to};
 
 /// Two programs that each put a key.
 const TWO_PUTS: &str =
@@ -39,8 +39,8 @@ impl Audience for Listener {
 
 /// How often it is notified by a search for a schedule that breaks this rule.
 fn endings(alloc: Global, keeps: &str) -> u8 {
-    let mut scenario = Std::new(TWO_PUTS.as_bytes());
-    let mut keeps = Std::new(keeps.as_bytes());
+    let mut scenario = KeptSource::new(alloc, "s.json", Std::new(TWO_PUTS.as_bytes()));
+    let mut keeps = KeptSource::new(alloc, "p.json", Std::new(keeps.as_bytes()));
     let mut budget = Budget {
         left: 5002,
         observer: Listener { endings: 0 },
@@ -49,6 +49,7 @@ fn endings(alloc: Global, keeps: &str) -> u8 {
     let mut err = Std::new(Vec::new(alloc));
     explore_to(
         alloc,
+        false,
         &mut scenario,
         &mut keeps,
         &[],

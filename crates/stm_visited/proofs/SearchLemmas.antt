@@ -57,23 +57,13 @@ left_out s Alike re rs others r stand seen = (layers_go_on s Alike re).skipped r
 
 -- ---- the moves of one place more
 
-flat_append : {A B : Type 0} (f : A → List B) (xs : List A) (x : A) → flat_map f (xs ++ x ∷ []) ≡ flat_map f xs ++ f x
-flat_append f [] x = simp append_nil_of
-  where
-    append_nil_of : {B : Type 0} (xs : List B) → xs ++ [] ≡ xs
-    append_nil_of [] = refl
-    append_nil_of (x ∷ xs) = ap (λ ys. x ∷ ys) (append_nil_of xs)
-flat_append f (y ∷ xs) x = ap (λ ys. f y ++ ys) (flat_append f xs x) ∙ sym (append_assoc (f y) (flat_map f xs) (f x))
+append_nil : {A : Type 0} (xs : List A) → xs ++ [] ≡ xs
+append_nil [] = refl
+append_nil (x ∷ xs) = ap (λ ys. x ∷ ys) (append_nil xs)
 
-pub all_moved : {P M O : Type 0} (s : Steps P M O) (rs : List (Reached P M)) (i : ℕ) (r : Reached P M) (next : List (Reached P M)) → i < length rs → r ≡ get_or rs i r →
-    StandFor P M O s next (moved_from_each s (take i rs) ++ moved_from s r) → StandFor P M O s next (moved_from_each s (take (i + 1) rs))
-all_moved {P} {M} {O} s rs i r next within is stand =
-    let e : take (i + 1) rs ≡ take i rs ++ r ∷ [] = take_one rs i r within is in
-    subst (λ (l : List (Reached P M)). StandFor P M O s next (moved_from_each s l)) (sym e)
-    (subst (λ (l : List (Reached P M)). StandFor P M O s next l) (sym (flat_append (moved_from s) (take i rs) r)) stand)
-  where
-    take_one : {A : Type 0} (xs : List A) (i : ℕ) (x : A) → i < length xs → x ≡ get_or xs i x → take (i + 1) xs ≡ take i xs ++ x ∷ []
-    take_one xs i x within is = let e : i + 1 ≡ suc i = omega arith in rw e (rw (take-suc xs i x within) (ap (λ y. take i xs ++ y ∷ []) (sym is)))
+flat_append : {A B : Type 0} (f : A → List B) (xs : List A) (x : A) → flat_map f (xs ++ x ∷ []) ≡ flat_map f xs ++ f x
+flat_append f [] x = append_nil (f x)
+flat_append f (y ∷ xs) x = ap (λ ys. f y ++ ys) (flat_append f xs x) ∙ sym (append_assoc (f y) (flat_map f xs) (f x))
 
 -- ---- the answers
 
@@ -322,21 +312,9 @@ open_far {P} {M} {O} s start made k founds far =
 
 -- ---- how many moves are made
 
-take_more : {A : Type 0} (xs : List A) (i : ℕ) (x : A) → i < length xs → x ≡ get_or xs i x → take (i + 1) xs ≡ take i xs ++ x ∷ []
-take_more xs i x within is = let e : i + 1 ≡ suc i = omega arith in rw e (rw (take-suc xs i x within) (ap (λ y. take i xs ++ y ∷ []) (sym is)))
-
--- those of the places up to one, and of that one
-pub count_more : {P M O : Type 0} (s : Steps P M O) (rs : List (Reached P M)) (i : ℕ) (r : Reached P M) → i < length rs → r ≡ get_or rs i r →
-    count_among s 1 (take (i + 1) rs) ≡ count_among s 1 (take i rs) + count_among s 1 (r ∷ [])
-count_more {P} {M} {O} s rs i r within is =
-    ap (count_among s 1) (take_more rs i r within is) ∙ total_append (λ (r : Reached P M). count_at s 1 r.place) (take i rs) (r ∷ [])
-
--- they are no more than those of all
-pub count_front : {P M O : Type 0} (s : Steps P M O) (rs : List (Reached P M)) (j : ℕ) → count_among s 1 (take j rs) ≤ count_among s 1 rs
-count_front s [] zero = omega arith
-count_front s [] (suc j) = omega arith
-count_front s (r ∷ rs) zero = omega arith
-count_front s (r ∷ rs) (suc j) = let e : count_among s 1 (take j rs) ≤ count_among s 1 rs = count_front s rs j in omega (arith, e)
+-- those of some places, and of others
+count_of_both : {P M O : Type 0} (s : Steps P M O) (rs more : List (Reached P M)) → count_among s 1 (rs ++ more) ≡ count_among s 1 rs + count_among s 1 more
+count_of_both {P} {M} {O} s rs more = total_append (λ (r : Reached P M). count_at s 1 r.place) rs more
 
 -- those of a layer are no more than the schedules of one move more
 pub count_next : {P M O : Type 0} (s : Steps P M O) (start : P) (k : ℕ) (rs : List (Reached P M)) (old left more : ℕ) → IsLayer P M O s start k rs →
@@ -369,14 +347,60 @@ all_made {P} {M} {O} s others next r choices i enough all stand =
     (subst (λ (ms : List M). StandFor P M O s next (others ++ reached_by_each s r ms)) (whole_list choices i all) stand)
     ((layers_go_on s (λ p q. p ≡ q) (alike_to_itself s)).enough others r choices enough)
 
--- one place of a layer more
-pub made_more : {P M O : Type 0} (s : Steps P M O) (rs : List (Reached P M)) (i old left more : ℕ) (r : Reached P M) → i < length rs → r ≡ get_or rs i r →
-    old ≤ left + count_among s 1 (take i rs) → left ≤ more + count_among s 1 (r ∷ []) → old ≤ more + count_among s 1 (take (i + 1) rs)
-made_more s rs i old left more r within is before here =
-    let e : count_among s 1 (take (i + 1) rs) ≡ count_among s 1 (take i rs) + count_among s 1 (r ∷ []) = count_more s rs i r within is in omega (arith, before, here, e)
+-- ---- from a layer to the next one, place by place
 
-pub made_of_all : {P M O : Type 0} (s : Steps P M O) (rs : List (Reached P M)) (j old left : ℕ) → old ≤ left + count_among s 1 (take j rs) → old ≤ left + count_among s 1 rs
-made_of_all s rs j old left made = let e : count_among s 1 (take j rs) ≤ count_among s 1 rs = count_front s rs j in omega (arith, made, e)
+-- These places of a layer are left. From those before them it was gone on: `next` stands for where one move leads from there, and of `old` moves `now` are left.
+pub record HasGoneOn (P M O : Type 0) (s : ℕ → Steps P M O) (layer left next : List (Reached P M)) (old now : ℕ) : Type 0 where
+  pub before : List (Reached P M)
+  pub split : before ++ left ≡ layer
+  pub stand : (rule : ℕ) → StandFor P M O (s rule) next (moved_from_each (s rule) before)
+  pub made : (rule : ℕ) → old ≤ now + count_among (s rule) 1 before
+
+pub gone_first : {P M O : Type 0} (s : ℕ → Steps P M O) (layer : List (Reached P M)) (old : ℕ) → HasGoneOn P M O s layer layer [] old old
+gone_first s layer old = record {
+  before = [];
+  split = refl;
+  stand = λ rule. (layers_go_on (s rule) (λ p q. p ≡ q) (alike_to_itself (s rule))).stands [];
+  made = λ rule. omega arith;
+}
+
+pub gone_next : {P M O : Type 0} (s : ℕ → Steps P M O) (layer left next more : List (Reached P M)) (r : Reached P M) (old now then : ℕ) → HasGoneOn P M O s layer (r ∷ left) next old now →
+    ((rule : ℕ) (others : List (Reached P M)) → StandFor P M O (s rule) next others → StandFor P M O (s rule) more (others ++ moved_from (s rule) r)) →
+    ((rule : ℕ) → now ≤ then + count_among (s rule) 1 (r ∷ [])) → HasGoneOn P M O s layer left more old then
+gone_next {P} {M} {O} s layer left next more r old now then gone stand made = record {
+  before = gone.before ++ r ∷ [];
+  split = append_assoc gone.before (r ∷ []) left ∙ gone.split;
+  stand = λ rule. subst (λ (l : List (Reached P M)). StandFor P M O (s rule) more l) (sym (flat_append (moved_from (s rule)) gone.before r))
+      (stand rule (moved_from_each (s rule) gone.before) (gone.stand rule));
+  made = λ rule. let both : count_among (s rule) 1 (gone.before ++ r ∷ []) ≡ count_among (s rule) 1 gone.before + count_among (s rule) 1 (r ∷ []) =
+      count_of_both (s rule) gone.before (r ∷ []) in omega (arith, both, gone.made rule, made rule);
+}
+
+-- no more moves are made than lead from the layer
+pub gone_made : {P M O : Type 0} (s : ℕ → Steps P M O) (layer left next : List (Reached P M)) (old now : ℕ) → HasGoneOn P M O s layer left next old now →
+    (rule : ℕ) → old ≤ now + count_among (s rule) 1 layer
+gone_made {P} {M} {O} s layer left next old now gone rule =
+    let both : count_among (s rule) 1 layer ≡ count_among (s rule) 1 gone.before + count_among (s rule) 1 left =
+    ap (count_among (s rule) 1) (sym gone.split) ∙ count_of_both (s rule) gone.before left in
+    omega (arith, both, gone.made rule)
+
+-- nor where it stopped amid the moves from a place
+pub gone_made_amid : {P M O : Type 0} (s : ℕ → Steps P M O) (layer left next : List (Reached P M)) (r : Reached P M) (old now then : ℕ) →
+    HasGoneOn P M O s layer (r ∷ left) next old now → (rule : ℕ) → now ≤ then + count_among (s rule) 1 (r ∷ []) → old ≤ then + count_among (s rule) 1 layer
+gone_made_amid {P} {M} {O} s layer left next r old now then gone rule made =
+    let both : count_among (s rule) 1 layer ≡ count_among (s rule) 1 gone.before + count_among (s rule) 1 (r ∷ left) =
+    ap (count_among (s rule) 1) (sym gone.split) ∙ count_of_both (s rule) gone.before (r ∷ left) in
+    omega (arith, both, gone.made rule, made)
+
+pub nothing_left : {A : Type 0} (xs : List A) → length xs ≡ 0 → xs ≡ []
+nothing_left [] none = refl
+nothing_left (x ∷ xs) none = absurd (omega (arith, none))
+
+-- none is left
+pub gone_all : {P M O : Type 0} (s : ℕ → Steps P M O) (layer next : List (Reached P M)) (old now : ℕ) → HasGoneOn P M O s layer [] next old now →
+    (rule : ℕ) → StandFor P M O (s rule) next (moved_from_each (s rule) layer)
+gone_all {P} {M} {O} s layer next old now gone rule =
+    subst (λ (l : List (Reached P M)). StandFor P M O (s rule) next (moved_from_each (s rule) l)) (sym (append_nil gone.before) ∙ gone.split) (gone.stand rule)
 
 -- where the search has come to
 pub far_on : {P M O : Type 0} (s : Steps P M O) (start : P) (k : ℕ) (rs : List (Reached P M)) (old left more : ℕ) → HasCome P M O s start k rs →

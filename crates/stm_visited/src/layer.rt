@@ -110,26 +110,26 @@ pub fn opening_layer<P: Drop, M: Copy + Drop>(
 }
 
 /// The layer after this one: of the places that one move leads to the first of those that are alike, in the order of the schedules to them. Of the moves
-/// from a place those are made that the system calls enough.
+/// from a place those are made that the system calls enough. Each place of this layer is dropped once it was gone on from.
 ///
 /// `Halt::Spent` says that the budget was used up, and that some move more can be made; `Halt::OutOfMemory` that an allocation failed. No more moves are
 /// made than lead from the layer.
 pub fn next_layer<S: System, O: Observer>(
     alloc: Global,
     system: &S,
-    layer: &[Reached<S::Place, S::Move>],
+    layer: Vec<Reached<S::Place, S::Move>>,
     budget: &mut Budget<O>,
 ) -> Result<Vec<Reached<S::Place, S::Move>>, Halt>
-    ensures stand { IfOk result (λ next. (rule : ℕ) → StandFor S.Place S.Move S.Shown (S.steps system.now rule) next.items (moved_from_each (S.steps system.now rule) layer.now)) }
+    ensures stand { IfOk result (λ next. (rule : ℕ) → StandFor S.Place S.Move S.Shown (S.steps system.now rule) next.items (moved_from_each (S.steps system.now rule) layer.items)) }
     ensures taken { IfOk result (λ next. (next.items ≡ []) ⊎ (budget.new.left < budget.old.left)) }
     ensures spent { IsErrOf result Spent → budget.new.left ≡ 0 }
     ensures within { budget.new.left ≤ budget.old.left }
-    ensures made { (rule : ℕ) → budget.old.left ≤ budget.new.left + count_among (S.steps system.now rule) 1 layer.now }
+    ensures made { (rule : ℕ) → budget.old.left ≤ budget.new.left + count_among (S.steps system.now rule) 1 layer.items }
 {
     let mut next = Vec::new(alloc);
     let mut seen = Seen::new(alloc);
     for from in layer {
-        add_moved(alloc, system, from, &mut seen, &mut next, budget)?;
+        add_moved(alloc, system, &from, &mut seen, &mut next, budget)?;
     }
     Ok(next)
 }

@@ -74,7 +74,7 @@ pub fn find_first_bad<S: System, O: Observer>(
     let most = budget.left;
     for kept in 0..most {
         budget.observer.passed(kept, budget.left);
-        match next_layer(alloc, system, layer.as_slice(), budget) {
+        match next_layer(alloc, system, layer, budget) {
             Ok(next) => {
                 founds = founds_among(alloc, system, founds.as_slice(), next.as_slice())?;
                 let over = is_over(system, founds.as_slice(), next.as_slice())?;

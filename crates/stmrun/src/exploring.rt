@@ -1,8 +1,7 @@
 //! The command `explore` on the files of paths.
 ghost use Rattle.std.specs.Prelude.{◌≡◌, false};
 
-use crate::explaining;
-use crate::explaining::name_of;
+use crate::explaining::{kept_json, name_of, say_unread, say_unwritten};
 use crate::files::is_missing;
 use crate::found::{Form, only_level, print_found, run_rules_in, runners_of};
 use crate::noting::Noting;
@@ -52,16 +51,15 @@ fn run_rule(
     waits: &[Wait],
     level: Option<Level>,
 ) -> u8 {
-    if search.explain {
-        return explaining::run_rule(rt, scenario, rule, waits, level, search.told);
-    }
-    let mut scenario = Std::new(scenario.open(rt));
-    let mut rule = Std::new(rule.open(rt));
-    let mut out = Std::new(rt.stdout());
+    let explain = search.explain;
+    let mut scenario = kept_json(rt, scenario);
+    let mut rule = kept_json(rt, rule);
+    let mut out = Std::new(Noting::new(rt.stdout()));
     let mut err = Std::new(rt.stderr());
-    let mut budget = shown_budget(rt, search.told, false);
+    let mut budget = shown_budget(rt, search.told, explain);
     let status = explore_to(
         rt.alloc(),
+        explain,
         &mut scenario,
         &mut rule,
         waits,
@@ -70,7 +68,13 @@ fn run_rule(
         &mut out,
         &mut err,
     );
-    close(&mut budget, status)
+    let status = close(&mut budget, status);
+    if explain {
+        say_unread(rt, scenario.name, scenario.source.device.failure);
+        say_unread(rt, rule.name, rule.source.device.failure);
+        say_unwritten(rt, out.device.failure);
+    }
+    status
 }
 
 /// Looks through the interleavings of a scenario for one that breaks each of these rules.
@@ -113,24 +117,26 @@ fn run_outcomes<O: Write + Drop>(
 ) -> u8
     requires { out.old.failed ≡ false }
 {
-    let question = question_of(search);
-    let level = only_level(search.levels);
-    if search.explain {
-        return explaining::run_outcomes(rt, question, scenario, level, search.told, out);
-    }
-    let mut scenario = Std::new(scenario.open(rt));
+    let explain = search.explain;
+    let mut scenario = kept_json(rt, scenario);
     let mut err = Std::new(rt.stderr());
-    let mut budget = shown_budget(rt, search.told, false);
+    let mut budget = shown_budget(rt, search.told, explain);
     let status = outcomes_to(
         rt.alloc(),
-        question,
+        explain,
+        question_of(search),
         &mut scenario,
-        level,
+        only_level(search.levels),
         &mut budget,
         out,
         &mut err,
     );
-    close(&mut budget, status)
+    let status = close(&mut budget, status);
+    if explain {
+        say_unread(rt, scenario.name, scenario.source.device.failure);
+        say_unwritten(rt, out.device.failure);
+    }
+    status
 }
 
 /// Goes through the interleavings of a scenario, and prints what was found in the form that is asked for.

@@ -8,7 +8,7 @@ use crate::sources::SourceText;
 use std::alloc::{AllocError, Global};
 use stm_answers::{NamedRunner, in_words};
 use stm_arguments::{Level, Levels};
-use stm_commands::{Format, Std, script_as_to};
+use stm_commands::{Format, KeptSource, Std, script_as_to};
 use stm_devices::write_all;
 
 /// In what form a search prints what it finds: a schedule, and the lines around it.
@@ -44,9 +44,9 @@ fn table_of(
     let said: Vec<u8> = Vec::new(alloc);
     let mut out = Std::new(printed);
     let mut err = Std::new(said);
-    let mut input = Std::new(line.as_bytes());
+    let mut input = KeptSource::new(alloc, "", Std::new(line.as_bytes()));
     let format = Format::Text { width };
-    let status = script_as_to(alloc, format, labels, &mut input, &mut out, &mut err);
+    let status = script_as_to(alloc, format, labels, false, &mut input, &mut out, &mut err);
     if status != 0 {
         return None;
     }

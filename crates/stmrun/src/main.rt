@@ -24,11 +24,11 @@ mod threading;
 mod waits;
 
 use auditing::run_audit;
-use explaining::{name_of, say_unread, say_unwritten};
+use explaining::{name_of, run_check, run_script, say_unread, say_unwritten};
 use exploring::run_search;
 use files::open;
 use noting::Noting;
-use sources::{Given, JsonFile, given_at, is_source, labels_of, run_compile, scenario_at};
+use sources::{Given, given_at, is_source, labels_of, run_compile, scenario_at};
 use std::alloc::{AllocError, Global};
 use std::process::ExitCode;
 use std::sync::Wait;
@@ -40,11 +40,10 @@ use stm_arguments::{
 pub use stm_audit::audit_to;
 use stm_commands::{Format, RecipeWords, RunnerLabel, Shown, Std, no_format_to};
 pub use stm_commands::{
-    check_explained_to, check_to, check_whole_explained_to, check_whole_to, recipe_to,
-    script_as_to, script_explained_to, script_to, show_to,
+    check_as_to, check_to, check_whole_to, recipe_to, script_as_to, script_to, show_to,
 };
 use stm_compiling::Part;
-pub use stm_exploring::{explore_explained_to, explore_to, outcomes_explained_to, outcomes_to};
+pub use stm_exploring::{explore_to, outcomes_to};
 pub use stm_threading::{threads_as_to, threads_to};
 use storing::{run_shown, run_stored_jobs, run_stored_program, run_stored_script};
 use terminals::is_shown;
@@ -53,19 +52,6 @@ use threading::{printing_of, run_threads};
 /// The path of an input that may be named: that of standard input where it is not.
 fn path_of(named: Option<&str>) -> &str {
     named.unwrap_or("-")
-}
-
-/// Runs a scenario whose runners have these labels.
-fn run_script(
-    rt: &HostRuntime,
-    scenario: &JsonFile<'_>,
-    format: Format,
-    labels: &[RunnerLabel],
-) -> u8 {
-    let mut input = Std::new(scenario.open(rt));
-    let mut out = Std::new(rt.stdout());
-    let mut err = Std::new(rt.stderr());
-    script_as_to(rt.alloc(), format, labels, &mut input, &mut out, &mut err)
 }
 
 /// The format of this name, or that of lines.
@@ -91,11 +77,7 @@ fn labels_in(rt: &HostRuntime, given: &Given<'_>, format: Format) -> Result<Vec<
 fn report_script(rt: &HostRuntime, path: &str, format: Format, explain: bool) -> Result<u8, u8> {
     let given = given_at(rt, path, explain)?;
     let labels = labels_in(rt, &given, format)?;
-    let labels = labels.as_slice();
-    if explain {
-        return Ok(explaining::run_script(rt, &given, format, labels));
-    }
-    Ok(run_script(rt, &given.scenario, format, labels))
+    Ok(run_script(rt, &given, format, labels.as_slice(), explain))
 }
 
 /// Runs the scenario of a path, or that on standard input, where its word names a format. A fault is explained, or is not.
@@ -110,28 +92,15 @@ fn run_script_in(rt: &HostRuntime, words: &ScriptWords<'_>, explain: bool) -> u8
     }
 }
 
-/// Checks the report of a path beside a scenario: each line, where it is to be whole.
-fn check_report(rt: &HostRuntime, scenario: &JsonFile<'_>, report: &str, whole: bool) -> u8 {
-    let mut scenario = Std::new(scenario.open(rt));
-    let mut report = Std::new(open(rt, report));
-    let mut out = Std::new(rt.stdout());
-    let mut err = Std::new(rt.stderr());
-    if whole {
-        return check_whole_to(rt.alloc(), &mut scenario, &mut report, &mut out, &mut err);
-    }
-    check_to(rt.alloc(), &mut scenario, &mut report, &mut out, &mut err)
-}
-
 /// Checks a report beside its scenario: each line, where it is to be whole. A fault is explained, or is not. Only one of the two can be standard input.
-fn run_check(rt: &HostRuntime, words: &CheckWords<'_>, explain: bool) -> u8 {
+fn check_report(rt: &HostRuntime, words: &CheckWords<'_>, explain: bool) -> u8 {
     let report = words.report;
     if words.scenario == "-" && report == "-" {
         let _ = rt.eprintln("stmrun: standard input can be only one of SCENARIO and REPORT");
         return 2;
     }
     match scenario_at(rt, words.scenario, explain) {
-        Ok(scenario) if explain => explaining::run_check(rt, &scenario, report, words.whole),
-        Ok(scenario) => check_report(rt, &scenario, report, words.whole),
+        Ok(scenario) => run_check(rt, &scenario, report, words.whole, explain),
         Err(status) => status,
     }
 }
@@ -235,7 +204,7 @@ fn answer<T: Threads + Wait + Sync>(
 ) -> u8 {
     match asked_of(rt, rt.alloc(), plain.words.as_slice(), arguments) {
         Ok(Asked::Script(words)) => run_scenario(rt, &words, explains(rt, plain, words.explain)),
-        Ok(Asked::Check(words)) => run_check(rt, &words, explains(rt, plain, words.explain)),
+        Ok(Asked::Check(words)) => check_report(rt, &words, explains(rt, plain, words.explain)),
         Ok(Asked::Threads(words)) => {
             run_jobs(rt, threads, &words, explains(rt, plain, words.explain))
         }

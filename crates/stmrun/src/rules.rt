@@ -6,7 +6,7 @@ use crate::sources::{JsonFile, is_source, out_of_memory, program_at, rules_at};
 use stm_commands::Std;
 use stm_compiling::{Rule as SourceRule, unknown_in};
 use stm_devices::read_all;
-use stm_exploring::{Level, Rule, When, read_rule_explained_to, read_rule_to};
+use stm_exploring::{Level, Rule, When, read_rule_to};
 use stm_history::{Sequence, Text};
 use stm_storing::Program;
 
@@ -57,13 +57,12 @@ pub(crate) fn rules_of(rt: &HostRuntime, rules: Sequence<SourceRule>) -> Result<
 /// The program that is read as JSON; or the status, once what is wrong with it was said. It is explained, or is not.
 fn rule_program(rt: &HostRuntime, file: &JsonFile<'_>, explain: bool) -> Result<Program, u8> {
     let mut err = Std::new(rt.stderr());
+    let mut source = kept_json(rt, file);
+    let program = read_rule_to(rt.alloc(), explain, &mut source, &mut err);
     if explain {
-        let mut source = kept_json(rt, file);
-        let program = read_rule_explained_to(rt.alloc(), &mut source, &mut err);
         say_unread(rt, source.name, source.source.device.failure);
-        return program;
     }
-    read_rule_to(rt.alloc(), &mut Std::new(file.open(rt)), &mut err)
+    program
 }
 
 /// The rule of a program that is read as JSON, without a name.

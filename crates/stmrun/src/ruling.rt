@@ -8,10 +8,7 @@ use crate::terminals::{Told, close, shown_budget};
 use std::io::Write;
 use stm_arguments::Levels;
 use stm_commands::Std;
-use stm_exploring::{
-    Budget, Level, Nobody, Rule, Wait, explore_levels_explained_to, explore_levels_to,
-    explore_rules_explained_to, explore_rules_to,
-};
+use stm_exploring::{Budget, Level, Nobody, Rule, Wait, explore_levels_to, explore_rules_to};
 
 /// What is searched, and for what.
 #[derive(Clone, Copy)]
@@ -26,34 +23,6 @@ pub(crate) struct Question<'a> {
     pub(crate) told: Told<'a>,
 }
 
-/// Looks for rules at a level, or at each start's own, and explains faults.
-fn search_explained<O: Write + Drop>(
-    rt: &HostRuntime,
-    question: &Question<'_>,
-    level: Option<Level>,
-    out: &mut Std<Noting<O>>,
-) -> u8
-    requires { out.old.failed ≡ false }
-{
-    let mut scenario = kept_json(rt, question.scenario);
-    let mut err = Std::new(rt.stderr());
-    let mut budget = shown_budget(rt, question.told, true);
-    let status = explore_rules_explained_to(
-        rt.alloc(),
-        &mut scenario,
-        question.rules,
-        question.waits,
-        level,
-        &mut budget,
-        out,
-        &mut err,
-    );
-    let status = close(&mut budget, status);
-    say_unread(rt, scenario.name, scenario.source.device.failure);
-    say_unwritten(rt, out.device.failure);
-    status
-}
-
 /// Looks for rules at a level, or at each start's own. A fault is explained, or is not.
 fn search<O: Write + Drop>(
     rt: &HostRuntime,
@@ -64,14 +33,12 @@ fn search<O: Write + Drop>(
 ) -> u8
     requires { out.old.failed ≡ false }
 {
-    if explain {
-        return search_explained(rt, question, level, out);
-    }
-    let mut scenario = Std::new(question.scenario.open(rt));
+    let mut scenario = kept_json(rt, question.scenario);
     let mut err = Std::new(rt.stderr());
-    let mut budget = shown_budget(rt, question.told, false);
+    let mut budget = shown_budget(rt, question.told, explain);
     let status = explore_rules_to(
         rt.alloc(),
+        explain,
         &mut scenario,
         question.rules,
         question.waits,
@@ -80,32 +47,11 @@ fn search<O: Write + Drop>(
         out,
         &mut err,
     );
-    close(&mut budget, status)
-}
-
-/// Looks for rules at each level, and explains faults.
-fn search_levels_explained<O: Write + Drop>(
-    rt: &HostRuntime,
-    question: &Question<'_>,
-    out: &mut Std<Noting<O>>,
-) -> u8
-    requires { out.old.failed ≡ false }
-{
-    let mut scenario = kept_json(rt, question.scenario);
-    let mut err = Std::new(rt.stderr());
-    let mut budget = shown_budget(rt, question.told, true);
-    let status = explore_levels_explained_to(
-        rt.alloc(),
-        &mut scenario,
-        question.rules,
-        question.waits,
-        &mut budget,
-        out,
-        &mut err,
-    );
     let status = close(&mut budget, status);
-    say_unread(rt, scenario.name, scenario.source.device.failure);
-    say_unwritten(rt, out.device.failure);
+    if explain {
+        say_unread(rt, scenario.name, scenario.source.device.failure);
+        say_unwritten(rt, out.device.failure);
+    }
     status
 }
 
@@ -118,14 +64,12 @@ fn search_levels<O: Write + Drop>(
 ) -> u8
     requires { out.old.failed ≡ false }
 {
-    if explain {
-        return search_levels_explained(rt, question, out);
-    }
-    let mut scenario = Std::new(question.scenario.open(rt));
+    let mut scenario = kept_json(rt, question.scenario);
     let mut err = Std::new(rt.stderr());
-    let mut budget = shown_budget(rt, question.told, false);
+    let mut budget = shown_budget(rt, question.told, explain);
     let status = explore_levels_to(
         rt.alloc(),
+        explain,
         &mut scenario,
         question.rules,
         question.waits,
@@ -133,7 +77,12 @@ fn search_levels<O: Write + Drop>(
         out,
         &mut err,
     );
-    close(&mut budget, status)
+    let status = close(&mut budget, status);
+    if explain {
+        say_unread(rt, scenario.name, scenario.source.device.failure);
+        say_unwritten(rt, out.device.failure);
+    }
+    status
 }
 
 /// Looks through the interleavings of a scenario for one that breaks a rule, for each of these rules. A fault is explained, or is not.
@@ -162,7 +111,7 @@ pub(crate) fn search_silently<O: Write + Drop>(
 ) -> u8
     requires { out.old.failed ≡ false }
 {
-    let mut scenario = Std::new(question.scenario.open(rt));
+    let mut scenario = kept_json(rt, question.scenario);
     let said: Vec<u8> = Vec::new(rt.alloc());
     let mut err = Std::new(said);
     let mut budget = Budget {
@@ -171,6 +120,7 @@ pub(crate) fn search_silently<O: Write + Drop>(
     };
     explore_rules_to(
         rt.alloc(),
+        false,
         &mut scenario,
         question.rules,
         question.waits,

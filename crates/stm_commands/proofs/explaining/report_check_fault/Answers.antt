@@ -1,5 +1,5 @@
 use Rattle.std.proofs.Common.{sym, subst}
-use Rattle.stm_commands.specs.Explaining.{Inputs, CheckExplains}
+use Rattle.stm_commands.specs.Explaining.{Explained, Inputs, CheckExplains}
 use Rattle.stm_commands.proofs.explaining.report_check_fault.Goals as goal
 
 pub returns : goal.returns
@@ -11,6 +11,6 @@ returns g c =
       report_text = c.args.report.now.bytes.items;
     } in (
       c.as_str.result.now,
-      subst (CheckExplains inputs c.args.fault.now) (sym c.as_str.ensures.value) c.check_explanation-more.ensures,
+      subst (Explained c.args.explain (CheckExplains inputs c.args.fault.now)) (sym c.as_str.ensures.value) c.check_explanation-more.ensures,
       c.report_explained.ensures,
     )

@@ -46,8 +46,7 @@ pub returns-then-not-branch-2-clause-collected : goal.returns-then-not-branch-2-
 returns-then-not-branch-2-clause-collected g c =
     let others = c.args.gathered.now.others.now in
     let stand : StandFor ReportedPlace Move Outcome (outcome_steps others) c.in-Ok.next.items (moved_from_each (outcome_steps others) c.loop-gone_through.layer.items) =
-    subst (λ (rs : List (Reached ReportedPlace Move)). StandFor ReportedPlace Move Outcome (outcome_steps others) c.in-Ok.next.items (moved_from_each (outcome_steps others) rs))
-    c.as_slice-in-loop-gone_through.ensures.value (c.in-Ok.ensures.stand 0) in
+    c.in-Ok.ensures.stand 0 in
     next_end others c.args.start c.loop-gone_through.gone_through c.loop-gone_through.layer.items c.in-Ok.next.items c.loop-gone_through.found.items
     c.collect_whole-in-Ok.new.found.items c.loop-gone_through.invariant.come stand
     (subst (λ (rs : List (Reached ReportedPlace Move)). Gathers (shown_among (outcome_steps others) 0 rs) c.loop-gone_through.found.items c.collect_whole-in-Ok.new.found.items)
@@ -58,8 +57,7 @@ pub loop-gone_through-preserved : goal.loop-gone_through-preserved
 loop-gone_through-preserved g c =
     let others = c.args.gathered.now.others.now in
     let stand : StandFor ReportedPlace Move Outcome (outcome_steps others) c.in-Ok.next.items (moved_from_each (outcome_steps others) c.loop-gone_through.layer.items) =
-    subst (λ (rs : List (Reached ReportedPlace Move)). StandFor ReportedPlace Move Outcome (outcome_steps others) c.in-Ok.next.items (moved_from_each (outcome_steps others) rs))
-    c.as_slice-in-loop-gone_through.ensures.value (c.in-Ok.ensures.stand 0) in
+    c.in-Ok.ensures.stand 0 in
     let on : on_among (outcome_steps others) 1 c.in-Ok.next.items ≡ true =
     ap (on_among (outcome_steps others) 1) (sym c.as_slice-in-Ok-2.ensures.value) ∙ sym (c.in_ok-can_go_on-in-Ok.ensures 0) ∙ c.if-not-branch-2.false in
     let after : AreUpTo (c.loop-gone_through.gone_through + 1) c.collect_whole-in-Ok.new.schedules.items × AreOrdered c.collect_whole-in-Ok.new.schedules.items =
@@ -85,8 +83,7 @@ loop-gone_through-preserved g c =
       ];
       made = far_gathered others c.args.start c.loop-gone_through.gone_through c.loop-gone_through.layer.items
           c.loop-gone_through.found.items _ _ _ c.loop-gone_through.invariant.come c.loop-gone_through.invariant.made
-          (subst (λ (rs : List (Reached ReportedPlace Move)). c.loop-gone_through.budget.left ≤ c.next_layer.new.budget.left + count_among (outcome_steps others) 1 rs)
-          c.as_slice-in-loop-gone_through.ensures.value (c.next_layer.ensures.made 0));
+          (c.next_layer.ensures.made 0);
     }
 
 pub returns-in-Err-Spent-clause-collected : goal.returns-in-Err-Spent-clause-collected
@@ -114,9 +111,7 @@ returns-in-Err-Spent-clause-far g c =
     let others = c.args.gathered.now.others.now in
     far_open others c.args.start c.loop-gone_through.gone_through c.loop-gone_through.layer.items c.loop-gone_through.found.items _ _ _
     c.loop-gone_through.invariant.come c.loop-gone_through.invariant.made
-    (subst (λ (rs : List (Reached ReportedPlace Move)). c.loop-gone_through.budget.left ≤ c.next_layer.new.budget.left + count_among (outcome_steps others) 1 rs)
-    c.as_slice-in-loop-gone_through.ensures.value (c.next_layer.ensures.made 0))
-    (c.in-Err-Spent.ensures.spent (cc))
+    (c.next_layer.ensures.made 0) (c.in-Err-Spent.ensures.spent (cc))
 
 pub returns-clause-far : goal.returns-clause-far
 returns-clause-far g c =
@@ -139,8 +134,7 @@ pub returns-then-not-branch-2-clause-witnessed : goal.returns-then-not-branch-2-
 returns-then-not-branch-2-clause-witnessed g c =
     let others = c.args.gathered.now.others.now in
     let stand : StandFor ReportedPlace Move Outcome (outcome_steps others) c.in-Ok.next.items (moved_from_each (outcome_steps others) c.loop-gone_through.layer.items) =
-    subst (λ (rs : List (Reached ReportedPlace Move)). StandFor ReportedPlace Move Outcome (outcome_steps others) c.in-Ok.next.items (moved_from_each (outcome_steps others) rs))
-    c.as_slice-in-loop-gone_through.ensures.value (c.in-Ok.ensures.stand 0) in
+    c.in-Ok.ensures.stand 0 in
     next_witnesses others c.args.start c.loop-gone_through.gone_through c.loop-gone_through.layer.items c.in-Ok.next.items c.loop-gone_through.found.items
     c.collect_whole-in-Ok.new.found.items c.loop-gone_through.schedules.items c.collect_whole-in-Ok.new.schedules.items c.loop-gone_through.invariant.come stand
     (subst (λ (rs : List (Reached ReportedPlace Move)). HaveWitnesses others rs c.loop-gone_through.found.items c.collect_whole-in-Ok.new.found.items
@@ -160,8 +154,7 @@ pub returns-then-not-branch-2-clause-ordered : goal.returns-then-not-branch-2-cl
 returns-then-not-branch-2-clause-ordered g c =
     let others = c.args.gathered.now.others.now in
     let stand : StandFor ReportedPlace Move Outcome (outcome_steps others) c.in-Ok.next.items (moved_from_each (outcome_steps others) c.loop-gone_through.layer.items) =
-    subst (λ (rs : List (Reached ReportedPlace Move)). StandFor ReportedPlace Move Outcome (outcome_steps others) c.in-Ok.next.items (moved_from_each (outcome_steps others) rs))
-    c.as_slice-in-loop-gone_through.ensures.value (c.in-Ok.ensures.stand 0) in
+    c.in-Ok.ensures.stand 0 in
     (order_next others c.args.start c.loop-gone_through.gone_through c.loop-gone_through.layer.items c.in-Ok.next.items c.loop-gone_through.found.items
     c.loop-gone_through.schedules.items c.collect_whole-in-Ok.new.schedules.items c.loop-gone_through.invariant.come stand
     (subst (λ (rs : List (Reached ReportedPlace Move)). KeepOrder rs c.loop-gone_through.schedules.items c.collect_whole-in-Ok.new.schedules.items)

@@ -4,7 +4,7 @@ use Rattle.std.specs.Option.{option_or}
 use Rattle.stm_visited.specs.declared.breaks.Ending.TheVariants as ending
 use Rattle.stm_visited.specs.declared.visited.Visited.{Visited}
 use Rattle.stm_visited.specs.Answers.{EachIs, IsVisited, OpenIsSpent, OpenIsFar, answer_of}
-use Rattle.stm_visited.specs.Layers.{Reached, StandFor, bad_among, on_among, count_among, moved_from_each}
+use Rattle.stm_visited.specs.Layers.{Reached, StandFor, bad_among, on_among, moved_from_each}
 use Rattle.stm_visited.specs.Search.{count_up_to}
 use Rattle.stm_visited.proofs.SearchLemmas.{known_at_start, known_next, come_to_start, went_on, always_kept, open_at, over_at_start, over_next, longest_next, nothing_there}
 use Rattle.stm_visited.proofs.SearchLemmas.{always_spent, always_far, open_far, far_on, far_open, far_without}
@@ -60,8 +60,7 @@ returns-then-over-2-clause-visited g c =
     let s = g.S.System.steps c.args.system.now in
     let come = c.loop-kept.invariant.come in
     let stand : ((n : ℕ) → StandFor g.row.S-Place.Denot g.row.S-Move.Denot g.row.S-Shown.Denot (s n) c.in-Ok.next.items (moved_from_each (s n) c.loop-kept.layer.items)) =
-    (λ n. subst (λ (rs : List (Reached g.row.S-Place.Denot g.row.S-Move.Denot)). StandFor g.row.S-Place.Denot g.row.S-Move.Denot g.row.S-Shown.Denot (s n) c.in-Ok.next.items (moved_from_each (s n) rs))
-    c.as_slice-in-loop-kept.ensures.value (c.in-Ok.ensures.stand n)) in
+    c.in-Ok.ensures.stand in
     let known = known_next s c.args.start c.loop-kept.kept c.loop-kept.layer.items c.in-Ok.next.items c.loop-kept.founds.items c.in_ok-founds-in-Ok.founds.items
     (c.in_ok-founds-in-Ok.ensures.each ∙ ap length c.as_slice-in-Ok.ensures.value) come stand c.loop-kept.invariant.known
     (subst (λ (rs : List (Reached g.row.S-Place.Denot g.row.S-Move.Denot)). EachIs (λ n found. found ≡ option_or (get_or c.loop-kept.founds.items n None) (bad_among (s n) 0 rs)) c.in_ok-founds-in-Ok.founds.items)
@@ -93,8 +92,7 @@ loop-kept-preserved g c =
     let s = g.S.System.steps c.args.system.now in
     let come = c.loop-kept.invariant.come in
     let stand : ((n : ℕ) → StandFor g.row.S-Place.Denot g.row.S-Move.Denot g.row.S-Shown.Denot (s n) c.in-Ok.next.items (moved_from_each (s n) c.loop-kept.layer.items)) =
-    (λ n. subst (λ (rs : List (Reached g.row.S-Place.Denot g.row.S-Move.Denot)). StandFor g.row.S-Place.Denot g.row.S-Move.Denot g.row.S-Shown.Denot (s n) c.in-Ok.next.items (moved_from_each (s n) rs))
-    c.as_slice-in-loop-kept.ensures.value (c.in-Ok.ensures.stand n)) in
+    c.in-Ok.ensures.stand in
     let on : ((n : ℕ) → on_among (s n) 1 c.in-Ok.next.items ≡ true) =
     (λ n. subst (λ (rs : List (Reached g.row.S-Place.Denot g.row.S-Move.Denot)). on_among (s n) 1 rs ≡ true) c.as_slice-in-Ok-4.ensures.value
     (c.in_ok-over-in-Ok.ensures.on c.if-over-2.false n)) in
@@ -112,8 +110,7 @@ loop-kept-preserved g c =
         | inr less ↦ omega (arith, c.loop-kept.invariant.within)
       ];
       made = λ n. far_on (s n) c.args.start c.loop-kept.kept c.loop-kept.layer.items _ _ _ (come n) (c.loop-kept.invariant.made n)
-          (subst (λ (rs : List (Reached g.row.S-Place.Denot g.row.S-Move.Denot)). c.loop-kept.budget.left ≤ c.next_layer.new.budget.left + count_among (s n) 1 rs)
-          c.as_slice-in-loop-kept.ensures.value (c.next_layer.ensures.made n));
+          (c.next_layer.ensures.made n);
     }
 
 -- ---- the budget is used up
@@ -131,8 +128,7 @@ returns-in-Err-Spent-clause-far g c =
     subst (λ (all : List (Visited g.row.S-Move.Denot)). EachIs (λ n. OpenIsFar (s n) c.args.start c.args.budget.now.left) all) (sym c.in_ok-answers-in-Err-Spent.ensures)
     (open_far s c.args.start c.args.budget.now.left c.loop-kept.kept c.as_slice-in-Err-Spent.result.now
     (λ n. far_open (s n) c.args.start c.loop-kept.kept c.loop-kept.layer.items _ _ _ (c.loop-kept.invariant.come n) (c.loop-kept.invariant.made n)
-    (subst (λ (rs : List (Reached g.row.S-Place.Denot g.row.S-Move.Denot)). c.loop-kept.budget.left ≤ c.next_layer.new.budget.left + count_among (s n) 1 rs)
-    c.as_slice-in-loop-kept.ensures.value (c.next_layer.ensures.made n)) (c.in-Err-Spent.ensures.spent (cc))))
+    (c.next_layer.ensures.made n) (c.in-Err-Spent.ensures.spent (cc))))
 
 pub returns-clause-visited : goal.returns-clause-visited
 returns-clause-visited g c =

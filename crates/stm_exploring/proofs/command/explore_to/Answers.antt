@@ -1,8 +1,8 @@
 use Rattle.std.proofs.Common.{Ok}
 use Rattle.std.specs.Prelude.{string_bytes}
 use Rattle.stm_faulted_runs.proofs.SaidLemmas.{said}
-use Rattle.stm_exploring.specs.Explaining.{KeptInput, ExplainsSearched}
-use Rattle.stm_exploring.proofs.explaining.explore_explained_to.Goals as goal
+use Rattle.stm_exploring.specs.Explaining.{KeptInput, Explained, ExplainsSearched}
+use Rattle.stm_exploring.proofs.command.explore_to.Goals as goal
 
 -- an answer was written, and the rule explained where it is broken
 pub returns-in-Ok-clause-ends : goal.returns-in-Ok-clause-ends
@@ -17,7 +17,7 @@ returns-in-Ok-clause-ends g c =
         (
           c.report_verdict.ensures.status,
           c.said_of.result.now,
-          said (ExplainsSearched keeps c.explore_sources-searched.result) string_bytes c.searched_explanation-explained.result c.said_of.result.now
+          said (Explained c.args.explain (ExplainsSearched keeps c.explore_sources-searched.result)) string_bytes c.searched_explanation-explained.result c.said_of.result.now
               c.searched_explanation-explained.ensures c.said_of.ensures.ok c.said_of.ensures.err,
           c.report_verdict.ensures.says,
         ),

@@ -5,7 +5,7 @@ use Rattle.stm_attempt.specs.Next.{next_of}
 use Rattle.stm_world.specs.Task.{Task}
 use Rattle.stm_retry.specs.RunnerView.{RunnerView, view_of, task_of, IsRunner, next_for}
 use Rattle.stm_retry.proofs.RunnerLemmas.{kept_by, advanced_runner, advanced_is_runner}
-use Rattle.stm_retry.proofs.runner.Runner.look_ahead.Goals as goal
+use Rattle.stm_retry.proofs.runner.Runner.look.Goals as goal
 
 pub invariant_of-self : goal.invariant_of-self
 invariant_of-self c =

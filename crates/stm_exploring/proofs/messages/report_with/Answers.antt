@@ -1,5 +1,5 @@
 use Rattle.stm_explain.proofs.ExplainLemmas.{reports_with_of}
-use Rattle.stm_exploring.proofs.command.report_with.Goals as goal
+use Rattle.stm_exploring.proofs.messages.report_with.Goals as goal
 
 pub returns : goal.returns
 returns g c =

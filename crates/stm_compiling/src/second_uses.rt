@@ -1,0 +1,130 @@
+//! Where a program wants an argument as a number that it wants as a text, too.
+
+use crate::calls::given_at;
+use crate::fault::position_in;
+use crate::kept::{between, end_of, open_behind};
+use crate::spots::Spot;
+use std::alloc::{AllocError, Global};
+use stm_source::{BadSource, SourceCause, SourceError, read_source};
+use stm_tokens::{Symbol, Token, TokenKind};
+
+/// The tokens of a program from its name on, up to the brace that ends it, of those that begin with its name.
+fn program_in(tokens: &[Token]) -> &[Token] {
+    let mut open = 0usize;
+    for (index, token) in tokens.iter().enumerate() {
+        open = open_behind(open, &token.kind);
+        if open == 0 && token.kind.is_symbol(Symbol::RightBrace) {
+            return tokens.get(..index.saturating_add(1)).unwrap_or(tokens);
+        }
+    }
+    tokens
+}
+
+/// The place of a name in the parentheses behind the first of these tokens.
+fn place_of(tokens: &[Token], name: &str) -> Option<usize> {
+    let mut place = 0usize;
+    for token in tokens.iter().skip(2) {
+        if token.kind.is_symbol(Symbol::RightParenthesis) {
+            return None;
+        }
+        if token.kind.is_symbol(Symbol::Comma) {
+            place = place.saturating_add(1);
+        }
+        if token.kind.is_named(name) {
+            return Some(place);
+        }
+    }
+    None
+}
+
+/// The text of the argument with a place in the parentheses behind the first of these tokens.
+fn argument_at<'a>(source: &'a str, tokens: &[Token], place: usize) -> Option<&'a str> {
+    let mut number = 0usize;
+    let mut from = tokens.get(1)?.at.saturating_add(1);
+    for token in tokens.iter().skip(2) {
+        let ends = token.kind.is_symbol(Symbol::RightParenthesis);
+        if ends || token.kind.is_symbol(Symbol::Comma) {
+            if number == place {
+                return Some(between(source, from, token.at).trim());
+            }
+            number = number.saturating_add(1);
+            from = token.at.saturating_add(1);
+        }
+        if ends {
+            return None;
+        }
+    }
+    None
+}
+
+/// The argument of a start for the parameter of a program that a token names. The tokens of both begin with the program's name.
+fn argument_for<'a>(
+    source: &'a str,
+    program: &[Token],
+    start: &[Token],
+    token: &Token,
+) -> Option<&'a str> {
+    match &token.kind {
+        TokenKind::Name(name) => argument_at(source, start, place_of(program, name.as_str())?),
+        _ => None,
+    }
+}
+
+/// A source up to the end of a program, in whose body the arguments of a start stand in the places of its parameters.
+fn with_arguments(
+    alloc: Global,
+    source: &str,
+    program: &[Token],
+    start: &[Token],
+) -> Result<String, AllocError> {
+    let mut text = String::new(alloc);
+    let mut copied = 0usize;
+    let mut is_body = false;
+    for token in program {
+        is_body = is_body || token.kind.is_symbol(Symbol::LeftBrace);
+        if is_body {
+            if let Some(argument) = argument_for(source, program, start, token) {
+                text.push_str(between(source, copied, token.at))?;
+                text.push_str(argument)?;
+                copied = end_of(source, token);
+            }
+        }
+    }
+    if let Some(last) = program.last() {
+        text.push_str(between(source, copied, end_of(source, last)))?;
+    }
+    Ok(text)
+}
+
+/// The line of a fault of a text, where that is one of kinds.
+fn line_of_kinds(text: &[u8], bad: BadSource) -> Option<usize> {
+    match bad.cause {
+        SourceCause::Kind => Some(position_in(text, bad.at).line),
+        _ => None,
+    }
+}
+
+/// The same of its first fault.
+fn line_in(alloc: Global, text: &[u8]) -> Result<Option<usize>, AllocError> {
+    match read_source(alloc, text) {
+        Ok(_) => Ok(None),
+        Err(SourceError::Bad(bad)) => Ok(line_of_kinds(text, bad)),
+        Err(SourceError::OutOfMemory) => Err(AllocError),
+    }
+}
+
+/// The line in which a program, which the start there names, wants an argument as a number that it wants as a text before; nothing, where that is not known.
+pub(crate) fn line_of_second_use(
+    alloc: Global,
+    source: &[u8],
+    spot: Spot<'_>,
+    name: &str,
+) -> Result<Option<usize>, AllocError> {
+    let Some(index) = given_at(spot.before, name) else {
+        return Ok(None);
+    };
+    let program = program_in(spot.before.get(index.saturating_add(1)..).unwrap_or(&[]));
+    let source = str::from_utf8(source).unwrap_or("");
+    let text = with_arguments(alloc, source, program, spot.from)?;
+    line_in(alloc, text.as_str().as_bytes())
+}

@@ -450,7 +450,7 @@ fn say_part(
     err: &Std<Vec<u8>>,
     text: Option<&str>,
 ) -> u8 {
-    if err.failed && status == 3 {
+    if err.failed && status != 0 {
         return out_of_memory(rt);
     }
     if let (2, Part::Program { name, words }) = (status, part) {
@@ -531,9 +531,10 @@ pub(crate) fn say_in_program(
     let path = name_of(path);
     match placed_program(rt.alloc(), path, text, name, words, line) {
         Ok(Some(placed)) => say_line(rt, &placed, RUNNERS, &[]),
-        _ => {
+        Ok(None) => {
             let _ = eprintln!(rt; "{path}: {line}");
         }
+        Err(_) => {}
     }
 }
 

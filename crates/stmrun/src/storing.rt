@@ -387,6 +387,8 @@ fn say_stop(
         (Some(source), Some(name)) => {
             say_in_program(rt, path, source.as_str(), name, words.arguments, line);
         }
+        // Memory ran out for the text of the source, which alone has its lines.
+        (None, Some(_)) => {}
         _ => say_in_json(rt, path, text, line),
     }
 }

@@ -1,5 +1,5 @@
 -- A rule of a source, by its name, or a program, by its name and its arguments: what the source has with one more line behind it, which starts the program.
-use Rattle.std.specs.Prelude.{ℕ, ◌+◌, ◌-◌, List, [], ◌∷◌, ◌++◌, length, map, take, drop, Bool, true, false, ◌&&◌, nat_eq, nat_le, nat_lt, bytes_eq, if◌then◌else◌, find, Option, Some, None, Ok, Err, codes, slice_get}
+use Rattle.std.specs.Prelude.{ℕ, suc, ◌+◌, ◌-◌, List, [], ◌∷◌, ◌++◌, length, map, take, drop, Bool, true, false, ◌&&◌, nat_eq, nat_le, nat_lt, bytes_eq, if◌then◌else◌, find, Option, Some, None, Ok, Err, codes, slice_get}
 use Rattle.json.specs.Print.{quoted}
 use Rattle.stm_events.specs.declared.event.WorldEvent.{WorldEvent}
 use Rattle.stm_events.specs.declared.event.WorldEvent.TheVariants.{Start}

@@ -266,25 +266,41 @@ pub(crate) fn rules_at(rt: &HostRuntime, path: &str, explain: bool) -> Result<Se
     Ok(rules)
 }
 
-/// Says lines about a source, with the names that it gives to runners, which are called so.
-fn say_named(rt: &HostRuntime, lines: &str, called: Called, runners: &[NamedRunner]) {
+/// Lines about a source, with the names that it gives to runners, which are called so.
+fn named_lines(
+    alloc: Global,
+    lines: &str,
+    called: Called,
+    runners: &[NamedRunner],
+) -> Result<String, AllocError> {
+    let mut named = String::new(alloc);
     for line in lines.lines() {
-        if let Ok(line) = with_names(rt.alloc(), called, runners, line) {
-            let _ = rt.eprintln(line.as_str());
-        }
+        let line = with_names(alloc, called, runners, line)?;
+        named.push_str(line.as_str())?;
+        named.push_str("\n")?;
+    }
+    Ok(named)
+}
+
+/// Says these lines with the names of their runners; none of them, where memory runs out.
+fn say_named(rt: &HostRuntime, lines: &str, called: Called, runners: &[NamedRunner]) {
+    if let Ok(named) = named_lines(rt.alloc(), lines, called, runners) {
+        let _ = rt.eprint(named.as_str());
     }
 }
 
-/// Says a line with its place in a source, and the line of the source.
+/// Says a line with its place in a source, and the line of the source; neither, where memory runs out.
 pub(crate) fn say_line(
     rt: &HostRuntime,
     placed: &PlacedLine<'_>,
     called: Called,
     runners: &[NamedRunner],
 ) {
-    say_named(rt, placed.words.as_str(), called, runners);
-    let source = placed.source;
-    let _ = eprintln!(rt; "    {source}");
+    if let Ok(words) = named_lines(rt.alloc(), placed.words.as_str(), called, runners) {
+        let source = placed.source;
+        let _ = rt.eprint(words.as_str());
+        let _ = eprintln!(rt; "    {source}");
+    }
 }
 
 /// Says a line that explains a run, with its place in the source, if it has one there, and the line of the source.
@@ -399,14 +415,23 @@ fn runners_in(alloc: Global, text: &str) -> Result<Vec<NamedRunner>, AllocError>
     Ok(runners)
 }
 
-/// Says what was said of a source that was compiled, with the names that its text gives to runners, where it was kept.
+/// What was said of a source that was compiled, with the names that its text gives to runners, where it was kept.
+fn named_compiled(alloc: Global, lines: &str, text: Option<&str>) -> Result<String, AllocError> {
+    let runners = runners_in(alloc, text.unwrap_or(""))?;
+    named_lines(alloc, lines, RUNNERS, runners.as_slice())
+}
+
+/// Says what was said of a source that was compiled; the fault alone, which is its first line, where memory runs out.
 fn say_compiled(rt: &HostRuntime, said: &[u8], text: Option<&str>) {
-    let runners = runners_in(rt.alloc(), text.unwrap_or(""));
     let lines = str::from_utf8(said).unwrap_or("");
-    match runners {
-        Ok(runners) => say_named(rt, lines, RUNNERS, runners.as_slice()),
+    match named_compiled(rt.alloc(), lines, text) {
+        Ok(named) => {
+            let _ = rt.eprint(named.as_str());
+        }
         Err(_) => {
-            let _ = rt.eprint(lines);
+            if let Some(fault) = lines.lines().next() {
+                let _ = rt.eprintln(fault);
+            }
         }
     }
 }

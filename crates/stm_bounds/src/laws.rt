@@ -10,7 +10,8 @@ ghost use Rattle.stm_recipes.specs.declared.names.TheConstants.{MAX_NAME};
 ghost use Rattle.stm_json.specs.declared.limits.TheConstants.{MOST_BYTES};
 ghost use Rattle.stm_devices.specs.declared.transfer.TheConstants.{MOST_READ};
 ghost use Rattle.stm_texts.specs.declared.events.TheConstants.{MOST_EVENTS, HIGHEST_LIMIT};
-ghost use Rattle.stm_arguments.specs.declared.numbers.TheConstants.{MOST_RUNS, MOST_WORKERS as MOST_NAMED_WORKERS, USUAL_BUDGET};
+ghost use Rattle.stm_terms.specs.declared.limits.TheConstants.{MOST_BRACKETS};
+ghost use Rattle.stm_arguments.specs.declared.numbers.TheConstants.{LEAST_WIDTH, MOST_ATTEMPTS, MOST_RUNS, MOST_WIDTH, MOST_WORKERS as MOST_NAMED_WORKERS, USUAL_BUDGET};
 ghost use Rattle.stm_workers.specs.declared.run.TheConstants.{MOST_WORKERS};
 
 /// A revision is at most one below the highest number of 64 bits with a sign, and every other number is at most that.
@@ -70,9 +71,18 @@ pub fn bounds_of_threads()
     ensures { MOST_WORKERS ≡ 16 }
 {}
 
-/// A command line names at most 16 workers and at most 1000000 runs, and a search that is given no budget takes 1500000 events.
+/// At most 127 brackets of a source are open at once.
+pub fn bounds_of_sources()
+    ensures { MOST_BRACKETS ≡ 127 }
+{}
+
+/// A command line names at most 16 workers, at most 1000000 runs, at most 4294967295 commits and a width of 20 to 1000, and a search that is given no budget
+/// takes 1500000 events.
 pub fn bounds_of_command_lines()
     ensures workers { MOST_NAMED_WORKERS ≡ 16 }
     ensures runs { MOST_RUNS ≡ 1000000 }
+    ensures attempts { MOST_ATTEMPTS ≡ 4294967295 }
+    ensures least_width { LEAST_WIDTH ≡ 20 }
+    ensures most_width { MOST_WIDTH ≡ 1000 }
     ensures budget { USUAL_BUDGET ≡ 1500000 }
 {}

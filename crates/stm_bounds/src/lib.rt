@@ -8,6 +8,6 @@ mod laws;
 
 pub use laws::{
     bounds_of_command_lines, bounds_of_leases, bounds_of_numbers, bounds_of_programs,
-    bounds_of_recipes, bounds_of_runs, bounds_of_scenarios, bounds_of_texts, bounds_of_threads,
-    bounds_of_transactions,
+    bounds_of_recipes, bounds_of_runs, bounds_of_scenarios, bounds_of_sources, bounds_of_texts,
+    bounds_of_threads, bounds_of_transactions,
 };

@@ -78,8 +78,8 @@ module _ (look : Lookup) (v : ℕ) (y : Value) (Fit : List Value → Type 0) whe
 
   -- the second, begun with the variable set, does what the first does
   pub record Same {X : Type 0} (f g : Session → Outcome X) : Type 0 where
-    goes : (s : Session) → Fit s.variables → g (with_variable v y s) ≡ carried (f s)
-    sized : (s : Session) → Fit s.variables → Sized (f s)
+    pub goes : (s : Session) → Fit s.variables → g (with_variable v y s) ≡ carried (f s)
+    pub sized : (s : Session) → Fit s.variables → Sized (f s)
 
   pub sized_then : {X Y : Type 0} (o : Outcome X) (h : X → Session → Outcome Y) → Sized o → ((x : X) (s : Session) → Fit s.variables → Sized (h x s)) →
       Sized (and_then o h)

@@ -1,6 +1,5 @@
 //! Reading events.
-ghost use Rattle.std.specs.Prelude.{◌<◌, ◌+◌, ◌^◌};
-ghost use Rattle.std.specs.Vec.{vec_len};
+ghost use Rattle.std.specs.Prelude.{◌<◌, ◌+◌, ◌^◌, length};
 ghost use Rattle.serde_json.specs.View.{view, items_view};
 ghost use Rattle.stm_texts.specs.Reading.{level_named, level_of, start_of, grant_of, number_alone, step_of, keep_of, revoke_of, advance_of, compact_of};
 ghost use Rattle.stm_texts.specs.Reading.{txn_event, event_of, event_after, events_from};
@@ -193,19 +192,18 @@ fn event_at(
     within(alloc, first + before, next_event(alloc, before, value))
 }
 
-/// The events of a list whose first element has this index. Each element is let go once its event is made, so that later events take its
-/// memory.
+/// The events of a list whose first element has this index.
 pub(crate) fn events(
     alloc: Global,
     first: usize,
-    values: Vec<Value>,
+    values: &[Value],
 ) -> Result<Vec<WorldEvent>, ReadError>
-    requires { first + vec_len values < 2 ^ 64 }
-    ensures { Returns (λ v. v.items) result (events_from first 0 (items_view values.items)) }
+    requires { first + length values.now < 2 ^ 64 }
+    ensures { Returns (λ v. v.items) result (events_from first 0 (items_view values.now)) }
 {
     let mut events = Vec::new(alloc);
-    for value in values {
-        let event = event_at(alloc, first, events.len(), &value)?;
+    for (before, value) in values.iter().enumerate() {
+        let event = event_at(alloc, first, before, value)?;
         events.push(event)?;
     }
     Ok(events)

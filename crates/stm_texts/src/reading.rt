@@ -1,6 +1,5 @@
 //! Reading scenarios.
-ghost use Rattle.std.specs.Prelude.{◌≡◌, ◌<◌, ◌≤◌, Ok as OkOf, None, Some, drop as drop_front, option_map, IfOk, MatchResult};
-ghost use Rattle.std.specs.Vec.{vec_len};
+ghost use Rattle.std.specs.Prelude.{◌≡◌, ◌≤◌, Ok as OkOf, None, Some, option_map, IfOk, MatchResult};
 ghost use Rattle.serde_json.specs.View.{view, items_view};
 ghost use Rattle.stm_json.specs.Elements.{worded, number_in};
 ghost use Rattle.stm_json.specs.Outcome.{within as within_outcome};
@@ -71,26 +70,16 @@ fn opening(alloc: Global, elements: &[Value]) -> Result<Opening, ReadError>
     Ok(Opening::new(revision, operations))
 }
 
-/// The elements after the first.
-fn without_first(elements: Vec<Value>) -> Vec<Value>
-    requires { 0 < vec_len elements }
-    ensures { result.items ≡ drop_front 1 elements.items }
-{
-    let mut rest = elements;
-    drop(rest.remove(0));
-    rest
-}
-
 /// The scenario that a value spells.
 #[tactic(auto, unfolding(crate::specs::Reading::scenario_of))]
-fn scenario(alloc: Global, value: Value) -> Result<Scenario, ReadError>
-    ensures value { Returns (λ s. s) result (scenario_of (view value)) }
+fn scenario(alloc: Global, value: &Value) -> Result<Scenario, ReadError>
+    ensures value { Returns (λ s. s) result (scenario_of (view value.now)) }
     ensures opening { IfOk result (λ s. IsOpening s.opening) }
 {
-    let Value::Array(elements) = value else {
+    let Some(elements) = value.as_array() else {
         return Err(fault(alloc, Cause::Shape));
     };
-    let Some(first) = elements.as_slice().first() else {
+    let Some((first, rest)) = elements.split_first() else {
         return Ok(Scenario {
             opening: None,
             events: Sequence::new(alloc),
@@ -99,7 +88,7 @@ fn scenario(alloc: Global, value: Value) -> Result<Scenario, ReadError>
     match beginning(first) {
         Some(named) => {
             let opening = within(alloc, 0, opening(alloc, named))?;
-            let events = events(alloc, 1, without_first(elements))?;
+            let events = events(alloc, 1, rest)?;
             Ok(Scenario {
                 opening: Some(opening),
                 events: Sequence::of(events),
@@ -125,7 +114,7 @@ fn scenario_of_bytes(alloc: Global, bytes: &[u8]) -> Result<Scenario, ReadError>
         return Err(fault(alloc, Cause::TooLong));
     }
     match Value::from_slice(alloc, bytes) {
-        Ok(value) => scenario(alloc, value),
+        Ok(value) => scenario(alloc, &value),
         Err(error) => {
             if error.is_memory() {
                 Err(ReadError::OutOfMemory)

@@ -55,11 +55,7 @@ pub trait System {
     }
 
     /// The place, which from now on shares with another one what both hold, where the two do not share it yet. It is the same place, and takes less memory.
-    fn sharing(
-        &self,
-        place: Self::Place,
-        _other: &Self::Place,
-    ) -> Result<Self::Place, AllocError>
+    fn sharing(&self, place: Self::Place, _other: &Self::Place) -> Result<Self::Place, AllocError>
         ensures { IfOk result (λ shared. shared ≡ place) }
     {
         Ok(place)

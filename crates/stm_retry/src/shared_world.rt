@@ -145,6 +145,11 @@ impl SharedWorld {
         Ok((shared, reply))
     }
 
+    /// Whether it shares its store with some world. No contract says so.
+    pub fn shares_store(&self) -> bool {
+        Arc::strong_count(&self.base) > 1
+    }
+
     /// A world that shares this one's store, with the runners of another. It takes no memory.
     pub fn with_runners_of(&self, other: SharedWorld) -> Result<SharedWorld, AllocError>
         requires { IsSound (with_places other.runners self.now) }

@@ -50,6 +50,11 @@ fn near_words(alloc: Global, near: &str) -> Result<String, AllocError> {
     format!(in alloc; "; the nearest is {near}")
 }
 
+/// What is said behind keys that nothing puts: where that is known of serial orders alone.
+fn places_words(is_sure: bool) -> &'static str {
+    if is_sure { "" } else { " in any serial order" }
+}
+
 /// The line that says that somebody asks for a key that nothing puts, and which one is nearest.
 fn key_line(
     alloc: Global,
@@ -59,7 +64,7 @@ fn key_line(
     near: &str,
 ) -> Result<String, AllocError> {
     let key = shown_text(alloc, key.as_str())?;
-    let places = if is_sure { "" } else { " in any serial order" };
+    let places = places_words(is_sure);
     let near = near_words(alloc, near)?;
     format!(in alloc;
         "{who} asks for the key {key}, which is not there and which nothing puts{places}{near}"
@@ -97,12 +102,49 @@ fn is_behind_fault(account: &Account<'_>, asked: &AskedKey, runs: &Runs) -> bool
     runs.has_faulted && account.keys.may_be_put(&asked.key)
 }
 
+/// The keys of a runner that nothing puts and of which that is worth no doubt, as they are said.
+#[derive(Drop)]
+struct Vain {
+    keys: String,
+    count: usize,
+    /// Whether it is sure of each that nothing puts it, and not so in all serial orders alone.
+    are_sure: bool,
+}
+
+impl Vain {
+    /// Adds a key.
+    fn add(&mut self, alloc: Global, key: &Text, is_sure: bool) -> Result<(), AllocError> {
+        if self.count > 0 {
+            self.keys.push_str(", ")?;
+        }
+        let key = shown_text(alloc, key.as_str())?;
+        self.keys.push_str(key.as_str())?;
+        self.count = self.count.saturating_add(1);
+        self.are_sure = self.are_sure && is_sure;
+        Ok(())
+    }
+
+    /// The line of a runner that asks for them.
+    fn line(&self, alloc: Global, runner: usize) -> Result<String, AllocError> {
+        let who = runner_word(alloc, runner)?;
+        let who = who.as_str();
+        let keys = self.keys.as_str();
+        let words = if self.count == 1 { "key" } else { "keys" };
+        let are = if self.count == 1 { "is" } else { "are" };
+        let places = places_words(self.are_sure);
+        format!(in alloc;
+            "{who} asks for the {words} {keys}, which {are} not there and which nothing puts{places}"
+        )
+    }
+}
+
 /// Says of a key that a runner asks for that nothing puts it: where another key is most likely meant, and where it is to be said how its runs ended, unless
-/// that was by a fault before the key could be put. That is worth a doubt, if none of them committed.
+/// that was by a fault before the key could be put. That is worth a doubt, if none of them committed; else it is added to those that stand in one line.
 fn tell_asked<O: Audience>(
     account: &Account<'_>,
     asked: &AskedKey,
     runs: &Runs,
+    vain: &mut Vain,
     audience: &mut O,
 ) -> Result<(), AllocError> {
     let alloc = account.alloc;
@@ -113,7 +155,31 @@ fn tell_asked<O: Audience>(
         let line = runner_key_line(account, asked, near)?;
         audience.doubt(line.as_str());
     } else if is_said {
-        let line = runner_key_line(account, asked, "")?;
+        let is_sure = !account.keys.may_be_put(&asked.key);
+        vain.add(alloc, &asked.key, is_sure)?;
+    }
+    Ok(())
+}
+
+/// Says which keys a runner asks for that nothing puts.
+fn tell_of_runner<O: Audience>(
+    account: &Account<'_>,
+    runner: usize,
+    runs: &Runs,
+    audience: &mut O,
+) -> Result<(), AllocError> {
+    let mut vain = Vain {
+        keys: String::new(account.alloc),
+        count: 0,
+        are_sure: true,
+    };
+    for asked in account.keys.by_runners.as_slice() {
+        if asked.who == runner && account.is_unput(&asked.key) {
+            tell_asked(account, asked, runs, &mut vain, audience)?;
+        }
+    }
+    if vain.count > 0 {
+        let line = vain.line(account.alloc, runner)?;
         audience.hear(line.as_str());
     }
     Ok(())
@@ -124,11 +190,8 @@ pub(crate) fn tell_of_runners<O: Audience>(
     account: &Account<'_>,
     audience: &mut O,
 ) -> Result<(), AllocError> {
-    let keys = &account.keys;
-    for asked in keys.by_runners.as_slice() {
-        if asked.who < account.runners.len() && account.is_unput(&asked.key) {
-            tell_asked(account, asked, &account.runners[asked.who], audience)?;
-        }
+    for runner in 0..account.runners.len() {
+        tell_of_runner(account, runner, &account.runners[runner], audience)?;
     }
     Ok(())
 }

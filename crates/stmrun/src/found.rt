@@ -76,17 +76,18 @@ pub(crate) fn runners_of(source: Option<&SourceText>) -> &[NamedRunner] {
     }
 }
 
-/// Adds a line that a search printed, with a line feed: in words, where it is an answer of a search at these levels and that is the form.
+/// Adds a line of what a search printed, with a line feed: in words, where it is an answer of a search at these levels and that is the form.
 fn push_answer(
     alloc: Global,
     out: &mut String,
     form: Form<'_>,
     levels: Levels,
+    printed: &str,
     line: &str,
 ) -> Result<(), AllocError> {
     let has_level = matches!(levels, Levels::All);
     let words = match form {
-        Form::Text(source, _) => in_words(alloc, line, has_level, runners_of(source))?,
+        Form::Text(source, _) => in_words(alloc, line, printed, has_level, runners_of(source))?,
         Form::Lines | Form::Source(_) => None,
     };
     match words {
@@ -96,12 +97,13 @@ fn push_answer(
     out.push('\n')
 }
 
-/// Adds a line that a search at these levels printed, in this form, and answers whether that is a table.
+/// Adds a line of what a search at these levels printed, in this form, and answers whether that is a table.
 fn push_found(
     alloc: Global,
     out: &mut String,
     form: Form<'_>,
     levels: Levels,
+    printed: &str,
     line: &str,
 ) -> Result<bool, AllocError> {
     if line.starts_with(SCENARIO) {
@@ -110,7 +112,7 @@ fn push_found(
             return Ok(matches!(form, Form::Text(_, _)));
         }
     }
-    push_answer(alloc, out, form, levels, line)?;
+    push_answer(alloc, out, form, levels, printed, line)?;
     Ok(false)
 }
 
@@ -127,7 +129,7 @@ fn found_in(
         if is_behind_table {
             out.push('\n')?;
         }
-        is_behind_table = push_found(alloc, &mut out, form, levels, line)?;
+        is_behind_table = push_found(alloc, &mut out, form, levels, printed, line)?;
     }
     Ok(out)
 }

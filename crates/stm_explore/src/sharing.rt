@@ -43,7 +43,7 @@ pub(crate) fn sharing_store(
 ) -> Result<SharedWorld, AllocError>
     ensures { IfOk result (λ shared. shared ≡ world) }
 {
-    if world.shares_store(other) {
+    if world.shares_store() {
         return Ok(world);
     }
     if !have_same_base(&world, other) {

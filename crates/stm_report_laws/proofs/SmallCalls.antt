@@ -53,10 +53,6 @@ pub record CallFits (n : ℕ) (before after : Standing) (more : List Entry) : Ty
 pub called_fits : (n : ℕ) (w : World) (reply : Result Reply Denied) (next : Standing) (more : List Entry) → WorldFits n w → AnswerToFits reply →
     CallFits n w.standing next more → IsSound (after_call reply next more w).next → StepFits n (after_call reply next more w)
 called_fits n w reply next more fits one call sound =
-    let started : length w.runners ≤ n = fits.started in
-    let entries : length w.entries + finmap.len w.standing.live ≤ n + n = fits.entries in
-    let grown : length (w.entries ++ more) ≡ length w.entries + length more = length-append w.entries more in
-    let entered : length more + finmap.len next.live ≤ finmap.len w.standing.live + 2 = call.entered in
     record {
       reply = one;
       next = record {
@@ -64,9 +60,9 @@ called_fits n w reply next more fits one call sound =
         small = call.small;
         watchers = call.watchers;
         watching = call.watching;
-        started = omega (arith, started);
+        started = omega (arith, fits.started);
         runners = fits.runners;
-        entries = omega (arith, entries, grown, entered);
+        entries = omega (arith, fits.entries, length-append w.entries more, call.entered);
       };
     }
 
@@ -151,8 +147,7 @@ with_others n s ws fit few small many = record {
 set_one : (n : ℕ) (s : Standing) (id : ℕ) (w : Option Watching) → WatcherFits w → IsSmall s → WatchersFit s.watchers → length s.watchers ≤ n →
     CallFits n s (with_watchers s (slice_set s.watchers (id - 1) w)) []
 set_one n s id w fits small watchers many =
-    let same : length (slice_set s.watchers (id - 1) w) ≡ length s.watchers = length_set s.watchers (id - 1) w in
-    with_others n s (slice_set s.watchers (id - 1) w) (watchers_set s.watchers (id - 1) w watchers fits) (omega (arith, same)) small many
+    with_others n s (slice_set s.watchers (id - 1) w) (watchers_set s.watchers (id - 1) w watchers fits) (omega (arith, length_set s.watchers (id - 1) w)) small many
 
 polled_is : (s : Standing) (id most : ℕ) (w : Watching) → watcher_at id s.watchers ≡ Some w → w.lost ≡ false →
     polled s id most ≡ Ok record {
@@ -213,9 +208,8 @@ fits_on n last = record {
   stuck = λ s moment of at small watchers many reached. (tt, still n s small watchers many);
   expired = λ s moment id a of at live room rest small watchers many reached.
       let r = rest (without_small s id small room) watchers many tt in
-      let fewer : finmap.len s.live ≡ suc (finmap.len (finmap.remove s.live id)) = one_fewer s.live id live in
       let count : length (expiries a.expired) + finmap.len a.leaves.live ≤ finmap.len (finmap.remove s.live id) + 2 = r.1.entered in
-      let more : length (Expire id ∷ expiries a.expired) + finmap.len a.leaves.live ≤ finmap.len s.live + 2 = omega (arith, fewer, count) in (
+      let more : length (Expire id ∷ expiries a.expired) + finmap.len a.leaves.live ≤ finmap.len s.live + 2 = omega (arith, one_fewer s.live id live, count) in (
         one_more_fits moment (expired_in id (without_lease s id)) a.expired a.cause
             (expired_fits s (without_lease s id) id small.history.1 small.live live (ends_by s id room)) r.0,
         record { small = r.1.small; watchers = r.1.watchers; watching = r.1.watching; entered = more },
@@ -234,9 +228,7 @@ fits_on n last = record {
         set_one n s id (Some (after_poll most s.history w)) upto small watchers many,
       );
   lost = λ s id most w of found is small watchers many reached.
-      let low : Few (now s.history) = low_fits s.history small.history in
-      let come : s.floor ≤ now s.history = reached in
-      ((of, omega (arith, low, come)), set_one n s id None tt small watchers many);
+      ((of, omega (arith, low_fits s.history small.history, reached)), set_one n s id None tt small watchers many);
   cancelled = λ s id of small watchers many reached. (of, set_one n s id None tt small watchers many);
   raised = λ s revision of above future small watchers many reached.
       let same : length (compacted s.history revision s.watchers) ≡ length s.watchers = length-map s.watchers (option_map (compacted_one s.history revision)) in (

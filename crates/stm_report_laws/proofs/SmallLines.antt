@@ -248,8 +248,7 @@ live_terms_fit s small =
 pub end_readable : (s : Standing) (entries : ℕ) → IsSmall s → Few entries → AreReadable (end_lines s entries)
 end_readable s entries small few =
     let h : History = s.history in
-    let low : now h ≤ HIGHEST_REVISION = small.history.1 in
     all_append IsReadable (key_lines h (keys_named h) ++ lease_lines s.live) (End (now h) entries ∷ [])
     (all_append IsReadable (key_lines h (keys_named h)) (lease_lines s.live) (keys_readable h (keys_named h) small.history)
     (leases_readable (finmap.entries s.live) (live_terms_fit s small)))
-    (((tt, (plain (now h) (omega (arith, low)), (plain entries few, tt))), tt), tt)
+    (((tt, (plain (now h) (omega (arith, small.history.1)), (plain entries few, tt))), tt), tt)

@@ -151,9 +151,7 @@ mod_fits h key r fits = mod_by (key_at h key r) (states_fit h fits.1 fits.0 key 
 
 mod_now_fits : (h : History) (key : List ℕ) → HistoryFits h → Few (mod_of (key_now h key))
 mod_now_fits h key fits =
-    let low : now h ≤ HIGHEST_REVISION = fits.1 in
-    let reached : mod_of (key_now h key) ≤ now h = mod_is_reached h.opening key h.revisions in
-    omega (arith, low, reached)
+    omega (arith, fits.1, mod_is_reached h.opening key h.revisions)
 
 pub low_fits : (h : History) → HistoryFits h → Few (now h)
 low_fits h fits = let low : now h ≤ HIGHEST_REVISION = fits.1 in omega (arith, low)
@@ -161,9 +159,8 @@ low_fits h fits = let low : now h ≤ HIGHEST_REVISION = fits.1 in omega (arith,
 pub answers_fit : (h : History) (answers : List ReadAnswer) → HistoryFits h → AreTrue h answers → AnswersFit answers
 answers_fit h [] fits truth = tt
 answers_fit h (a ∷ rest) fits truth =
-    let reached : a.of_rev ≤ now h = truth.0.reached in
     let low : now h ≤ HIGHEST_REVISION = fits.1 in (
-      (subst (λ (o : Option KeyState). Few (mod_of o)) truth.0.shown (mod_fits h a.key a.of_rev fits), omega (arith, reached, low)),
+      (subst (λ (o : Option KeyState). Few (mod_of o)) truth.0.shown (mod_fits h a.key a.of_rev fits), omega (arith, truth.0.reached, low)),
       answers_fit h rest fits truth.1,
     )
 
@@ -221,9 +218,7 @@ seen_at_place (s ∷ ss) (suc i) seen fits is = seen_at_place ss i seen fits.1 i
 changed_above : (opening : Opening) (r : ℕ) (key : List ℕ) (revisions : List (List Change)) → changes_above opening r key revisions ≡ true →
     r ≤ number_of_last opening revisions
 changed_above opening r key [] is =
-    let below : r < mod_of (opened_state opening key) = ltb-true r (mod_of (opened_state opening key)) is in
-    let reached : mod_of (opened_state opening key) ≤ number_of_last opening [] = mod_is_reached opening key [] in
-    omega (arith, below, reached)
+    omega (arith, ltb-true r (mod_of (opened_state opening key)) is, mod_is_reached opening key [])
 changed_above opening r key (changes ∷ older) is =
     let number : ℕ = number_of_last opening (changes ∷ older) in
     either (nat_lt r number && is_some (change_of key changes)) (changes_above opening r key older) is (r ≤ number)
@@ -233,9 +228,7 @@ changed_above opening r key (changes ∷ older) is =
 seen_few : (h : History) (seen : Seen) → HistoryFits h → changes_above h.opening seen.at seen.key h.revisions ≡ true → SeenFits seen → Few seen.mod_rev
 seen_few h seen fits changed (inl few) = few
 seen_few h seen fits changed (inr same) =
-    let reached : seen.at ≤ now h = changed_above h.opening seen.at seen.key h.revisions changed in
-    let low : now h ≤ HIGHEST_REVISION = fits.1 in
-    omega (arith, same, reached, low)
+    omega (arith, same, changed_above h.opening seen.at seen.key h.revisions changed, fits.1)
 
 -- a failed compare
 pub record FailureFits (about : Seen) (failed : FailedCompare) : Type 0 where

@@ -72,20 +72,16 @@ replied_fits : (n : ℕ) (w : World) (id : ℕ) (r : Runner) (slot : Slot) (repl
     ((x : Runner) → live_in (Some slot) ≡ Some x → RunnerFits x) → IsSound (replied reply id slot w).next → ReplyFits reply →
     StepFits n (replied reply id slot w)
 replied_fits n w id r slot reply fits found mine sound one =
-    let watching : length w.standing.watchers ≤ n = fits.watching in
-    let started : length w.runners ≤ n = fits.started in
-    let same : length (with_slot id slot w.runners) ≡ length w.runners = count_stays id w.runners slot in
-    let entries : length w.entries + finmap.len w.standing.live ≤ n + n = fits.entries in
     record {
       reply = one;
       next = record {
         sound = sound;
         small = fits.small;
         watchers = fits.watchers;
-        watching = omega (arith, watching);
-        started = omega (arith, same, started);
+        watching = omega (arith, fits.watching);
+        started = omega (arith, count_stays id w.runners slot, fits.started);
         runners = runners_set w id r slot fits.runners found mine;
-        entries = omega (arith, entries);
+        entries = omega (arith, fits.entries);
       };
     }
 
@@ -150,10 +146,8 @@ fail_by n w id r seen failed true at is f sound =
     (λ x same. live_fits next x (record { limit = mine.limit; failures = ltb-true (r.failures + 1) r.task.limit is; literals = mine.literals }) same)
     sound (at.few, f.seen, f.stands)
 fail_by n w id r seen failed false at is f sound =
-    let limit : r.task.limit ≤ HIGHEST_NUMBER = (at.fits.runners id r at.found).limit in
-    let below : r.failures < r.task.limit = (at.fits.runners id r at.found).failures in
     ended_fits n w id r (GaveUp id (r.failures + 1) seen.key seen.mod_rev failed.mod_rev) at sound
-    (at.few, omega (arith, limit, below), f.seen, f.stands)
+    (at.few, omega (arith, (at.fits.runners id r at.found).limit, (at.fits.runners id r at.found).failures), f.seen, f.stands)
 
 take_fits : (n : ℕ) (w : World) (id : ℕ) (r : Runner) (run : Run) (done : Done) → Stands n w id r → run_on r.task.program r.known.reads ≡ EndedRun run →
     HistoryFits done.history → IsSound (take_commit id r r.known.reads run done w).next → StepFits n (take_commit id r r.known.reads run done w)
@@ -161,21 +155,14 @@ take_fits n w id r run done at is_run left sound =
     let reads : List ReadAnswer = r.known.reads in
     let h : History = w.standing.history in
     let mine = at.fits.runners id r at.found in
-    let limit : r.task.limit ≤ HIGHEST_NUMBER = mine.limit in
-    let below : r.failures < r.task.limit = mine.failures in
     let answers : AnswersFit reads = answers_fit h reads at.fits.small.history (at.fits.sound.truth id r at.found).0 in
     let came = run_fits (look_up reads) (λ key a found. found_in reads key a answers found) r.task.program.statements run mine.literals is_run in
-    let watching : length w.standing.watchers ≤ n = at.fits.watching in
-    let started : length w.runners ≤ n = at.fits.started in
-    let same : length (with_slot id Over w.runners) ≡ length w.runners = count_stays id w.runners Over in
-    let entries : length w.entries + finmap.len w.standing.live ≤ n + n = at.fits.entries in
     let one : List Entry = entry_of r.task reads run (now done.history) ∷ [] in
-    let more : length (w.entries ++ one) ≡ length w.entries + length one = length-append w.entries one in
     record {
       reply = (
         at.few,
         low_fits done.history left,
-        omega (arith, limit, below),
+        omega (arith, mine.limit, mine.failures),
         came.0,
         came.1,
         kept_by_level reads (is_comparing r.task.level) answers,
@@ -184,10 +171,10 @@ take_fits n w id r run done at is_run left sound =
         sound = sound;
         small = record { history = left; live = at.fits.small.live; renewed = at.fits.small.renewed; moment = at.fits.small.moment };
         watchers = at.fits.watchers;
-        watching = omega (arith, watching);
-        started = omega (arith, same, started);
+        watching = omega (arith, at.fits.watching);
+        started = omega (arith, count_stays id w.runners Over, at.fits.started);
         runners = runners_set w id r Over at.fits.runners at.found over_fits;
-        entries = omega (arith, entries, more);
+        entries = omega (arith, at.fits.entries, length-append w.entries one);
       };
     }
 
@@ -245,17 +232,14 @@ live_step n w id r at sound = due_by n w id r (is_due r.task.program.prefetch r.
 -- a world that stays as it is
 stays_fits : (n : ℕ) (w : World) → WorldFits n w → WorldFits (suc n) w
 stays_fits n w fits =
-    let watching : length w.standing.watchers ≤ n = fits.watching in
-    let started : length w.runners ≤ n = fits.started in
-    let entries : length w.entries + finmap.len w.standing.live ≤ n + n = fits.entries in
     record {
       sound = fits.sound;
       small = fits.small;
       watchers = fits.watchers;
-      watching = omega (arith, watching);
-      started = omega (arith, started);
+      watching = omega (arith, fits.watching);
+      started = omega (arith, fits.started);
       runners = fits.runners;
-      entries = omega (arith, entries);
+      entries = omega (arith, fits.entries);
     }
 
 pub runner_step : (n : ℕ) (w : World) (id : ℕ) (o : Option Runner) → WorldFits n w → Few id → runner_at id w.runners ≡ o →
@@ -275,26 +259,21 @@ start_by n w task true fits room limit literals is sound = record { reply = tt; 
 start_by n w task false fits room limit literals is sound =
     let slot : Slot = LiveSlot (begin task) in
     let id : ℕ = length w.runners + 1 in
-    let watching : length w.standing.watchers ≤ n = fits.watching in
-    let started : length w.runners ≤ n = fits.started in
-    let grown : length (w.runners ++ slot ∷ []) ≡ length w.runners + 1 = count_grows w.runners slot in
-    let entries : length w.entries + finmap.len w.standing.live ≤ n + n = fits.entries in
-    let some = differ task.limit 0 is in
-    let mine : RunnerFits (begin task) = record { limit = limit; failures = omega (arith, some); literals = literals } in
+    let mine : RunnerFits (begin task) = record { limit = limit; failures = omega (arith, differ task.limit 0 is); literals = literals } in
     record {
-      reply = omega (arith, started, room);
+      reply = omega (arith, fits.started, room);
       next = record {
         sound = sound;
         small = fits.small;
         watchers = fits.watchers;
-        watching = omega (arith, watching);
-        started = omega (arith, started, grown);
+        watching = omega (arith, fits.watching);
+        started = omega (arith, fits.started, count_grows w.runners slot);
         runners = λ other x at. elim (nat_eq id other) as (λ b. nat_eq id other ≡ b → RunnerFits x) [
           | true ↦ λ same. live_fits (begin task) x mine
               (sym (runner_new w.runners slot) ∙ subst (λ m. runner_at m (w.runners ++ slot ∷ []) ≡ Some x) (sym (equal_numbers id other same)) at)
           | false ↦ λ same. fits.runners other x (sym (runner_old w.runners slot other (λ e. differ id other same (sym e))) ∙ at)
         ] refl;
-        entries = omega (arith, entries);
+        entries = omega (arith, fits.entries);
       };
     }
 

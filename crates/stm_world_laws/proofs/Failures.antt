@@ -71,10 +71,9 @@ others_move_on : (start : Setup) (log : List Line) (line : Line) (id : ℕ) → 
     HasMovedOn start (line ∷ log) id
 others_move_on start log line id grows o m = record {
   counter = λ task is.
-      let same : least start (line ∷ log) id ≡ least start log id = same_least start log line id o in
       let before : least start log id ≤ now (store start log).history = m.counter task (sym (same_begun id line log o.untouched) ∙ is) in
       let grown = grows.grown in
-      omega (arith, same);
+      omega (arith, same_least start log line id o);
   known = λ task runs.
       subst (λ n. KnowsFrom n (known_after_log start id task (line ∷ log))) (sym (same_least start log line id o))
       (subst (KnowsFrom (least start log id)) (sym (same_reported start id task line log o.untouched)) (m.known task (sym (same_running id line log o.untouched) ∙ runs)));
@@ -109,11 +108,10 @@ started_moves_on : (start : Setup) (log : List Line) (task : Task) (id : ℕ) �
     HasMovedOn start (with_line (Start task.program task.level task.limit) (Ok (Started id)) log) id
 started_moves_on start log task id fresh grows =
     let line : Line = record { event = Start task.program task.level task.limit; reply = Ok (Started id) } in
-    let none : failed_commits id log ≡ 0 = none_failed id log fresh.not_over ∙ fresh.no_failures in
     let here : since start id (line ∷ log) ≡ now (store start log).history =
     ap (λ b. cond b (now (store start log).history) (since start id log)) (same_number id) in
     record {
-      counter = λ other is. let grown = grows.grown in omega (arith, none, here);
+      counter = λ other is. let grown = grows.grown in omega (arith, none_failed id log fresh.not_over ∙ fresh.no_failures, here);
       known = λ other runs. subst (KnowsFrom (least start (line ∷ log) id)) (sym (fresh.nothing other)) (tt, tt);
     }
 

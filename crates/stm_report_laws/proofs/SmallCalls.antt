@@ -4,7 +4,7 @@ use Rattle.std.proofs.Common.{subst, arith, Option, Some, None, Ok, Err}
 use Rattle.std.specs.Prelude.{Result, nat_eq, nat_lt, slice_set, slice_index_or, option_map}
 use Rattle.std.specs.FinMap as finmap
 use Rattle.std.specs.Cmp.{nat_cmp_total}
-use Rattle.std.proofs.lemmas.List.{length-append, length-map}
+use Rattle.std.proofs.lemmas.List.{length-append, length-map, length-set}
 use Rattle.stm_history.specs.declared.revisions.TheConstants.{HIGHEST_NUMBER}
 use Rattle.stm_history.specs.History.{History, now}
 use Rattle.stm_leases.specs.LeaseLog.{Term}
@@ -35,7 +35,6 @@ use Rattle.stm_events.specs.Called.{Call, Poll, Called, called, entered}
 use Rattle.stm_events.proofs.CallMeans.{CallMeans, call_means}
 use Rattle.stm_world.specs.World.{World, after_call}
 use Rattle.stm_world.specs.Sound.{IsSound}
-use Rattle.stm_report_laws.proofs.RunLists.{length_set}
 use Rattle.stm_report_laws.proofs.SmallRuns.{all_append}
 use Rattle.stm_report_laws.proofs.SmallStores.{IsSmall, HistoryFits, id_fits, outcome_fits, granted_in_range, with_small, without_small}
 use Rattle.stm_report_laws.proofs.SmallStores.{WatcherFits, WatchersFit, watchers_set, watching_fits, upto_fits}
@@ -150,7 +149,7 @@ with_others n s ws fit few small many = record {
 set_one : (n : ℕ) (s : Standing) (id : ℕ) (w : Option Watching) → WatcherFits w → IsSmall s → WatchersFit s.watchers → length s.watchers ≤ n →
     CallFits n s (with_watchers s (slice_set s.watchers (id - 1) w)) []
 set_one n s id w fits small watchers many =
-    with_others n s (slice_set s.watchers (id - 1) w) (watchers_set s.watchers (id - 1) w watchers fits) (omega (arith, length_set s.watchers (id - 1) w)) small many
+    with_others n s (slice_set s.watchers (id - 1) w) (watchers_set s.watchers (id - 1) w watchers fits) (omega (arith, length-set s.watchers (id - 1) w)) small many
 
 polled_is : (s : Standing) (id most : ℕ) (w : Watching) → watcher_at id s.watchers ≡ Some w → w.lost ≡ false →
     polled s id most ≡ Ok record {

@@ -27,6 +27,7 @@ use Rattle.stm_world.specs.World.{World, opened, replies_to, step}
 use Rattle.stm_world.specs.Doomed.{FailedCommit, failed_commit, IsRealFailure, is_of_runner, since, failed_commits, FailuresMoveOn}
 use Rattle.stm_world.proofs.Slots.{equal_numbers, same_number}
 use Rattle.std.proofs.lemmas.List.{length-append}
+use Rattle.std.proofs.lemmas.Option.{same_Some}
 use Rattle.stm_events.specs.Replies.{runner_named}
 use Rattle.stm_world.proofs.Untouched.{Untouched, IsFresh, by_reply, same_running, same_reported}
 use Rattle.stm_world.proofs.Following.{FollowsStep, with_line}
@@ -117,9 +118,6 @@ started_moves_on start log task id fresh grows =
 
 -- ---- a step of the runner ----
 
-some_is_same : (one other : Task) → Some one ≡ Some other → one ≡ other
-some_is_same one other same = cc
-
 is_begun : (over : Bool) (o : Option Task) (task : Task) → cond over None o ≡ Some task → o ≡ Some task
 is_begun true o task is = absurd (cc)
 is_begun false o task is = is
@@ -135,7 +133,7 @@ fetched_moves_on start log id task key mod_rev of_rev revision runs fetch grows 
     record {
       counter = λ other is. before;
       known = λ other runs_as.
-          let is : task ≡ other = some_is_same task other (sym runs ∙ runs_as) in
+          let is : task ≡ other = same_Some task other (sym runs ∙ runs_as) in
           subst (λ (t : Task). KnowsFrom (least start log id) (known_after_log start id t (line ∷ log))) is
           (subst (KnowsFrom (least start log id))
           (sym (ap (λ b. cond b (after_fetch task (answer_at h key of_rev) (known_after_log start id task log)) (known_after_log start id task log)) (same_number id)))
@@ -152,7 +150,7 @@ prefetched_moves_on start log id task revision reads runs grows m =
     record {
       counter = λ other is. before;
       known = λ other runs_as.
-          let is : task ≡ other = some_is_same task other (sym runs ∙ runs_as) in
+          let is : task ≡ other = same_Some task other (sym runs ∙ runs_as) in
           subst (λ (t : Task). KnowsFrom (least start log id) (known_after_log start id t (line ∷ log))) is
           (subst (KnowsFrom (least start log id))
           (sym (ap (λ b. cond b (after_list task h (known_after_log start id task log)) (known_after_log start id task log)) (same_number id)))
@@ -165,7 +163,7 @@ failure_moves_on : (start : Setup) (log : List Line) (id : ℕ) (task : Task) (f
     least start log id + 1 ≤ now (store start log).history
 failure_moves_on start log id task failed same runs real low m =
     let at : running failed.runner log ≡ Some task = subst (λ n. running n log ≡ Some task) (sym same) runs in
-    let is : real.task ≡ task = some_is_same real.task task (sym real.runs ∙ at) in
+    let is : real.task ≡ task = same_Some real.task task (sym real.runs ∙ at) in
     let reached : least start log id ≤ now (store start log).history = m.counter task (is_begun (is_over id log) (begun id log) task runs) in
     let knows : KnowsFrom (least start log id) (known_after_log start failed.runner real.task log) =
     subst (λ n. KnowsFrom (least start log id) (known_after_log start n real.task log)) (sym same)

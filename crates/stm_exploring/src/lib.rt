@@ -9,6 +9,7 @@ mod accounts;
 mod asking;
 mod audience;
 mod command;
+mod counted_ends;
 mod explaining;
 mod exploring;
 mod faulted;

@@ -23,6 +23,7 @@ use crate::slots::{Slot, commits, fetches_at_base, is_running};
 use crate::world::{World, is_out_of_memory};
 use std::alloc::{AllocError, Global};
 use std::marker::Model;
+use std::ptr;
 use std::sync::Arc;
 use stm_entries::Entry;
 use stm_events::{Denied, Reply, WorldEvent};
@@ -145,8 +146,13 @@ impl SharedWorld {
         Ok((shared, reply))
     }
 
+    /// Whether it shares its store with another world. No contract says so.
+    pub fn shares_store(&self, other: &SharedWorld) -> bool {
+        ptr::eq(Arc::as_ptr(&self.base), Arc::as_ptr(&other.base))
+    }
+
     /// A world that shares this one's store, with the runners of another. It takes no memory.
-    fn with_runners_of(&self, other: SharedWorld) -> Result<SharedWorld, AllocError>
+    pub fn with_runners_of(&self, other: SharedWorld) -> Result<SharedWorld, AllocError>
         requires { IsSound (with_places other.runners self.now) }
         ensures { IfOk result (λ shared. shared ≡ with_places other.runners self.now) }
     {
@@ -269,7 +275,7 @@ impl SharedWorld {
     }
 
     /// Does nothing: each world is sound.
-    fn know_sound(&self)
+    pub fn know_sound(&self)
         ensures { IsSound self.now }
     {
         // (the world's type says so)

@@ -2,6 +2,7 @@
 ghost use Rattle.stm_check.specs.Laws.{JudgedAlways, JudgedOnce, StoreIsTheReplay, YesIsTheReplay};
 
 /// The store after lines is the replay of all the entries that they report, and these are counted.
+#[tactic(auto, using(crate::proofs::Replaying::store_is_the_replay))]
 pub fn store_is_the_replay()
     ensures { StoreIsTheReplay }
 {}
@@ -19,6 +20,7 @@ pub fn judged_always()
 
 /// What a report shows of which no line is wrong: the entries that its lines report are legal, each at its point, and the
 /// store that they lead to from an empty one is what its key, lease and end lines show.
+#[tactic(auto, using(crate::proofs::LegalReported::yes_is_the_replay))]
 pub fn yes_is_the_replay()
     ensures { YesIsTheReplay }
 {}

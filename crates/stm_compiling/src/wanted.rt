@@ -98,22 +98,30 @@ pub(crate) fn is_behind_number_name(spot: Spot<'_>) -> bool {
     false
 }
 
-/// What is wanted in an event, outside of all brackets.
-fn in_event(spot: Spot<'_>) -> Wanted {
+/// What is wanted behind the word of a declaration.
+fn behind_declaration(spot: Spot<'_>) -> Option<Wanted> {
     if spot.is_behind_word(0, Word::Program) {
-        return Wanted::Said("the name of the program");
+        return Some(Wanted::Said("the name of the program"));
     }
     if spot.is_behind_word(0, Word::Rule) || spot.is_behind_word(0, Word::Finally) {
-        return Wanted::Said("the name of the rule");
+        return Some(Wanted::Said("the name of the rule"));
     }
     if spot.is_behind_word(0, Word::Let) {
-        return Wanted::Said("the name of the constant");
+        return Some(Wanted::Said("the name of the constant"));
     }
     if spot.is_behind_word(1, Word::Let) {
-        return Wanted::Said("=");
+        return Some(Wanted::Said("="));
     }
     if spot.is_behind_word(2, Word::Let) {
-        return Wanted::Said("a text or a number as it stands, or the name of one,");
+        return Some(Wanted::Said("a text or a number as it stands, or the name of one,"));
+    }
+    None
+}
+
+/// What is wanted in an event, outside of all brackets.
+fn in_event(spot: Spot<'_>) -> Wanted {
+    if let Some(wanted) = behind_declaration(spot) {
+        return wanted;
     }
     if spot.is_in_list() {
         return Wanted::Said("a text or a number as it stands, or the name of one, as items are,");

@@ -53,10 +53,11 @@ take_past (x ∷ xs) ys zero n is = absurd (omega arith)
 take_past (x ∷ xs) ys (suc m) n is = ap (λ (l : List ℕ). x ∷ l) (take_past xs ys m n (omega arith))
 
 pub alike : (file c : List ℕ) → c ≡ file → OpensAlike file c
-alike file c is ps opens = subst (λ (f : List ℕ). Opens f ps) (sym is) opens
+alike file c is = record { same = λ ps opens. subst (λ (f : List ℕ). Opens f ps) (sym is) opens; untouched = λ nothing. is }
 
-pub cut_alike : (file : List ℕ) (qs : List (List ℕ)) (end : ℕ) (c : List ℕ) → length file < 2 ^ 64 → Opens file qs → end ≡ length (log 0 qs) → Cut end file c → OpensAlike file c
-cut_alike file qs end c short found end_is cut ps opens =
+cut_opens : (file : List ℕ) (qs : List (List ℕ)) (end : ℕ) (c : List ℕ) → length file < 2 ^ 64 → Opens file qs → end ≡ length (log 0 qs) → Cut end file c
+    → (payloads : List (List ℕ)) → Opens file payloads → Opens c payloads
+cut_opens file qs end c short found end_is cut ps opens =
     let n = length c - end in
     let room : end ≤ length file = omega (arith, end_is, ap length found.split, length-append (log 0 qs) found.end) in
     let same : qs ≡ ps = opens_one file qs ps short found opens in
@@ -64,6 +65,11 @@ cut_alike file qs end c short found end_is cut ps opens =
     sym cut.front ∙ ap (λ (l : List ℕ). take (length c) l) found.split ∙ take_past (log 0 qs) found.end (length c) n (omega (arith, cut.no_shorter room, end_is)) in
     let kept : Opens c qs = record { end = take n found.end; split = split; none = none_in_front (length (log 0 qs)) n found.end found.none } in
     subst (λ (l : List (List ℕ)). Opens c l) same kept
+
+-- a file that is cut opens to something
+pub cut_alike : (file : List ℕ) (qs : List (List ℕ)) (end : ℕ) (c : List ℕ) → length file < 2 ^ 64 → Opens file qs → end ≡ length (log 0 qs) → Cut end file c → OpensAlike file c
+cut_alike file qs end c short found end_is cut =
+    record { same = cut_opens file qs end c short found end_is cut; untouched = λ nothing. absurd (nothing qs found) }
 
 pub cut_crash : (file : List ℕ) (qs : List (List ℕ)) (end : ℕ) (old new : List ℕ → Type 0) → length file < 2 ^ 64 → Opens file qs → end ≡ length (log 0 qs) → Only file old → Follows (Cut end) old new → (c : List ℕ) → new c → OpensAlike file c
 cut_crash file qs end old new short found end_is only follows c left =

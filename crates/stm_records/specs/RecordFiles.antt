@@ -19,9 +19,10 @@ NoChance file payload c = (k : ℕ) (other tail : List ℕ) → drop (length fil
 abbrev pub IsBeforeOrAfter : List ℕ → List ℕ → List ℕ → Type 0
 IsBeforeOrAfter file payload c = (payloads : List (List ℕ)) → file ≡ log 0 payloads → NoChance file payload c → Opens c payloads ⊎ Opens c (payloads ++ payload ∷ [])
 
--- it opens to whatever the file opens to
-abbrev pub OpensAlike : List ℕ → List ℕ → Type 0
-OpensAlike file c = (payloads : List (List ℕ)) → Opens file payloads → Opens c payloads
+-- It opens to whatever the file opens to. Where that opens to nothing, as a damaged one, it is the file itself.
+pub record OpensAlike (file c : List ℕ) : Type 0 where
+  pub same : (payloads : List (List ℕ)) → Opens file payloads → Opens c payloads
+  pub untouched : ((payloads : List (List ℕ)) → Opens file payloads → ⊥) → c ≡ file
 
 abbrev pub payloads_of : Opened → List (List ℕ)
 payloads_of opened = at_places opened.bytes.items opened.places.items

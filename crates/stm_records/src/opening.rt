@@ -1,5 +1,5 @@
 //! Opening a file of records, also one that a crash has left.
-ghost use Rattle.std.specs.Prelude.{◌≡◌, ◌<◌, ℕ, length, IfOk, IfErr, OnOk, IsErrOf, IsTrue, IsFalse};
+ghost use Rattle.std.specs.Prelude.{◌≡◌, ◌<◌, ℕ, [], length, IfOk, IfErr, OnOk, IsErrOf, IsTrue, IsFalse};
 ghost use Rattle.stm_frames.specs.Frame.{log, NoFrame, Opens, IsDamaged};
 ghost use Rattle.stm_records.specs.Disk.{Only, LeavesOnly};
 ghost use Rattle.stm_records.specs.Head.{IsHurt, BeginsWhole};
@@ -69,6 +69,7 @@ fn recover<D: Disk>(alloc: Global, disk: &mut D, bytes: Vec<u8>) -> Result<Opene
 
 /// Whether a file has bytes, and does not begin with a whole record.
 fn is_headless(bytes: &[u8]) -> bool
+    ensures some { IsTrue result → bytes.now ≡ [] → ⊥ }
     ensures hurt { IsTrue result → NoFrame 0 bytes.now }
     ensures whole { IsFalse result → BeginsWhole bytes.now }
 {

@@ -146,7 +146,7 @@ impl SharedWorld {
     }
 
     /// A world that shares this one's store, with the runners of another. It takes no memory.
-    fn with_runners_of(&self, other: SharedWorld) -> Result<SharedWorld, AllocError>
+    pub fn with_runners_of(&self, other: SharedWorld) -> Result<SharedWorld, AllocError>
         requires { IsSound (with_places other.runners self.now) }
         ensures { IfOk result (λ shared. shared ≡ with_places other.runners self.now) }
     {
@@ -269,7 +269,7 @@ impl SharedWorld {
     }
 
     /// Does nothing: each world is sound.
-    fn know_sound(&self)
+    pub fn know_sound(&self)
         ensures { IsSound self.now }
     {
         // (the world's type says so)

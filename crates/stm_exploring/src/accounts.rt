@@ -1,10 +1,10 @@
 //! How the runs of programs ended: that a rule is always kept says little where they never did their work, or where it or they ask for keys that nobody
 //! puts.
-ghost use Rattle.std.specs.Prelude.{◌<◌, length, IfSome};
 ghost use Rattle.stm_serial_search.specs.Search.{AreProgramsOf};
 
 use crate::asked_keys::{rule_word, tell_of_rules, tell_of_runners};
 use crate::audience::Audience;
+use crate::counted_ends::{Came, count_end, push_ends};
 use crate::final_words::{AskedOutput, outputs_asked, wrong_ends};
 use crate::key_use::{KeyUse, VaryingRule, varying_rules};
 use crate::rules::{RuleAnswer, has_kept};
@@ -54,13 +54,6 @@ const OF_SOME_ORDERS: &str = "runs in 10000 moves of serial orders";
 
 /// What is said where an allocation failed for an account.
 const NO_MEMORY: &str = "out of memory: what the answer covers is not known";
-
-/// An end to which runs came, as it is said, and how many did.
-#[derive(Drop)]
-struct Came {
-    how: String,
-    times: u64,
-}
 
 /// How the runs of one runner ended.
 #[derive(Drop)]
@@ -144,32 +137,6 @@ pub(crate) fn shown_text(alloc: Global, text: &str) -> Result<String, AllocError
 fn fault_in(alloc: Global, program: &Program, world: &World) -> Result<String, AllocError> {
     let state = world.state()?;
     fault_on(alloc, program, &state)
-}
-
-/// Where such an end is among these.
-fn place_of(ends: &[Came], how: &str) -> Option<usize>
-    ensures { IfSome result (λ place. place < length ends.now) }
-{
-    for place in 0..ends.len() {
-        if ends[place].how.as_str() == how {
-            return Some(place);
-        }
-    }
-    None
-}
-
-/// Counts an end to which a run came.
-fn count_end(ends: &mut Vec<Came>, how: String) -> Result<(), AllocError> {
-    match place_of(ends.as_slice(), how.as_str()) {
-        Some(place) => {
-            ends[place].times = ends[place].times.saturating_add(1);
-            Ok(())
-        }
-        None => {
-            ends.push(Came { how, times: 1 })?;
-            Ok(())
-        }
-    }
 }
 
 /// The runs of a runner of which nothing is known.
@@ -349,19 +316,6 @@ impl<'a> Account<'a> {
         let how = format!(in alloc; "{word} {cause}")?;
         self.note(runner, how)
     }
-}
-
-/// Adds how often each of these ends came.
-fn push_ends(alloc: Global, line: &mut String, ends: &[Came]) -> Result<(), AllocError> {
-    let mut between = ": ";
-    for came in ends {
-        let how = came.how.as_str();
-        let times = came.times;
-        let part = format!(in alloc; "{between}{times} {how}")?;
-        line.push_str(part.as_str())?;
-        between = ", ";
-    }
-    Ok(())
 }
 
 /// The line of a runner's account, which is of these runs: that it never committed is said where a rule is always kept.

@@ -10,6 +10,7 @@ mod asked_keys;
 mod asking;
 mod audience;
 mod command;
+mod counted_ends;
 mod enough;
 mod explaining;
 mod exploring;

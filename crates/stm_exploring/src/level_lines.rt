@@ -5,7 +5,8 @@ ghost use Rattle.serde_json.specs.View.{view};
 ghost use Rattle.stm_report_lines.specs.Text.{line_text};
 ghost use Rattle.stm_texts.specs.Grammar.{level_text};
 ghost use Rattle.stm_exploring.specs.Judging.{is_kept};
-ghost use Rattle.stm_exploring.specs.Levels.{all_kept, are_met, enough, enough_line, has_failed, is_failed, is_met, is_spared, level_line, level_line_text, level_text_of, levels_text, printed_levels, strength, verdict_of_levels};
+ghost use Rattle.stm_exploring.specs.Levels.{all_kept, are_met, enough, enough_line, has_failed, is_failed, is_met, is_spared};
+ghost use Rattle.stm_exploring.specs.Levels.{level_line, level_line_text, level_text_of, levels_text, printed_levels, strength, verdict_of_levels};
 
 use crate::leveled::LevelAnswers;
 use crate::lines::{named_parts, push_word};

@@ -1,6 +1,7 @@
 //! A report as a page.
 ghost use Rattle.std.specs.Prelude.{◌≡◌, ◌++◌, ◌<◌, ◌+◌, ◌^◌, IfOk, OnOk};
-ghost use Rattle.stm_formats.specs.FormatHtml.{attribute_html, key_html, value_html, put_html, attributes_html, change_html, revision_html, revisions_html, class_of, empty_html, number_html, words_html};
+ghost use Rattle.stm_formats.specs.FormatHtml.{attribute_html, key_html, value_html, put_html, attributes_html, change_html};
+ghost use Rattle.stm_formats.specs.FormatHtml.{revision_html, revisions_html, class_of, empty_html, number_html, words_html};
 ghost use Rattle.stm_formats.specs.FormatHtml.{row_html, rows_html, title_html, titles_html, note_html, notes_html, from_html, to_html, told_html};
 ghost use Rattle.stm_formats.specs.FormatHtml.{reason_html, reasons_html, html_of};
 

@@ -1,6 +1,7 @@
 //! Writing a text piece by piece.
 ghost use Rattle.std.specs.Prelude.{◌≡◌, ◌++◌, ◌-◌, ◌<◌, ◌≤◌, ◌^◌, drop, get_or, decimal, replicate, length, map, take, IfOk, OnOk};
-ghost use Rattle.stm_formats.specs.FormatShown.{front, front_of, back, byte_text, around, coded, cut, digit, from_character, hidden, hidden_from, is_unseen, is_unseen_pair, shown_after, spelled, is_continuation};
+ghost use Rattle.stm_formats.specs.FormatShown.{front, front_of, back, byte_text, around, coded, cut, digit};
+ghost use Rattle.stm_formats.specs.FormatShown.{from_character, hidden, hidden_from, is_unseen, is_unseen_pair, shown_after, spelled, is_continuation};
 ghost use Rattle.stm_formats.specs.FormatEscaped.{entity, escaped};
 ghost use Rattle.stm_formats.specs.FormatPieces.{joined, padded, tag_text, piece_text};
 

@@ -270,7 +270,8 @@ fn push_values(alloc: Global, text: &mut String, state: &State) -> Result<(), Al
 }
 
 /// What is printed of a run of `jobs` jobs: how many there are and how many of them committed, where they are to be shown how
-/// many attempts were made in all, how often commits failed over each key, ascending by bytes, and a line for the end of each job, then one for each key that is present with its value, ascending by bytes, and the store's revision.
+/// many attempts were made in all, how often commits failed over each key, ascending by bytes, and a line for the end of each job, then
+/// one for each key that is present with its value, ascending by bytes, and the store's revision.
 ///
 /// Each line is a compact JSON array and a line feed. It fails where an allocation failed.
 pub fn lines(

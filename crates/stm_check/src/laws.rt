@@ -20,7 +20,6 @@ pub fn judged_always()
 
 /// What a report shows of which no line is wrong: the entries that its lines report are legal, each at its point, and the
 /// store that they lead to from an empty one is what its key, lease and end lines show.
-#[tactic(auto, using(crate::proofs::LegalReported::yes_is_the_replay))]
 pub fn yes_is_the_replay()
     ensures { YesIsTheReplay }
 {}

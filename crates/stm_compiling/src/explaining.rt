@@ -477,7 +477,7 @@ fn said_of_dot(source: &[u8], spot: Spot<'_>) -> &'static str {
 /// What is said of a character at a byte with which no token begins; nothing of most.
 fn said_of_character(source: &[u8], spot: Spot<'_>, at: usize, character: &str) -> &'static str {
     match character {
-        ":" => said_of_colon(spot),
+        ":" => said_of_colon(spot, sets_at(source, at)),
         "'" | "`" => "texts stand in double quotes",
         "[" if spot.place() == Place::Events => {
             "there are no arrays, and a scenario that is JSON needs no compile"

@@ -72,7 +72,9 @@ fn said_in_parentheses(spot: Spot<'_>) -> &'static str {
     }
     match spot.kind() {
         Some(TokenKind::Symbol(symbol)) if is_comparison(*symbol) && is_in_call(spot) => CONDITION,
-        Some(TokenKind::Symbol(Symbol::Comma)) if is_in_get(spot) => OTHER_TEXT,
+        Some(TokenKind::Symbol(Symbol::Comma)) if is_in_get(spot) => {
+            "a get has one key, and behind it may stand what the value \"\" counts as: get(KEY) else TEXT"
+        }
         Some(TokenKind::Symbol(Symbol::Dots)) if is_parameter(spot) => {
             "the dots of all arguments that are left stand behind the name: NAME.."
         }
@@ -176,8 +178,8 @@ pub(crate) fn said_of_setting(spot: Spot<'_>) -> &'static str {
     }
 }
 
-/// What is said of a colon.
-pub(crate) fn said_of_colon(spot: Spot<'_>) -> &'static str {
+/// What is said of a colon, behind which `=` stands where it sets something.
+pub(crate) fn said_of_colon(spot: Spot<'_>, sets: bool) -> &'static str {
     if spot.is_behind_word(1, Word::For) {
         return "a loop is for NAME in 0..COUNT { .. }, or for NAME in ITEM, ITEM { .. }";
     }
@@ -187,7 +189,7 @@ pub(crate) fn said_of_colon(spot: Spot<'_>) -> &'static str {
     if spot.is_before_a_block() {
         return "a block stands in braces, { .. }";
     }
-    if spot.is_behind_word(1, Word::Let) {
+    if !sets && spot.is_behind_word(1, Word::Let) {
         return "a variable has no type: let NAME = VALUE";
     }
     "a new variable is let NAME = VALUE"

@@ -316,13 +316,27 @@ fn run_over(
     ran(rt, store, text, copy_of(rt, program)?, manner)
 }
 
-/// Whether a line of a report says that a run came to a fault.
-fn is_faulted(line: &[u8]) -> bool {
+/// Whether a line of a report has a part.
+fn has_part(line: &[u8], part: &str) -> bool {
     match str::from_utf8(line) {
-        Ok(line) => line.contains(",\"faulted\","),
+        Ok(line) => line.contains(part),
         Err(_) => false,
     }
 }
+
+/// Whether a line of a report says that a run came to a fault.
+fn is_faulted(line: &[u8]) -> bool {
+    has_part(line, ",\"faulted\",")
+}
+
+/// Whether a line of a report says that the store ended a run, since a lease is not there.
+fn is_without_lease(line: &[u8]) -> bool {
+    has_part(line, ",\"ended\",") && has_part(line, ",\"LeaseNotFound\"]")
+}
+
+/// What is said of a program that puts on a lease which the store does not have.
+const NO_LEASE: &str =
+    "stmrun: the store has no such lease, or it has expired: a scenario grants one, as script --store does with grant 7 ttl 60";
 
 /// The state of the store of a world.
 fn state_kept(kept: Kept) -> Option<State> {
@@ -405,6 +419,9 @@ fn run_program(
         Some(line) => {
             if explain && is_faulted(&line) {
                 say_stop(rt, words, given, &text, &program);
+            }
+            if explain && is_without_lease(&line) {
+                let _ = rt.eprintln(NO_LEASE);
             }
             Err(1)
         }

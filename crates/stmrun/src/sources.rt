@@ -295,6 +295,20 @@ fn named_lines(
     Ok(named)
 }
 
+/// A line with its place in a source, and the line of the source.
+fn with_source(
+    alloc: Global,
+    placed: &PlacedLine<'_>,
+    called: Called,
+    runners: &[NamedRunner],
+) -> Result<String, AllocError> {
+    let mut said = named_lines(alloc, placed.words.as_str(), called, runners)?;
+    said.push_str("    ")?;
+    said.push_str(placed.source)?;
+    said.push_str("\n")?;
+    Ok(said)
+}
+
 /// Says a line with its place in a source, and the line of the source; neither, where memory runs out.
 pub(crate) fn say_line(
     rt: &HostRuntime,
@@ -302,10 +316,8 @@ pub(crate) fn say_line(
     called: Called,
     runners: &[NamedRunner],
 ) {
-    if let Ok(words) = named_lines(rt.alloc(), placed.words.as_str(), called, runners) {
-        let source = placed.source;
-        let _ = rt.eprint(words.as_str());
-        let _ = eprintln!(rt; "    {source}");
+    if let Ok(said) = with_source(rt.alloc(), placed, called, runners) {
+        let _ = rt.eprint(said.as_str());
     }
 }
 
@@ -317,14 +329,11 @@ fn placed_line(
     called: Called,
     runners: &[NamedRunner],
 ) -> Result<String, AllocError> {
-    let Some(placed) = places.placed(alloc, line)? else {
-        return named_lines(alloc, line, called, runners);
-    };
-    let mut said = named_lines(alloc, placed.words.as_str(), called, runners)?;
-    said.push_str("    ")?;
-    said.push_str(placed.source)?;
-    said.push_str("\n")?;
-    Ok(said)
+    match places.placed(alloc, line) {
+        Ok(Some(placed)) => with_source(alloc, &placed, called, runners),
+        Ok(None) => named_lines(alloc, line, called, runners),
+        Err(error) => Err(error),
+    }
 }
 
 /// What is said of runs by these lines: with the places of the source of their scenario, where it has one, and with the names that this gives to runners.

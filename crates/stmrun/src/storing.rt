@@ -350,9 +350,11 @@ fn state_of(rt: &HostRuntime, store: &str) -> Option<State> {
     if is_missing(rt, store) {
         return Some(State::new(rt.alloc()));
     }
-    let (mut disk, bytes) = open(rt, store).ok()?;
-    match stm_lasting::open(rt.alloc(), &mut disk, bytes) {
-        Ok(kept) => state_kept(kept),
+    match open(rt, store) {
+        Ok((mut disk, bytes)) => match stm_lasting::open(rt.alloc(), &mut disk, bytes) {
+            Ok(kept) => state_kept(kept),
+            Err(_) => None,
+        },
         Err(_) => None,
     }
 }

@@ -279,6 +279,13 @@ fn is_behind_opening(spot: Spot<'_>) -> bool {
     spot.is_behind_symbol(0, Symbol::LeftParenthesis) || spot.is_behind_symbol(0, Symbol::Comma)
 }
 
+/// Whether a number stands where a transaction has the value of a put.
+fn is_number_of_transaction(spot: Spot<'_>) -> bool {
+    spot.event() == Some(Event::Transaction)
+        && spot.is_behind_symbol(0, Symbol::Comma)
+        && matches!(spot.kind(), Some(TokenKind::Number(_)))
+}
+
 /// What is wanted in parentheses.
 fn in_parentheses(spot: Spot<'_>) -> Wanted {
     if is_behind_call(spot) {
@@ -286,6 +293,9 @@ fn in_parentheses(spot: Spot<'_>) -> Wanted {
     }
     if is_behind_opening(spot) && is_parameter(spot) {
         return Wanted::Said("the name of a parameter");
+    }
+    if is_number_of_transaction(spot) {
+        return Wanted::Said("a text, in quotes,");
     }
     if is_behind_opening(spot) {
         return Wanted::Said(value_in(spot));

@@ -23,7 +23,6 @@ use crate::slots::{Slot, commits, fetches_at_base, is_running};
 use crate::world::{World, is_out_of_memory};
 use std::alloc::{AllocError, Global};
 use std::marker::Model;
-use std::ptr;
 use std::sync::Arc;
 use stm_entries::Entry;
 use stm_events::{Denied, Reply, WorldEvent};
@@ -146,9 +145,9 @@ impl SharedWorld {
         Ok((shared, reply))
     }
 
-    /// Whether it shares its store with another world. No contract says so.
-    pub fn shares_store(&self, other: &SharedWorld) -> bool {
-        ptr::eq(Arc::as_ptr(&self.base), Arc::as_ptr(&other.base))
+    /// Whether it shares its store with some world. No contract says so.
+    pub fn shares_store(&self) -> bool {
+        Arc::strong_count(&self.base) > 1
     }
 
     /// A world that shares this one's store, with the runners of another. It takes no memory.

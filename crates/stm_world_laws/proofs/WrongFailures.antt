@@ -3,6 +3,7 @@ use Rattle.std.proofs.Common.{◌≡◌, ◌≢◌, ◌⊎◌, inl, inr, ℕ, �
 use Rattle.std.proofs.Common.{Bool, true, false, cond, refl, sym, ◌∙◌, ap, subst, arith}
 use Rattle.std.specs.Prelude.{nat_eq, nat_lt, bytes_eq, is_some, ◌&&◌, ◌||◌, slice_get, Result}
 use Rattle.std.specs.List.{AllByRecursion}
+use Rattle.std.proofs.lemmas.Bool.Decides.{nat_tests}
 use Rattle.std.proofs.lemmas.Bool.{ltb-true}
 use Rattle.std.proofs.lemmas.List.{append-nil, append_cancel_left, length-append}
 use Rattle.std.proofs.lemmas.Option.{same_Some}
@@ -360,8 +361,7 @@ wrong_failures moves_on = record {
       let is : failed.now_modified ≡ mod_of (key_now h seen.key) = c.is ∙ c.conflict.reported in
       let above : seen.at < mod_of (key_now h seen.key) =
       modified_above h.opening seen.at seen.key h.revisions c.conflict.changed (subst (λ n. 0 < n) is present) in
-      let was : failed.seen ≡ seen.mod_rev = c.was in
-      omega (arith, small, above, is, was, below);
+      omega (arith, small, above, is, c.was, below);
   more_failures_than_growth = λ start events log id task low begins below is.
       let run = moves_on start events in
       let same : run.0 ≡ log = one_log events (replies_to events (opened start)) run.0 log run.1 is in

@@ -468,6 +468,16 @@ fn first_character(text: &str) -> &str {
     }
 }
 
+/// What is said where too many nodes come to stand, by the word there: that of an event, or a name or a brace.
+fn too_many_words(word: &str) -> &'static str {
+    match word {
+        "start" | "txn" | "watch" => {
+            "with what names stand for the source has more than 16777215 nodes and bytes of text"
+        }
+        _ => "the program has more than 4096 nodes",
+    }
+}
+
 /// What is said of a token that is wrong.
 pub(crate) fn words_at(
     alloc: Global,
@@ -505,7 +515,7 @@ pub(crate) fn words_at(
         ),
         SourceCause::TooDeep => String::from_str(alloc, "the program is nested deeper than 32"),
         SourceCause::TooManyNodes => {
-            String::from_str(alloc, "the program has more than 4096 nodes")
+            String::from_str(alloc, too_many_words(word_from(source, spot, bad.at)))
         }
     }
 }

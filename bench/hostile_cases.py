@@ -552,7 +552,7 @@ def one_step_of_many_nodes(part):
 
 @case(command="check")
 def one_step_of_deep_nodes(part):
-    """The same with expressions down to depth 32."""
+    """One step at both limits, with expressions down to depth 32."""
 
     def sum_of(depth):
         return ["add", sum_of(depth - 1), 1] if depth else ["var", 0]

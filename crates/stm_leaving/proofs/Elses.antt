@@ -1,6 +1,6 @@
 -- A look-up with `else` in front of its statement.
 use Rattle.std.proofs.Common.{◌≡◌, ◌<◌, ℕ, true, false, refl, sym, ◌∙◌, ap, List, [], ◌∷◌, length}
-use Rattle.std.specs.Prelude.{if◌then◌else◌, pos, Option, None, Some}
+use Rattle.std.specs.Prelude.{pos, Option, None, Some}
 use Rattle.std.proofs.lemmas.List.{get_or-set_same}
 use Rattle.stm_program.specs.Syntax.{Expression, Statement, Block}
 use Rattle.stm_program.specs.Syntax.{Text, Variable, Get, Equal, Set, If, End, Then}

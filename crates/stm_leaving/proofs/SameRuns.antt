@@ -1,5 +1,5 @@
 -- What goes alike with one variable set: expressions, conditions and statements without blocks, over the variable and over its value.
-use Rattle.std.proofs.Common.{◌≡◌, ◌≢◌, ◌<◌, ℕ, Bool, true, false, refl, sym, ◌∙◌, ap, subst, List, [], length, nat_eq, ◌||◌, slice_index_or, slice_set, arith, inl, inr}
+use Rattle.std.proofs.Common.{◌≡◌, ◌≢◌, ◌<◌, ℕ, Bool, true, false, refl, sym, ◌∙◌, ap, subst, List, length, nat_eq, ◌||◌, slice_index_or, slice_set, arith, inl, inr}
 use Rattle.std.specs.Prelude.{if◌then◌else◌, pos, Result, Ok, Err, Option, None, Some}
 use Rattle.std.proofs.lemmas.Bool.{eqb-true}
 use Rattle.std.proofs.lemmas.Bool.Decides.{eqb_tells}

@@ -1,13 +1,13 @@
 -- A look-up with `else` in front of a statement of a source.
-use Rattle.std.proofs.Common.{◌≡◌, ◌<◌, ℕ, Bool, true, false, refl, sym, ◌∙◌, ap, subst, [], length, nat_eq, ◌||◌, ◌⊎◌, suc, zero, inl, inr}
-use Rattle.std.specs.Prelude.{if◌then◌else◌, not, ◌&&◌, pos}
+use Rattle.std.proofs.Common.{◌≡◌, ◌<◌, ℕ, Bool, true, false, refl, sym, ◌∙◌, ap, subst, length, nat_eq, ◌||◌, ◌⊎◌, suc, zero, inl, inr}
+use Rattle.std.specs.Prelude.{not, ◌&&◌, pos}
 use Rattle.std.proofs.lemmas.Bool.{eqb-true}
 use Rattle.stm_program.specs.Syntax.{Expression}
 use Rattle.stm_program.specs.Syntax.{Get, Set, End}
 use Rattle.stm_steps.specs.declared.value.Value.{Value}
 use Rattle.stm_steps.specs.declared.value.Value.TheVariants.{Number as NumberValue}
 use Rattle.stm_steps.specs.Answer.{Lookup}
-use Rattle.stm_steps.specs.Values.{equal, turns_of}
+use Rattle.stm_steps.specs.Values.{turns_of}
 use Rattle.stm_steps.specs.Session.{Session, with_variable}
 use Rattle.stm_steps.specs.Outcome.{Outcome, Gives, Stops, and_then, given, begin_turn}
 use Rattle.stm_steps.specs.Meaning.{evaluate, holds, run_statement, run_block}
@@ -21,7 +21,8 @@ use Rattle.stm_leaving.specs.Heads.{fill_condition, fill_head}
 use Rattle.stm_leaving.specs.Unseen.{names}
 use Rattle.stm_leaving.proofs.SameRuns.{set_again, or_none, Sized, carried, sized_then, same_given, same_evaluate, but_for_carried, Sizes, hits}
 use Rattle.stm_leaving.proofs.Elses.{ended, test, sized_get, or_else-sized, set_else_runs_alike}
-use Rattle.stm_leaving.proofs.UnseenLemmas.{unneeded_behind, Any, Unseen, then_unseen, then_exact, same_unseen, own, same_holds, puts, begin_unseen, begin_exact, setter_exact, statement_unseen, filled_holds, head_same, head_exact}
+use Rattle.stm_leaving.proofs.UnseenLemmas.{unneeded_behind, Any, Unseen, then_unseen, then_exact, same_unseen, own, same_holds}
+use Rattle.stm_leaving.proofs.UnseenLemmas.{puts, begin_unseen, begin_exact, setter_exact, statement_unseen, filled_holds, head_same, head_exact}
 
 module _ (look : Lookup) (v : ℕ) where
   abbrev going : Unit {0} → Session → Outcome Way

@@ -1,5 +1,5 @@
 -- Statements that do not need a variable do not see it, and so a look-up with `else` may stand in front of any of them.
-use Rattle.std.proofs.Common.{◌≡◌, ◌<◌, ℕ, Bool, true, false, refl, sym, ◌∙◌, ap, subst, List, [], length, nat_eq, ◌||◌, ◌⊎◌, suc, zero, inl, inr}
+use Rattle.std.proofs.Common.{◌≡◌, ◌<◌, ℕ, Bool, true, false, refl, sym, ◌∙◌, ap, subst, List, length, nat_eq, ◌||◌, ◌⊎◌, suc, zero, inl, inr}
 use Rattle.std.specs.Prelude.{if◌then◌else◌, not, ◌&&◌, nat_lt, pos}
 use Rattle.std.proofs.lemmas.Bool.{eqb-true}
 use Rattle.stm_program.specs.Syntax.{Expression, Statement, Block}
@@ -17,7 +17,8 @@ use Rattle.stm_leaving.specs.Heads.{fill_condition, fill_head, needs_inside, Lif
 use Rattle.stm_leaving.specs.Unseen.{names, sets, needs, needs_one, FreeVariablesAreUnseen, LiftedInFront}
 use Rattle.stm_steps.specs.declared.fault.Fault.TheVariants.{TurnLimit}
 use Rattle.stm_steps.specs.declared.stop.Stop.TheVariants.{Faulted}
-use Rattle.stm_leaving.proofs.SameRuns.{set_again, set_behind, or_none, Sized, carried, Same, sized_then, same_then, same_given, same_evaluate, same_own, but_for_carried, writing, same_write, plain_same, Sizes, hits}
+use Rattle.stm_leaving.proofs.SameRuns.{set_again, set_behind, or_none, Sized, carried, Same, sized_then, same_then}
+use Rattle.stm_leaving.proofs.SameRuns.{same_given, same_evaluate, same_own, but_for_carried, writing, same_write, plain_same, Sizes, hits}
 use Rattle.stm_leaving.proofs.Elses.{then_set, sized_get, lifted_goes, or_else-sized, but_for_all}
 
 pub unneeded_behind : (x y : Bool) → (not x && y) ≡ false → (x ≡ true) ⊎ (y ≡ false)

@@ -11,8 +11,8 @@ use crate::files::is_missing;
 use crate::naming::JOBS;
 use crate::noting::{Keeping, Noting};
 use crate::sources::{
-    Given, GivenProgram, JsonFile, given_at, is_source, out_of_memory, program_at, say_in_program,
-    say_of_runs, scenario_at,
+    Given, GivenProgram, JsonFile, given_at, is_source, out_of_memory, program_at, say_ended,
+    say_in_program, scenario_at,
 };
 use std::sync::Wait;
 use std::thread::Threads;
@@ -208,8 +208,7 @@ fn say_ends<S>(
     let said: Vec<u8> = Vec::new(rt.alloc());
     let mut err = Std::new(said);
     report_ends(rt.alloc(), explain, input, ends, &mut err);
-    let said = str::from_utf8(err.device.as_slice()).unwrap_or("");
-    say_of_runs(rt, given, JOBS, said);
+    say_ended(rt, given, JOBS, 0, &err);
 }
 
 /// Runs the jobs of the scenario of a path, or of that on standard input, over the store of a file, by several threads.
@@ -337,13 +336,9 @@ fn state_of(rt: &HostRuntime, store: &str) -> Option<State> {
     if is_missing(rt, store) {
         return Some(State::new(rt.alloc()));
     }
-    match opened(rt, store) {
-        Ok((mut records, bytes)) => {
-            match stm_lasting::open(rt.alloc(), &mut records.disk, bytes) {
-                Ok(kept) => state_kept(kept),
-                Err(_) => None,
-            }
-        }
+    let (mut disk, bytes) = open(rt, store).ok()?;
+    match stm_lasting::open(rt.alloc(), &mut disk, bytes) {
+        Ok(kept) => state_kept(kept),
         Err(_) => None,
     }
 }

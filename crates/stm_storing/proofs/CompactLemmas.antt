@@ -104,9 +104,9 @@ still_opens file c world kept is = record {
 pub as_compacted : (asked : Option ℕ) (found : List ℕ) (before : World) (floor : ℕ) (c : List ℕ) → OpensTo found before → IsQuiet before
     → floor ≡ asked_floor asked (kept before.standing) → OpensTo c before ⊎ ((after : World) × OpensTo c after × ShowTheSame floor before after)
     → LeavesFoundOrCompacted asked found c
-as_compacted asked found before floor c opens quiet is (inl old) = inr (before, opens, quiet, (before, old, shows_itself (asked_floor asked (kept before.standing)) before))
+as_compacted asked found before floor c opens quiet is (inl old) = inr (before, opens, (quiet, (before, old, shows_itself (asked_floor asked (kept before.standing)) before)))
 as_compacted asked found before floor c opens quiet is (inr new) =
-    inr (before, opens, quiet, (new.0, new.1, subst (λ (n : ℕ). ShowTheSame n before new.0) is new.2))
+    inr (before, opens, (quiet, (new.0, new.1, subst (λ (n : ℕ). ShowTheSame n before new.0) is new.2)))
 
 -- the file that was written, in the same words
 pub has_compacted : (asked : Option ℕ) (found file : List ℕ) (before : World) (floor : ℕ) → OpensTo found before → floor ≡ asked_floor asked (kept before.standing)

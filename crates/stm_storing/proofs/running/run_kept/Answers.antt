@@ -4,6 +4,12 @@ use Rattle.stm_storing.specs.Storing.{IsOpened, LeavesAroundRun}
 use Rattle.stm_storing.proofs.Around.{then}
 use Rattle.stm_storing.proofs.running.run_kept.Goals as goal
 
+pub returns-in_err-copy-clause-any_moment : goal.returns-in_err-copy-clause-any_moment
+returns-in_err-copy-clause-any_moment g c = weaker c.opened.ensures.any_moment (λ f alike. inl alike)
+
+pub returns-in_err-clone-clause-any_moment : goal.returns-in_err-clone-clause-any_moment
+returns-in_err-clone-clause-any_moment g c = weaker c.opened.ensures.any_moment (λ f alike. inl alike)
+
 pub returns-in_err-tried-clause-any_moment : goal.returns-in_err-tried-clause-any_moment
 returns-in_err-tried-clause-any_moment g c = weaker c.opened.ensures.any_moment (λ f alike. inl alike)
 

@@ -26,7 +26,7 @@ class Case:
 
 
 def case(command="script", statuses=(0,), units=MOST_UNITS):
-    """Notes a function that makes the text of a scenario, or of a scenario and a report, at a part of the full size."""
+    """Notes a function that makes the text of a scenario, or of a scenario and a report, or of a source, at a part of the full size."""
 
     def note(make):
         CASES[make.__name__] = Case(make, command, statuses, units)
@@ -552,7 +552,7 @@ def one_step_of_many_nodes(part):
 
 @case(command="check")
 def one_step_of_deep_nodes(part):
-    """The same with expressions down to depth 32."""
+    """One step at both limits, with expressions down to depth 32."""
 
     def sum_of(depth):
         return ["add", sum_of(depth - 1), 1] if depth else ["var", 0]
@@ -792,3 +792,52 @@ def jobs_behind_a_history(part):
     add_history(scenario, int(5200 * part))
     scenario.add(*[["start", "Serializable", 1, program]] * int(32000 * part))
     return scenario.text()
+
+
+# sources
+
+
+LONG_CONSTANT = f'let c = "{"x" * 65536}"\n'
+
+
+@case(command="compile", statuses=(2,))
+def constant_in_a_transaction(part):
+    """A constant of 65,536 bytes that 2,300,000 reads of a transaction name."""
+    return LONG_CONSTANT + "txn { " + "get(c) " * int(2300000 * part) + "}"
+
+
+@case(command="compile", statuses=(2,))
+def constant_in_a_program(part):
+    """A constant of 65,536 bytes that 2,000,000 statements of a program name."""
+    return LONG_CONSTANT + "start { " + "emit(c) " * int(2000000 * part) + "}"
+
+
+@case(command="compile", statuses=(2,))
+def constant_in_programs(part):
+    """A constant of 65,536 bytes that 1,000 programs of 2,000 statements name."""
+    return LONG_CONSTANT + "".join(f"program p{number} {{ " + "emit(c) " * 2000 + "} " for number in range(int(1000 * part)))
+
+
+@case(command="compile")
+def constant_as_arguments(part):
+    """A constant of 65,536 bytes that is an argument of a start 5,000,000 times."""
+    return LONG_CONSTANT + "program p(a..) {} start p(c" + ",c" * int(5000000 * part) + ")"
+
+
+@case(command="compile")
+def constant_of_many_names(part):
+    """A constant of 65,536 bytes that has 800,000 other names."""
+    return LONG_CONSTANT + "".join(f"let b{number} = c " for number in range(int(800000 * part)))
+
+
+@case(command="compile", statuses=(2,))
+def values_of_many_nodes(part):
+    """800,000 values of 3,000 nodes each, which are copies of one."""
+    values = "let a0 = 1 + 1 " + "".join(f"let a{number + 1} = a{number} + a{number} " for number in range(9))
+    return values + "".join(f"let b{number} = a9 " for number in range(int(800000 * part)))
+
+
+@case(command="compile", statuses=(2,))
+def escapes_of_a_source(part):
+    """1,300,000 texts that are one escape."""
+    return "start { " + 'emit("\\n") ' * int(1300000 * part) + "}"

@@ -7,11 +7,30 @@ use serde_json::Value as Json;
 use std::alloc::{AllocError, Global};
 use stm_compiling::NamedRunner;
 
+/// With this ends the line of an answer at the strongest level.
+const STRONGEST: &str = "\"SerializableSnapshot\"]";
+
+/// Whether one of these lines, which a search printed, begins so and is an answer at the strongest level.
+fn is_at_strongest(printed: &str, front: &str) -> bool {
+    printed.lines().any(|line| line.starts_with(front) && line.ends_with(STRONGEST))
+}
+
+/// Why no level is named as enough, by all that the search printed: the strongest one is not, either, or it was not decided there.
+fn none_words(printed: &str) -> &'static str {
+    if is_at_strongest(printed, "[\"broken\"") {
+        "enough: no level (a rule is broken at SerializableSnapshot, too)"
+    } else if is_at_strongest(printed, "[\"anomaly\"") {
+        "enough: no level (there is an anomaly at SerializableSnapshot, too)"
+    } else {
+        "enough: not known (SerializableSnapshot was not decided)"
+    }
+}
+
 /// Which level is enough.
-fn enough_words(alloc: Global, parts: &[Json]) -> Result<String, AllocError> {
+fn enough_words(alloc: Global, parts: &[Json], printed: &str) -> Result<String, AllocError> {
     match text_at(parts, 1) {
         Some(level) => format!(in alloc; "enough: {level}"),
-        None => String::from_str(alloc, "enough: no level"),
+        None => String::from_str(alloc, none_words(printed)),
     }
 }
 
@@ -88,10 +107,11 @@ fn found_words(
     Ok(None)
 }
 
-/// A line in words, by its elements; none of one that is no answer.
+/// A line in words, by its elements and all that the search printed; none of one that is no answer.
 fn words_of(
     alloc: Global,
     parts: &[Json],
+    printed: &str,
     has_level: bool,
     runners: &[NamedRunner],
 ) -> Result<Option<String>, AllocError> {
@@ -106,16 +126,17 @@ fn words_of(
         return some(open_words(alloc, parts, has_level));
     }
     if word == "enough" {
-        return some(enough_words(alloc, parts));
+        return some(enough_words(alloc, parts, printed));
     }
     found_words(alloc, word, parts, runners)
 }
 
-/// A line that a search printed, in words without a line feed, with the names of these runners; `has_level` says that the search was at all levels, so that
-/// the line ends with one. None of a line that is no answer, as a scenario. It fails only when out of memory.
+/// A line that a search printed, one of the lines of `printed`, in words without a line feed, with the names of these runners; `has_level` says that the
+/// search was at all levels, so that the line ends with one. None of a line that is no answer, as a scenario. It fails only when out of memory.
 pub fn in_words(
     alloc: Global,
     line: &str,
+    printed: &str,
     has_level: bool,
     runners: &[NamedRunner],
 ) -> Result<Option<String>, AllocError> {
@@ -123,7 +144,7 @@ pub fn in_words(
         return Ok(None);
     };
     match json.as_array() {
-        Some(parts) => words_of(alloc, parts.as_slice(), has_level, runners),
+        Some(parts) => words_of(alloc, parts.as_slice(), printed, has_level, runners),
         None => Ok(None),
     }
 }

@@ -1,10 +1,7 @@
 -- Where the arguments of a program begin, by the words of which a command line has the texts.
-use Rattle.std.proofs.Common.{◌≡◌, ◌+◌, ◌-◌, take_all, ◌<◌, ◌≤◌, ℕ, suc, List, [], ◌∷◌, ◌∙◌, length, map, take, drop, slice_index_or, true, false, refl, sym, ap, ap₂, subst, arith}
-use Rattle.std.proofs.lemmas.List.{take-map, drop-map, length-drop, length-map}
+use Rattle.std.proofs.Common.{◌≡◌, ◌+◌, ◌-◌, ◌<◌, ◌≤◌, ℕ, suc, List, [], ◌∷◌, ◌∙◌, length, map, take, drop, slice_index_or, true, false, refl, sym, ap, ap₂, subst, arith}
+use Rattle.std.proofs.lemmas.List.{take-map, drop-map, length-map}
 use Rattle.stm_arguments.specs.Cutting.{before_arguments, cut, names_program, up_to_name, up_to_place}
-
-pub behind : {A : Type 0} (words : List A) (file : ℕ) → take (length words - file) (drop file words) ≡ drop file words
-behind words file = take_all (length words - file) (drop file words) (let short = length-drop file words in omega (arith, short))
 
 module _ {A : Type 0} (text : A → List ℕ) where
   pub named : (words : List A) (file : ℕ) → file ≡ up_to_place (map text words) → file + up_to_place (map text (drop file words)) ≡ up_to_name (map text words)

@@ -1,10 +1,11 @@
 -- A commit of which nothing broken is found.
-use Rattle.std.proofs.Common.{◌≡◌, ◌≤◌, ◌∙◌, ℕ, Bool, true, false, not, cond, nat_lt, nat_eq, List, [], ◌∷◌, Option, Some, None, IfSome, All, option_map, refl, sym, arith}
+use Rattle.std.proofs.Common.{◌≡◌, ◌≤◌, ◌∙◌, ℕ, Bool, true, false, not, cond, nat_eq, List, [], ◌∷◌, Option, Some, None, IfSome, All, option_map, refl, sym, arith}
 use Rattle.std.specs.Prelude.{find, if◌then◌else◌}
 use Rattle.std.specs.List.{AllByRecursion}
 use Rattle.std.specs.Option.{option_or}
 use Rattle.std.proofs.lemmas.Bool.Decides.{nat_tests}
 use Rattle.std.proofs.lemmas.List.Elements.{All-from_recursion}
+use Rattle.std.proofs.lemmas.Bool.{not-false, ltb-false}
 use Rattle.stm_history.specs.History.{History, key_now, mod_of, key_of}
 use Rattle.stm_program.specs.declared.level.Level.{Level}
 use Rattle.stm_program.specs.declared.level.Level.TheVariants.{SerializableSnapshot}
@@ -34,15 +35,8 @@ each P Q (x ∷ xs) turn all = (turn x all.0, each P Q xs turn all.1)
 none_is : {X : Type 0} (p : X → Bool) (Q : X → Type 0) (xs : List X) → ((x : X) → p x ≡ false → Q x) → find p xs ≡ None → All Q xs
 none_is p Q xs turn is = All-from_recursion Q xs (each (λ x. p x ≡ false) Q xs turn (none_found p xs is))
 
-not_not : (b : Bool) → not b ≡ false → b ≡ true
-not_not true is = refl
-not_not false is = absurd (cc)
-
 same_number : (m n : ℕ) → not (nat_eq m n) ≡ false → m ≡ n
 same_number m n is = grind (arith, nat_tests)
-
-not_above : (m n : ℕ) → nat_lt m n ≡ false → n ≤ m
-not_above m n is = grind (arith, nat_tests)
 
 -- ---- by what is found
 
@@ -83,13 +77,13 @@ kept_where_nothing_is_broken h made number t kept =
     let none_stale : is_comparing t.level ≡ true → find (is_stale h) t.reads ≡ None =
     λ is. none_first (of_stale h made number t) stale (overwritten_in h number t) (λ a. is) next in
     record {
-      so = none_is (is_untrue h) (λ (a : CommittedRead). is_so h a ≡ true) t.reads (λ a. not_not (is_so h a)) all_so;
+      so = none_is (is_untrue h) (λ (a : CommittedRead). is_so h a ≡ true) t.reads (λ a. not-false (is_so h a)) all_so;
       unchanged = λ is.
           none_is (is_stale h) (λ (a : CommittedRead). a.mod_rev ≡ mod_of (key_now h a.key)) t.reads (λ a. same_number a.mod_rev (mod_of (key_now h a.key)))
           (none_stale is);
       unwritten = λ is.
           none_is (is_put_above h (first_read t.reads)) (λ (w : Change). mod_of (key_now h (key_of w)) ≤ first_read t.reads) t.writes
-          (λ w. not_above (first_read t.reads) (mod_of (key_now h (key_of w))))
+          (λ w. ltb-false (first_read t.reads) (mod_of (key_now h (key_of w))))
           (none_last h number (first_read t.reads) (find (is_put_above h (first_read t.reads)) t.writes) (compares_writes t.level) is
           (past (of_stale h made number t) stale (overwritten_in h number t) (none_stale (compares_both t.level is)) next));
     }

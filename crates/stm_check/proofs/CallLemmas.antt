@@ -4,22 +4,17 @@ use Rattle.std.proofs.Common.{Ok, Err, refl, sym, ◌∙◌, ap, subst}
 use Rattle.std.specs.Prelude.{Result, IsTrue, IfOk, OnOk, nat_lt}
 use Rattle.std.specs.declared.alloc.AllocError.{AllocError}
 use Rattle.std.specs.FinMap as finmap
-use Rattle.stm_history.specs.declared.change.Change.{Change}
-use Rattle.stm_history.specs.History.{History, now, key_now}
+use Rattle.stm_history.specs.History.{now}
 use Rattle.stm_outcome.specs.declared.advance.Expired.{Expired}
-use Rattle.stm_outcome.specs.declared.answer.FailedCompare.{FailedCompare}
-use Rattle.stm_outcome.specs.declared.answer.OpAnswer.{OpAnswer}
 use Rattle.stm_outcome.specs.declared.answer.TxnAnswer.{TxnAnswer}
 use Rattle.stm_outcome.specs.declared.refusal.Refusal.{Refusal}
-use Rattle.stm_outcome.specs.declared.refusal.Refusal.TheVariants.{OutOfMemory, RevisionsUsedUp, TimeGoesBack}
+use Rattle.stm_outcome.specs.declared.refusal.Refusal.TheVariants.{OutOfMemory, TimeGoesBack}
 use Rattle.stm_outcome.specs.declared.txn.Txn.{Txn}
-use Rattle.stm_outcome.specs.Checks.{fault_of}
-use Rattle.stm_outcome.specs.Compares.{first_failed}
-use Rattle.stm_outcome.specs.Branches.{begun, changes_of_branch, answers_after, branch_refusal}
-use Rattle.stm_outcome.specs.Outcome.{Done, outcome, chosen, unless, finished, is_used_up, with_changes, answer_of}
+use Rattle.stm_outcome.specs.Outcome.{Done, outcome}
+use Rattle.stm_outcome.proofs.Applying.{is_done}
 use Rattle.stm_txn.specs.Standing.{Standing, Step, Advance, IsRefusalOf, IsCutShort, step_of, transacted, granted, kept_alive, revoked, expire_up_to}
 use Rattle.stm_txn.specs.Standing.{expire_all, at_moment, advanced, terms_of, compaction_refusal, with_floor, floor_step, raised}
-use Rattle.stm_outcome.specs.Terms.{Terms, most_operations}
+use Rattle.stm_outcome.specs.Terms.{most_operations}
 use Rattle.stm_entries.specs.declared.entry.Entry.{Entry}
 use Rattle.stm_entries.specs.Replayed.{without_moment}
 use Rattle.stm_entries.specs.declared.entry.Entry.TheVariants.{Foreign, Grant as GrantEntry, Renew, Revoke as RevokeEntry}
@@ -168,30 +163,6 @@ revoke_led s next id revision is =
 
 -- ---- a transaction
 
--- the answer has the counter of the history that it leaves
-abbrev ReturnsCounter : Result Done Refusal → Type 0
-ReturnsCounter (Ok done) = done.answer.revision ≡ now done.history
-ReturnsCounter (Err cause) = Unit {0}
-
-counter_unless : (o : Option Refusal) (next : Result Done Refusal) → ReturnsCounter next → ReturnsCounter (unless o next)
-counter_unless None next reports = reports
-counter_unless (Some cause) next reports = tt
-
-counter_by : (used : Bool) (h : History) (failed : Option FailedCompare) (changes : List Change) (answers : List OpAnswer) →
-    ReturnsCounter (cond used (Err RevisionsUsedUp) (Ok record { answer = answer_of h failed changes answers; history = with_changes h changes }))
-counter_by true h failed changes answers = tt
-counter_by false h failed changes answers = refl
-
-counter_reported : (terms : Terms) (txn : Txn) (failed : Option FailedCompare) →
-    ReturnsCounter (unless (fault_of terms.limit txn) (unless (branch_refusal terms (chosen failed txn))
-    (finished terms.history failed (changes_of_branch terms.history (chosen failed txn))
-    (answers_after terms.history (begun terms.history) (chosen failed txn)))))
-counter_reported terms txn failed =
-    let h : History = terms.history in
-    let ops = chosen failed txn in
-    counter_unless (fault_of terms.limit txn) _ (counter_unless (branch_refusal terms ops) _
-    (counter_by (is_used_up h (changes_of_branch h ops)) h failed (changes_of_branch h ops) (answers_after h (begun h) ops)))
-
 -- what a transaction leaves beside the history, and the counter in its answer
 pub record IsTransacted (s : Standing) (answer : TxnAnswer) (next : Standing) : Type 0 where
   pub rest : KeepsRest s next
@@ -201,13 +172,15 @@ abbrev pub StepIsTransacted : Standing → Result (Step TxnAnswer) Refusal → T
 StepIsTransacted s (Ok step) = IsTransacted s step.answer step.next
 StepIsTransacted s (Err cause) = Unit {0}
 
-transacted_by : (s : Standing) (o : Result Done Refusal) → ReturnsCounter o → StepIsTransacted s (step_of s o)
-transacted_by s (Ok done) reports = record { rest = record { moment = refl; watchers = refl; floor = refl }; counter = reports }
-transacted_by s (Err cause) reports = tt
+transacted_by : (s : Standing) (txn : Txn) (o : Result Done Refusal) → outcome (terms_of s) txn ≡ o → StepIsTransacted s (step_of s o)
+transacted_by s txn (Ok done) is = record {
+  rest = record { moment = refl; watchers = refl; floor = refl };
+  counter = subst (λ (d : Done). d.answer.revision ≡ now d.history) (is_done (terms_of s) txn done is).made refl;
+}
+transacted_by s txn (Err cause) is = tt
 
 pub is_transacted : (s : Standing) (txn : Txn) → StepIsTransacted s (transacted s txn)
-is_transacted s txn =
-    transacted_by s (outcome (terms_of s) txn) (counter_reported (terms_of s) txn (first_failed (key_now s.history) 0 txn.compares))
+is_transacted s txn = transacted_by s txn (outcome (terms_of s) txn) refl
 
 -- the store that the reply to a transaction leads to
 pub txn_led : (s next : Standing) (txn : Txn) (answer : TxnAnswer) → s.limit ≤ most_operations →

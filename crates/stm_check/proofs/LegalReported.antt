@@ -63,12 +63,12 @@ revoke_reported : (id : ℕ) (r : Result (Step ℕ) Refusal) → revoke_entries 
 revoke_reported id (Ok done) = refl
 revoke_reported id (Err cause) = refl
 
-txn_reported : (s : Standing) (txn : Txn) (r : Result (Step TxnAnswer) Refusal) → StepIsTransacted s r →
+pub txn_reported : (s : Standing) (txn : Txn) (r : Result (Step TxnAnswer) Refusal) → StepIsTransacted s r →
     txn_entries (now s.history) txn (reply_to txn_reply r) ≡ if_changed s (store_after_call s r) txn
 txn_reported s txn (Ok step) came = ap (λ (revision : ℕ). cond (nat_lt (now s.history) revision) (Foreign txn ∷ []) []) came.counter
 txn_reported s txn (Err cause) came = sym (never_higher s txn)
 
-advance_reported : (moment : ℕ) (expired : List Expired) (cause : Option Refusal) → advance_entries (advance_reply moment expired cause) ≡ expiries expired
+pub advance_reported : (moment : ℕ) (expired : List Expired) (cause : Option Refusal) → advance_entries (advance_reply moment expired cause) ≡ expiries expired
 advance_reported moment expired None = refl
 advance_reported moment expired (Some cause) = refl
 

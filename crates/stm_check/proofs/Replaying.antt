@@ -26,8 +26,7 @@ store_is_the_replay p (event ∷ events) (l ∷ lines) =
     let later : List Entry = entries_along next events lines in
     let first : IsReplayOf p reported next = line_is_the_replay p event l in
     let rest : IsReplayOf next later (point_after next events lines) = store_is_the_replay next events lines in
-    let sum : length (reported ++ later) ≡ length reported + length later = length-append reported later in
     record {
       store = rest.store ∙ ap (λ (r : Replayed). replay later r) first.store ∙ sym (replay_goes_on reported later (without_moment p.standing));
-      count = omega (arith, rest.count, first.count, sum);
+      count = omega (arith, rest.count, first.count, length-append reported later);
     }

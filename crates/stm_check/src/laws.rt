@@ -2,6 +2,7 @@
 ghost use Rattle.stm_check.specs.Laws.{JudgedAlways, JudgedOnce, StoreIsTheReplay, YesIsTheReplay};
 
 /// The store after lines is the replay of all the entries that they report, and these are counted.
+#[tactic(auto, using(crate::proofs::Replaying::store_is_the_replay))]
 pub fn store_is_the_replay()
     ensures { StoreIsTheReplay }
 {}

@@ -3,6 +3,7 @@ use Rattle.std.proofs.Common.{◌≡◌, ◌∙◌, ◌≤◌, ℕ, Bool, true, 
 use Rattle.std.specs.Prelude.{nat_eq, nat_lt, ◌==◌, bytes_eq}
 use Rattle.std.proofs.lemmas.Slice.Eq.{bytes_eq-Decides}
 use Rattle.std.proofs.lemmas.Bool.Decides.{nat_tests}
+use Rattle.std.proofs.lemmas.Option.{cond_some}
 use Rattle.stm_history.specs.declared.key_state.ReadAnswer.{ReadAnswer}
 use Rattle.stm_program.specs.declared.level.Level.{Level}
 use Rattle.stm_program.specs.Levels.{is_serializable}
@@ -20,10 +21,6 @@ pub one_base_with : (reads : List ReadAnswer) (a : ReadAnswer) → HaveOneBase r
 one_base_with [] a base same = (same, tt)
 one_base_with (first ∷ reads) a (some, others) same = (some, all_show first.of_rev reads a others same)
 
-serving_is : (b : Bool) (a taken : ReadAnswer) → cond b (Some a) None ≡ Some taken → (b ≡ true) × (a ≡ taken)
-serving_is true a taken is = (refl, cc (is))
-serving_is false a taken is = absurd (cc (is))
-
 above_zero : (n : ℕ) → nat_lt 0 n ≡ true → 1 ≤ n
 above_zero n is = grind (arith, nat_tests, is)
 
@@ -37,7 +34,7 @@ of_test (first ∷ reads) a is = same_number a.of_rev first.of_rev is
 of_option : (reads : List ReadAnswer) (found : Option ReadAnswer) (taken : ReadAnswer) → serving_only reads found ≡ Some taken → IsOfBase reads taken
 of_option reads None taken is = absurd (cc (is))
 of_option reads (Some a) taken is =
-    let both = serving_is (is_serving reads a) a taken is in
+    let both = cond_some (is_serving reads a) a taken is in
     subst (IsOfBase reads) both.1 (of_test reads a both.0)
 
 -- what was read again and serves
@@ -74,7 +71,7 @@ of_the_key key (first ∷ answers) a found =
 found_again : (reads : List ReadAnswer) (found : Option ReadAnswer) (a : ReadAnswer) → serving_only reads found ≡ Some a → found ≡ Some a
 found_again reads None a is = absurd (cc (is))
 found_again reads (Some first) a is =
-    let both = serving_is (is_serving reads first) first a is in ap (λ (x : ReadAnswer). (let o : Option ReadAnswer = Some x in o)) both.1
+    let both = cond_some (is_serving reads first) first a is in ap (λ (x : ReadAnswer). (let o : Option ReadAnswer = Some x in o)) both.1
 
 -- an answer that was read again and serves is one for its key
 pub answered_by_serving : (t : TransactionState) (reads again : List ReadAnswer) (key : List ℕ) (a : ReadAnswer) → t.reads ≡ reads → t.again ≡ again

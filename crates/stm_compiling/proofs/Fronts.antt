@@ -1,8 +1,8 @@
 -- What is too long by a byte is too long however it goes on, so who reads no further answers the same.
-use Rattle.std.proofs.Common.{◌≡◌, ◌∙◌, ℕ, ◌<◌, ◌≤◌, List, [], ◌∷◌, length, take, Bool, true, false, nat_lt, Option, Ok, Err, refl, sym, ap, subst, arith, take_all}
+use Rattle.std.proofs.Common.{◌≡◌, ◌∙◌, ℕ, ◌<◌, ◌≤◌, List, [], length, take, Bool, true, false, nat_lt, Option, Ok, Err, refl, sym, ap, subst, arith, take_all}
 use Rattle.std.proofs.lemmas.Bool.{ltb-true, ltb-false}
 use Rattle.std.proofs.lemmas.Bool.Decides.{nat_tests}
-use Rattle.std.proofs.lemmas.List.{length-take-le}
+use Rattle.std.proofs.lemmas.List.{length-take-le, nil_from_length}
 use Rattle.stm_devices.specs.declared.transfer.TheConstants.{MOST_READ}
 use Rattle.stm_json.specs.declared.limits.TheConstants.{MOST_BYTES}
 use Rattle.stm_terms.specs.declared.faults.BadSource.{BadSource}
@@ -45,13 +45,8 @@ abbrev fault_or : {A : Type 0} → BadSource → Outcome A → BadSource
 fault_or other (Ok answer) = other
 fault_or other (Err bad) = bad
 
--- nothing stands before the first byte
-no_length : (bytes : List ℕ) → length bytes ≡ 0 → bytes ≡ []
-no_length [] none = refl
-no_length (b ∷ bs) none = absurd (omega (arith, none))
-
 first_place : (source : List ℕ) → place_of source 0 ≡ place_after []
-first_place source = ap place_after (no_length (take 0 source) (length-take-le 0 source (omega arith)))
+first_place source = ap place_after (nil_from_length (take 0 source) (length-take-le 0 source (omega arith)))
 
 same_place : (name : Option (List ℕ)) (said front all : List ℕ) → SaysFault name front too_long said → SaysFault name all too_long said
 same_place name said front all =

@@ -11,8 +11,11 @@ use crate::habits::{
 };
 use crate::misfits::said_of_start;
 use crate::more_faults::{MOST_MORE, Rest};
-use crate::naming::{is_called, said_of_function, said_of_place};
+use crate::naming::{is_called, said_of_call, said_of_function, said_of_place};
 use crate::other_kinds::said_of_value;
+use crate::signs::{
+    CHOICE, CONDITION, OTHER_TEXT, said_anywhere, said_in_program, said_of_colon, said_of_setting,
+};
 use crate::spots::{Event, Place, Spot, name_in, spot_at};
 use crate::titles::{near_name, said_of_names};
 use crate::wanted::{
@@ -103,7 +106,12 @@ fn behind_dot<'a>(source: &'a [u8], spot: Spot<'_>) -> Option<&'a str> {
     }
 }
 
-/// What is said of a name behind which `.`, `++` or `:=` stands; nothing of others.
+/// Whether `:=` stands at a byte.
+fn sets_at(source: &[u8], at: usize) -> bool {
+    between(source, at, at.saturating_add(2)) == ":="
+}
+
+/// What is said of a name behind which `.`, `++`, `:=` or another sign stands that sets it; nothing of others.
 fn said_of_sign(source: &[u8], spot: Spot<'_>) -> &'static str {
     if name_in(spot).is_empty() {
         return "";
@@ -116,8 +124,19 @@ fn said_of_sign(source: &[u8], spot: Spot<'_>) -> &'static str {
         Some(TokenKind::Symbol(Symbol::Comma)) if spot.place() == Place::Statements => {
             "each variable is set by itself: NAME = VALUE, or let NAME = VALUE"
         }
-        Some(TokenKind::Wrong) => "a new variable is let NAME = VALUE",
+        Some(TokenKind::Wrong) if is_set_behind(source, spot) => {
+            "a new variable is let NAME = VALUE"
+        }
+        _ if spot.place() == Place::Statements => said_of_setting(spot),
         _ => "",
+    }
+}
+
+/// Whether `:=` stands behind a name.
+fn is_set_behind(source: &[u8], spot: Spot<'_>) -> bool {
+    match spot.from.get(1) {
+        Some(next) => sets_at(source, next.at),
+        None => false,
     }
 }
 
@@ -126,7 +145,7 @@ fn is_given_in_condition(source: &[u8], spot: Spot<'_>) -> bool {
     let Some(next) = spot.from.get(1) else {
         return false;
     };
-    let is_set = between(source, next.at, next.at.saturating_add(2)) == ":=";
+    let is_set = sets_at(source, next.at);
     spot.is_behind_word(0, Word::If) && (is_set || next.kind.is_symbol(Symbol::Comma))
 }
 
@@ -143,6 +162,11 @@ pub(crate) fn is_comparison(symbol: Symbol) -> bool {
     )
 }
 
+/// Whether a value begins with a word.
+fn begins_value(word: Word) -> bool {
+    matches!(word, Word::Get | Word::Rev | Word::NumOf | Word::TextOf)
+}
+
 /// What is said of a token behind a statement that leaves its block, where only a `}` may stand; nothing of others.
 fn said_behind_a_way_out(spot: Spot<'_>) -> &'static str {
     let behind = if spot.is_behind_symbol(0, Symbol::Semicolon) {
@@ -150,7 +174,10 @@ fn said_behind_a_way_out(spot: Spot<'_>) -> &'static str {
     } else {
         0
     };
-    let begins_a_statement = matches!(spot.kind(), Some(TokenKind::Word(_)));
+    let begins_a_statement = match spot.kind() {
+        Some(TokenKind::Word(word)) => !begins_value(*word),
+        _ => false,
+    };
     match (spot.back(behind), begins_a_statement) {
         (Some(TokenKind::Word(Word::Return)), true) => {
             "nothing comes to it, since a return stands before it"
@@ -176,6 +203,26 @@ fn is_count_from_a_number(spot: Spot<'_>) -> bool {
     }
 }
 
+/// What is said of a symbol, a word or a name in a program that has its place elsewhere; nothing of others.
+fn said_in_statements(spot: Spot<'_>) -> &'static str {
+    let said = said_in_program(spot);
+    if !said.is_empty() {
+        return said;
+    }
+    match spot.kind() {
+        Some(TokenKind::Symbol(Symbol::Comma)) if spot.is_behind_word(1, Word::Let) => {
+            "each variable has a let of its own"
+        }
+        Some(TokenKind::Word(Word::Get | Word::Rev)) => {
+            "what is looked up is given a name: let NAME = get(KEY)"
+        }
+        Some(TokenKind::Word(Word::Else)) => "it stands behind the block of an if",
+        Some(TokenKind::Word(Word::Prefetch)) => "the list of keys stands before all statements",
+        Some(TokenKind::Word(Word::Break | Word::Continue)) => "it stands in the block of a for",
+        _ => said_of_lease(spot),
+    }
+}
+
 /// What is said of a symbol or a word that has its place elsewhere; nothing of others.
 fn said_of_symbol(spot: Spot<'_>) -> &'static str {
     let said = said_of_else(spot);
@@ -185,31 +232,15 @@ fn said_of_symbol(spot: Spot<'_>) -> &'static str {
     if is_count_from_a_number(spot) {
         return "a loop that counts begins at 0: for NAME in 0..COUNT";
     }
-    if spot.is_before_a_block() {
-        return "";
+    let said = said_anywhere(spot);
+    if !said.is_empty() || spot.is_before_a_block() {
+        return said;
     }
-    match (spot.kind(), spot.place()) {
-        (_, Place::Events) => said_of_event(spot),
-        (_, Place::Operations) => said_of_operation(spot),
-        (Some(TokenKind::Symbol(symbol)), Place::Statements) if is_comparison(*symbol) => {
-            "no value is true or false, and a comparison stands in an if"
-        }
-        (Some(TokenKind::Symbol(Symbol::Comma)), Place::Statements)
-            if spot.is_behind_word(1, Word::Let) => "each variable has a let of its own",
-        (Some(TokenKind::Word(Word::Get | Word::Rev)), Place::Statements) => {
-            "what is looked up is given a name: let NAME = get(KEY)"
-        }
-        (Some(TokenKind::Word(Word::Else)), Place::Statements) => {
-            "it stands behind the block of an if"
-        }
-        (Some(TokenKind::Word(Word::Prefetch)), Place::Statements) => {
-            "the list of keys stands before all statements"
-        }
-        (Some(TokenKind::Word(Word::Break | Word::Continue)), Place::Statements) => {
-            "it stands in the block of a for"
-        }
-        (_, Place::Statements) => said_of_lease(spot),
-        _ => "",
+    match spot.place() {
+        Place::Events => said_of_event(spot),
+        Place::Operations => said_of_operation(spot),
+        Place::Statements => said_in_statements(spot),
+        Place::Parentheses => "",
     }
 }
 
@@ -243,7 +274,8 @@ fn no_such_word(
 ) -> Result<String, AllocError> {
     let name = name_in(spot);
     if is_called(spot) && nearest(alloc, words, name)?.is_empty() {
-        return format!(in alloc; "{found} is no {noun}: a program is called by start alone");
+        let said = said_of_call(name);
+        return format!(in alloc; "{found} is no {noun}: {said}");
     }
     if noun == STATEMENT && begins_at_the_top(spot) {
         return format!(in alloc;
@@ -284,6 +316,14 @@ fn is_glued(source: &[u8], spot: Spot<'_>) -> bool {
     }
 }
 
+/// What begins in a place.
+fn noun_at(spot: Spot<'_>) -> &'static str {
+    match spot.place() {
+        Place::Events => EVENT_NOUN,
+        _ => STATEMENT,
+    }
+}
+
 /// What is said of a token in whose place another one is wanted.
 fn syntax_words(
     alloc: Global,
@@ -302,7 +342,8 @@ fn syntax_words(
     }
     let said = said_of_sign(source, spot);
     if !said.is_empty() && said_of_else(spot).is_empty() {
-        return format!(in alloc; "{found} is no statement: {said}");
+        let noun = noun_at(spot);
+        return format!(in alloc; "{found} is no {noun}: {said}");
     }
     let said = said_of(spot);
     if !said.is_empty() {
@@ -320,6 +361,17 @@ fn syntax_words(
     }
 }
 
+/// What is said of a name behind which a dot and another name stand; nothing of others.
+fn said_of_part(source: &[u8], spot: Spot<'_>) -> &'static str {
+    if name_in(spot).is_empty() {
+        return "";
+    }
+    match behind_dot(source, spot) {
+        Some(function) => said_of_function(function),
+        None => "",
+    }
+}
+
 /// What is said of a value in the place of a condition, or the reverse.
 fn sort_words(
     alloc: Global,
@@ -332,12 +384,16 @@ fn sort_words(
             "{found} cannot be set here: a variable is set in front of the if"
         );
     }
+    let said = said_of_part(source, spot);
+    if !said.is_empty() {
+        return format!(in alloc; "{found} has no parts: {said}");
+    }
     if is_behind_condition_word(spot) {
         return format!(in alloc;
             "{found} begins a value, where a condition is wanted: two values with ==, !=, <, <=, > or >= between them"
         );
     }
-    format!(in alloc; "{found} begins a condition, where a value is wanted")
+    format!(in alloc; "{found} begins a condition, where a value is wanted: {CONDITION}")
 }
 
 /// What is said of a name that people know from elsewhere, or that is used as a function; nothing of others.
@@ -407,41 +463,55 @@ fn argument_words(alloc: Global, found: &str, spot: Spot<'_>) -> Result<String, 
     format!(in alloc; "{found} has another number of parameters: {wanted} wanted, {given} found")
 }
 
-/// What is said where no token begins, but this character stands.
+/// What is said of a dot with which no token begins.
+fn said_of_dot(source: &[u8], spot: Spot<'_>) -> &'static str {
+    if is_glued(source, spot) {
+        return "numbers are whole";
+    }
+    if spot.is_behind_symbol(0, Symbol::Dots) {
+        return "there are two dots in a row alone: 0..COUNT, or a last parameter NAME..";
+    }
+    "values have no parts, and the functions are get(KEY), rev(KEY), num_of(TEXT) and text_of(NUMBER)"
+}
+
+/// What is said of a character at a byte with which no token begins; nothing of most.
+fn said_of_character(source: &[u8], spot: Spot<'_>, at: usize, character: &str) -> &'static str {
+    match character {
+        ":" => said_of_colon(spot, sets_at(source, at)),
+        "'" | "`" => "texts stand in double quotes",
+        "[" if spot.place() == Place::Events => {
+            "there are no arrays, and a scenario that is JSON needs no compile"
+        }
+        "[" => "there are no arrays: items stand in a for, and an element is a key of its own",
+        "#" => "a comment begins with //",
+        "?" if between(source, at, at.saturating_add(2)) == "??" => OTHER_TEXT,
+        "?" => CHOICE,
+        "&" | "|" => "conditions are joined by && and ||",
+        "." => said_of_dot(source, spot),
+        _ => "",
+    }
+}
+
+/// What is said where no token begins, but this character stands at a byte.
 fn token_words(
     alloc: Global,
     source: &[u8],
     spot: Spot<'_>,
+    at: usize,
     character: &str,
 ) -> Result<String, AllocError> {
-    let found = quoted(alloc, character)?;
-    match character {
-        "\"" => String::from_str(
+    if character == "\"" {
+        return String::from_str(
             alloc,
             "a text that is not closed in its line, or with an escape that JSON does not have",
-        ),
-        ":" if spot.is_behind_word(1, Word::For) => {
-            format!(in alloc;
-                "{found} begins nothing: a loop is for NAME in 0..COUNT {{ .. }}, or for NAME in ITEM, ITEM {{ .. }}"
-            )
-        }
-        ":" if spot.is_before_a_block() => {
-            format!(in alloc; "{found} begins nothing: a block stands in braces, {{ .. }}")
-        }
-        ":" => format!(in alloc; "{found} begins nothing: a new variable is let NAME = VALUE"),
-        "'" | "`" => format!(in alloc; "{found} begins nothing: texts stand in double quotes"),
-        "[" => format!(in alloc;
-            "{found} begins nothing: there are no arrays, and a scenario that is JSON needs no compile"
-        ),
-        "#" => format!(in alloc; "{found} begins nothing: a comment begins with //"),
-        "." if is_glued(source, spot) => {
-            format!(in alloc; "{found} begins nothing: numbers are whole")
-        }
-        "." => format!(in alloc;
-            "{found} begins nothing: values have no parts, and the functions are get(KEY), rev(KEY), num_of(TEXT) and text_of(NUMBER)"
-        ),
-        _ => format!(in alloc; "{found} begins nothing that a source has"),
+        );
     }
+    let found = quoted(alloc, character)?;
+    let said = said_of_character(source, spot, at, character);
+    if said.is_empty() {
+        return format!(in alloc; "{found} begins nothing that a source has");
+    }
+    format!(in alloc; "{found} begins nothing: {said}")
 }
 
 /// What is said of a value of another kind than is wanted.
@@ -468,6 +538,16 @@ fn first_character(text: &str) -> &str {
     }
 }
 
+/// What is said where too many nodes come to stand, by the word there: that of an event, or a name or a brace.
+fn too_many_words(word: &str) -> &'static str {
+    match word {
+        "start" | "txn" | "watch" => {
+            "with what names stand for the source has more than 16777215 nodes and bytes of text"
+        }
+        _ => "the program has more than 4096 nodes",
+    }
+}
+
 /// What is said of a token that is wrong.
 pub(crate) fn words_at(
     alloc: Global,
@@ -485,7 +565,7 @@ pub(crate) fn words_at(
         ),
         SourceCause::Token => {
             let character = first_character(word_from(source, spot, bad.at));
-            token_words(alloc, source, spot, character)
+            token_words(alloc, source, spot, bad.at, character)
         }
         SourceCause::Syntax => syntax_words(alloc, source, found, spot),
         SourceCause::Return => String::from_str(
@@ -505,7 +585,7 @@ pub(crate) fn words_at(
         ),
         SourceCause::TooDeep => String::from_str(alloc, "the program is nested deeper than 32"),
         SourceCause::TooManyNodes => {
-            String::from_str(alloc, "the program has more than 4096 nodes")
+            String::from_str(alloc, too_many_words(word_from(source, spot, bad.at)))
         }
     }
 }

@@ -1,7 +1,7 @@
 //! What is said of words and signs that people bring along from other languages.
 
 use crate::spots::{Event, Spot, name_in};
-use crate::wanted::is_level;
+use crate::wanted::{is_behind_number_name, is_level};
 use stm_tokens::{Operator, Symbol, TokenKind, Word};
 
 /// What is said of words that have no place in a source, which people know from elsewhere; nothing of others.
@@ -20,9 +20,13 @@ pub(crate) fn said_of_word(word: &str) -> &'static str {
         "true" | "false" => "no value is true or false: a condition compares two values",
         "delete" => "a key is deleted by del(KEY)",
         "print" | "println" => "a value is put out by emit(VALUE)",
-        "panic" | "error" | "throw" | "raise" | "fail" | "assert" => {
-            "a run is broken off by abort(TEXT)"
-        }
+        "panic" | "error" | "throw" | "raise" | "fail" => "a run is broken off by abort(TEXT)",
+        "assert" => "what is not to be stands in an if: if CONDITION { abort(TEXT) }",
+        "err" =>
+            "nothing gives an error: a fault or abort(TEXT) ends the run, and nothing is committed",
+        "try" | "catch" | "defer" | "recover" => "a fault ends the run, and nothing is committed",
+        "go" | "async" | "await" | "select" => "what runs beside others has a start of its own",
+        "map" => "a map is a key for each of its entries: put(\"m/\" ++ NAME, VALUE)",
         "import" | "package" | "type" | "struct" => {
             "a source has programs, rules and events alone"
         }
@@ -82,6 +86,10 @@ fn said_of_symbol(spot: Spot<'_>, symbol: Symbol) -> &'static str {
         Symbol::Arithmetic(Operator::Div) => "a comment begins with //",
         Symbol::Comma if spot.event() == Some(Event::Step) => {
             "runners stand one behind another, without it"
+        }
+        Symbol::Comma if spot.event() == Some(Event::Start) => "each run has a start of its own",
+        Symbol::LeftParenthesis if is_behind_number_name(spot) => {
+            "an event has its numbers without parentheses"
         }
         Symbol::LeftBrace if spot.is_behind_word(1, Word::Program) => {
             "a program has parentheses behind its name: program NAME(PARAMETER, ..) { .. }"

@@ -25,6 +25,7 @@ mod program;
 mod refusing;
 mod runners;
 mod second_uses;
+mod signs;
 mod spans;
 mod spots;
 mod titles;

@@ -1,16 +1,19 @@
 //! What is said of a name that cannot stand in its place.
 
 use crate::calls::{is_argument, is_lease, is_listed, is_parameter};
+use crate::explaining::is_comparison;
 use crate::spots::{Event, Place, Spot};
 use crate::wanted::is_behind_number_name;
 use stm_program::Operator;
 use stm_tokens::{Symbol, Token, TokenKind, Word};
 
-/// What is said of a function that people know from elsewhere, by its name.
-pub(crate) fn said_of_function(name: &str) -> &'static str {
+/// What is said of a function that people know from elsewhere, by its name; nothing of others.
+fn said_of_known(name: &str) -> &'static str {
     match name {
         "atoi" | "Atoi" | "ParseInt" | "parseInt" | "int" => "the number of a text is num_of(TEXT)",
-        "itoa" | "Itoa" | "FormatInt" | "str" => "the text of a number is text_of(NUMBER)",
+        "itoa" | "Itoa" | "FormatInt" | "str" | "string" | "String" => {
+            "the text of a number is text_of(NUMBER)"
+        }
         "Sprint" | "Sprintf" => "texts are joined by ++, and text_of(NUMBER) makes one of a number",
         "Get" | "read" => "a key is looked up by get(KEY)",
         "Rev" => "the revision at which a key was put last is rev(KEY)",
@@ -19,15 +22,51 @@ pub(crate) fn said_of_function(name: &str) -> &'static str {
         "WithLease" => "a lease is the last value of put(KEY, VALUE, LEASE)",
         "exists" | "Exists" | "has" | "Has" => "a key is there where rev(KEY) != 0",
         "min" | "max" => "an if takes one of two numbers: if NUMBER < n { n = NUMBER }",
-        "len" | "contains" | "Contains" | "split" | "Split" | "HasPrefix" | "Fields" => {
+        "Print" | "Printf" | "Println" | "Fatal" | "Fatalf" => "a value is put out by emit(VALUE)",
+        "New" | "Errorf" | "Wrap" => "a run is broken off by abort(TEXT)",
+        "NewSTM" => "a run begins by start NAME(ARGUMENT, ..)",
+        "append" | "make" | "push" => {
+            "there are no lists to add to: a value is put out by emit(VALUE), and an element is a key of its own"
+        }
+        "set" | "Set" => "a key is put by put(KEY, VALUE), and a variable set by NAME = VALUE",
+        "len"
+        | "contains"
+        | "Contains"
+        | "split"
+        | "Split"
+        | "HasPrefix"
+        | "Fields"
+        | "startswith"
+        | "startsWith"
+        | "Index"
+        | "Trim"
+        | "TrimPrefix" => {
             "no text is taken apart: each part that a program looks at has a key of its own"
         }
         "now" | "Now" | "time" | "rand" | "random" | "Intn" => {
             "what differs from run to run is an argument of its start"
         }
         "end" | "why" | "out" => "how a runner ended is asked in a finally alone",
-        _ => "the functions are get(KEY), rev(KEY), num_of(TEXT) and text_of(NUMBER)",
+        _ => "",
     }
+}
+
+/// The same of each name that stands in the place of a function.
+pub(crate) fn said_of_function(name: &str) -> &'static str {
+    let said = said_of_known(name);
+    if said.is_empty() {
+        return "the functions are get(KEY), rev(KEY), num_of(TEXT) and text_of(NUMBER)";
+    }
+    said
+}
+
+/// The same of each name that is called as a statement, or as an event.
+pub(crate) fn said_of_call(name: &str) -> &'static str {
+    let said = said_of_known(name);
+    if said.is_empty() {
+        return "a program is called by start alone";
+    }
+    said
 }
 
 /// Whether a name stands among those of the runners that a start waits for.
@@ -114,6 +153,14 @@ fn is_before_dots(spot: Spot<'_>) -> bool {
     }
 }
 
+/// Whether a comparison stands behind a name.
+fn is_before_comparison(spot: Spot<'_>) -> bool {
+    match spot.next() {
+        Some(TokenKind::Symbol(symbol)) => is_comparison(*symbol),
+        _ => false,
+    }
+}
+
 /// Whether a name that these tokens begin with is given to a list: by a `let` before it with a comma behind the first item, or as a last parameter.
 fn is_list_from(before: Option<&TokenKind>, from: &[Token]) -> bool {
     match (before, from) {
@@ -152,6 +199,9 @@ fn said_in_program(spot: Spot<'_>) -> &'static str {
     }
     if spot.is_item() {
         return "is no item: those are texts and numbers as they stand, parameters, constants and lists, and no variables";
+    }
+    if spot.is_behind_word(0, Word::For) && is_before_comparison(spot) {
+        return "is compared, and a loop has no condition: for NAME in 0..COUNT max 100 { .. }";
     }
     if spot.is_behind_word(0, Word::Let) || spot.is_behind_word(0, Word::For) {
         return "cannot be given here: it is the name of something in sight, or one of v0 to v15, which are never let and stand beside no other names";

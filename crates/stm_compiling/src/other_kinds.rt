@@ -78,6 +78,14 @@ fn is_beside_add(spot: Spot<'_>) -> bool {
     is_next || spot.is_behind_symbol(0, Symbol::Arithmetic(Operator::Add))
 }
 
+/// Whether `+=` stands behind a name.
+fn is_before_add_assign(spot: Spot<'_>) -> bool {
+    match spot.next() {
+        Some(kind) => kind.is_symbol(Symbol::AddAssign),
+        None => false,
+    }
+}
+
 /// Whether a comparison stands before a value.
 fn is_compared(spot: Spot<'_>) -> bool {
     match spot.back(0) {
@@ -159,6 +167,11 @@ pub(crate) fn said_of_value(
     if begins_text_of_numbers(spot) {
         return format!(in alloc;
             "{found} begins a number, where a text is wanted: text_of(NUMBER) makes one of it, and ++ joins texts"
+        );
+    }
+    if is_before_add_assign(spot) {
+        return format!(in alloc;
+            "{found} is a text, where a number is wanted: a text is added to one by NAME ++= TEXT"
         );
     }
     match wants_number(spot) {

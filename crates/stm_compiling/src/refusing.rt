@@ -54,31 +54,49 @@ fn arguments_in_words(alloc: Global, count: usize) -> Result<String, AllocError>
     }
 }
 
-/// What is said of a program or a rule that takes another number of arguments than stand in the place where it is started.
-fn count_words(alloc: Global, name: &str, spot: Spot<'_>) -> Result<String, AllocError> {
+/// What is said of words one of which is an option of a command, as `--explain`, that stands where an argument does; nothing of others.
+fn said_of_options(words: &[String]) -> &'static str {
+    let is_option = words.iter().any(|word| word.as_str().starts_with("--")
+        && word.as_str() != "--text");
+    if is_option {
+        "; an option stands before the name"
+    } else {
+        ""
+    }
+}
+
+/// What is said of a program or a rule that takes another number of arguments than stand in the place where it is started, which these words are.
+fn count_words(
+    alloc: Global,
+    name: &str,
+    words: &[String],
+    spot: Spot<'_>,
+) -> Result<String, AllocError> {
+    let options = said_of_options(words);
     let head = head_of(alloc, spot.before, name)?;
     let given = listed_behind(spot.from);
     let parameters = parameters_of(spot.before, name);
     if takes_list(spot.before, name) {
         let least = arguments_in_words(alloc, parameters.saturating_sub(1))?;
-        return format!(in alloc; "{head} takes {least} or more: {given} found");
+        return format!(in alloc; "{head} takes {least} or more: {given} found{options}");
     }
     let wanted = arguments_in_words(alloc, parameters)?;
-    format!(in alloc; "{head} takes {wanted}: {given} found")
+    format!(in alloc; "{head} takes {wanted}: {given} found{options}")
 }
 
-/// What is said of a fault in the line that starts a program of a name, behind a source, in their tokens.
+/// What is said of a fault in the line that starts a program of a name with words, behind a source, in their tokens.
 fn refused_at(
     alloc: Global,
     text: &[u8],
     tokens: &[Token],
     name: &str,
+    words: &[String],
     bad: BadSource,
 ) -> Result<Refused, AllocError> {
     let spot = spot_at(tokens, bad.at);
     match bad.cause {
         SourceCause::Name => Ok(Refused::Name(titles_but(alloc, tokens, name)?)),
-        SourceCause::Arguments => Ok(Refused::Arguments(count_words(alloc, name, spot)?)),
+        SourceCause::Arguments => Ok(Refused::Arguments(count_words(alloc, name, words, spot)?)),
         _ => Ok(Refused::Arguments(words_at(alloc, text, spot, bad)?)),
     }
 }
@@ -88,10 +106,11 @@ fn refused_by(
     alloc: Global,
     text: &[u8],
     name: &str,
+    words: &[String],
     bad: BadSource,
 ) -> Result<Option<Refused>, AllocError> {
     let tokens = tokens_of(alloc, text)?;
-    let refused = refused_at(alloc, text, tokens.as_slice(), name, bad);
+    let refused = refused_at(alloc, text, tokens.as_slice(), name, words, bad);
     drop(tokens);
     Ok(Some(refused?))
 }
@@ -108,7 +127,7 @@ fn refused_beside(
     let text = text.as_slice();
     match line_named(alloc, start_at(source), rules, name, words, text) {
         Ok(_) => Ok(None),
-        Err(SourceError::Bad(bad)) => refused_by(alloc, text, name, bad),
+        Err(SourceError::Bad(bad)) => refused_by(alloc, text, name, words, bad),
         Err(SourceError::OutOfMemory) => Err(AllocError),
     }
 }

@@ -163,6 +163,14 @@ impl<'a> Spot<'a> {
         }
     }
 
+    /// Whether it is this symbol.
+    pub(crate) fn kind_is(self, symbol: Symbol) -> bool {
+        match self.kind() {
+            Some(kind) => kind.is_symbol(symbol),
+            None => false,
+        }
+    }
+
     /// What stands behind it.
     pub(crate) fn next(self) -> Option<&'a TokenKind> {
         match self.from.get(1) {

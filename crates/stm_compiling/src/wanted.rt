@@ -98,22 +98,30 @@ pub(crate) fn is_behind_number_name(spot: Spot<'_>) -> bool {
     false
 }
 
-/// What is wanted in an event, outside of all brackets.
-fn in_event(spot: Spot<'_>) -> Wanted {
+/// What is wanted behind the word of a declaration.
+fn behind_declaration(spot: Spot<'_>) -> Option<Wanted> {
     if spot.is_behind_word(0, Word::Program) {
-        return Wanted::Said("the name of the program");
+        return Some(Wanted::Said("the name of the program"));
     }
     if spot.is_behind_word(0, Word::Rule) || spot.is_behind_word(0, Word::Finally) {
-        return Wanted::Said("the name of the rule");
+        return Some(Wanted::Said("the name of the rule"));
     }
     if spot.is_behind_word(0, Word::Let) {
-        return Wanted::Said("the name of the constant");
+        return Some(Wanted::Said("the name of the constant"));
     }
     if spot.is_behind_word(1, Word::Let) {
-        return Wanted::Said("=");
+        return Some(Wanted::Said("="));
     }
     if spot.is_behind_word(2, Word::Let) {
-        return Wanted::Said("a text or a number as it stands, or the name of one,");
+        return Some(Wanted::Said("a text or a number as it stands, or the name of one,"));
+    }
+    None
+}
+
+/// What is wanted in an event, outside of all brackets.
+fn in_event(spot: Spot<'_>) -> Wanted {
+    if let Some(wanted) = behind_declaration(spot) {
+        return wanted;
     }
     if spot.is_in_list() {
         return Wanted::Said("a text or a number as it stands, or the name of one, as items are,");
@@ -271,6 +279,13 @@ fn is_behind_opening(spot: Spot<'_>) -> bool {
     spot.is_behind_symbol(0, Symbol::LeftParenthesis) || spot.is_behind_symbol(0, Symbol::Comma)
 }
 
+/// Whether a number stands where a transaction has the value of a put.
+fn is_number_of_transaction(spot: Spot<'_>) -> bool {
+    spot.event() == Some(Event::Transaction)
+        && spot.is_behind_symbol(0, Symbol::Comma)
+        && matches!(spot.kind(), Some(TokenKind::Number(_)))
+}
+
 /// What is wanted in parentheses.
 fn in_parentheses(spot: Spot<'_>) -> Wanted {
     if is_behind_call(spot) {
@@ -278,6 +293,9 @@ fn in_parentheses(spot: Spot<'_>) -> Wanted {
     }
     if is_behind_opening(spot) && is_parameter(spot) {
         return Wanted::Said("the name of a parameter");
+    }
+    if is_number_of_transaction(spot) {
+        return Wanted::Said("a text, in quotes,");
     }
     if is_behind_opening(spot) {
         return Wanted::Said(value_in(spot));

@@ -11,6 +11,7 @@ pub mod Ordering
 pub mod ShownLemmas
 pub mod SameRevisions
 pub mod AlikeStores
+pub mod SameStores
 pub mod AskedLemmas
 pub mod FirstSteps
 pub mod PatientSchedules

@@ -5,7 +5,7 @@ ghost use Rattle.stm_alike.specs.Seen.{AreAlike};
 
 use crate::revisions::have_same_revisions;
 use stm_alike::{are_same_entries, leave_same_leases};
-use stm_keys::{Event, Keys};
+use stm_keys::Event;
 use stm_retry::SharedWorld;
 use stm_txn::Store;
 
@@ -51,9 +51,10 @@ fn have_same_whole_store(one: &SharedWorld, other: &SharedWorld) -> bool
 }
 
 /// Whether two worlds have the same entries, and stores of the same floor, limit and moment: so they have the same history and live leases.
-fn have_same_entries(one: &SharedWorld, other: &SharedWorld) -> bool
+pub(crate) fn have_same_entries(one: &SharedWorld, other: &SharedWorld) -> bool
     requires { one.now.standing.history.opening ≡ other.now.standing.history.opening }
-    ensures { result ≡ true → with_watchers one.now.standing [] ≡ with_watchers other.now.standing [] }
+    ensures stores { result ≡ true → with_watchers one.now.standing [] ≡ with_watchers other.now.standing [] }
+    ensures entries { result ≡ true → one.now.entries ≡ other.now.entries }
 {
     if !have_same_terms(one.store(), other.store()) {
         return false;
@@ -118,8 +119,9 @@ fn first_of(events: &[Event]) -> &[Event] {
     events
 }
 
-/// A number that key stores with the same revisions have in common.
-fn keys_hint(keys: &Keys) -> u64 {
+/// A number that stores with the same revisions have in common.
+pub(crate) fn store_hint(store: &Store) -> u64 {
+    let keys = store.keys();
     let last = keys.revision();
     let first = last.saturating_sub(HINTED);
     let mut hint = last;
@@ -133,5 +135,5 @@ fn keys_hint(keys: &Keys) -> u64 {
 
 /// A number that alike worlds have in common, and others mostly do not. No contract says so.
 pub(crate) fn hint_of(world: &SharedWorld) -> u64 {
-    mix(world.runners_hint(), keys_hint(world.store().keys()))
+    mix(world.runners_hint(), store_hint(world.store()))
 }

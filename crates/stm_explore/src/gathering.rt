@@ -10,6 +10,7 @@ use crate::ends::are_same_ends;
 use crate::moving::{find_at_base, moves_at, rest_of, taken_after};
 use crate::places::{ReportedPlace, WorldPlace};
 use crate::reporting::describe_move;
+use crate::sharing::{held_hint, sharing_reported};
 use std::alloc::{AllocError, Global};
 use stm_retry::SharedWorld;
 use stm_schedules::{Move, Outcome};
@@ -106,6 +107,18 @@ impl<'a> System for Gathered<'a> {
 
     fn hint(&self, place: &ReportedPlace) -> u64 {
         hint_of(&place.at.world).rotate_left(7) ^ place.at.taken as u64
+    }
+
+    fn held_hint(&self, place: &ReportedPlace) -> u64 {
+        held_hint(&place.at.world)
+    }
+
+    fn sharing(
+        &self,
+        place: ReportedPlace,
+        other: &ReportedPlace,
+    ) -> Result<ReportedPlace, AllocError> {
+        sharing_reported(place, other)
     }
 
     ghost respects = { λ s rule. outcomes_respected s.others.now };

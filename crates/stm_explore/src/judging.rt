@@ -8,6 +8,7 @@ use crate::alike::{hint_of, is_alike};
 use crate::keeping::end_alone;
 use crate::moving::{moved, moves_at, rest_of, taken_after};
 use crate::places::WorldPlace;
+use crate::sharing::{held_hint, sharing_world};
 use std::alloc::{AllocError, Global};
 use stm_meaning::End;
 use stm_program::Program;
@@ -96,6 +97,14 @@ impl<'a> System for Judged<'a> {
 
     fn hint(&self, place: &WorldPlace) -> u64 {
         hint_of(&place.world).rotate_left(7) ^ place.taken as u64
+    }
+
+    fn held_hint(&self, place: &WorldPlace) -> u64 {
+        held_hint(&place.world)
+    }
+
+    fn sharing(&self, place: WorldPlace, other: &WorldPlace) -> Result<WorldPlace, AllocError> {
+        sharing_world(place, other)
     }
 
     ghost respects = { λ s. rules_respected s.rules.now s.others.now };

@@ -25,6 +25,7 @@ mod places;
 mod reporting;
 mod revisions;
 mod shared_ends;
+mod sharing;
 mod shown;
 mod turns;
 mod waiting;

@@ -58,5 +58,17 @@ impl<'a, L: Onlooker> System for Watched<'a, L> {
         self.waiting.hint(place)
     }
 
+    fn held_hint(&self, place: &ReportedPlace) -> u64 {
+        self.waiting.held_hint(place)
+    }
+
+    fn sharing(
+        &self,
+        place: ReportedPlace,
+        other: &ReportedPlace,
+    ) -> Result<ReportedPlace, AllocError> {
+        self.waiting.sharing(place, other)
+    }
+
     ghost respects = { λ s. waiting_respected s.waiting.waits.now s.waiting.when s.waiting.rules.now s.waiting.gathered.others.now };
 }

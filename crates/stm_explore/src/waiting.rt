@@ -100,6 +100,18 @@ impl<'a> System for Waiting<'a> {
         self.gathered.hint(place)
     }
 
+    fn held_hint(&self, place: &ReportedPlace) -> u64 {
+        self.gathered.held_hint(place)
+    }
+
+    fn sharing(
+        &self,
+        place: ReportedPlace,
+        other: &ReportedPlace,
+    ) -> Result<ReportedPlace, AllocError> {
+        self.gathered.sharing(place, other)
+    }
+
     ghost respects = { λ s. waiting_respected s.waits.now s.when s.rules.now s.gathered.others.now };
 }
 

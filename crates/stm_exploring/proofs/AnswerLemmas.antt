@@ -1,5 +1,5 @@
 -- Answers about several rules, each at the place of its rule.
-use Rattle.std.proofs.Common.{◌≡◌, ◌<◌, ◌≤◌, ℕ, zero, suc, ◌+◌, ◌-◌, List, [], ◌∷◌, ◌++◌, length, map, take, drop, get_or, slice_set, All, refl, sym, ap, ap₂, ◌∙◌, subst, append_assoc, arith}
+use Rattle.std.proofs.Common.{◌≡◌, ◌<◌, ◌≤◌, ℕ, zero, suc, ◌+◌, ◌-◌, List, [], ◌∷◌, ◌++◌, length, map, take, drop, get_or, slice_set, All, sym, ap, ap₂, ◌∙◌, subst, append_assoc, arith}
 use Rattle.std.specs.List.{AllZip}
 use Rattle.std.specs.Option.{option_to_list}
 use Rattle.std.specs.Prelude.{IfSome, Option, None, Some}
@@ -35,21 +35,6 @@ zip_both R S [] [] one other = one
 zip_both R S [] (y ∷ ys) one other = absurd one
 zip_both R S (x ∷ xs) [] one other = absurd one
 zip_both R S (x ∷ xs) (y ∷ ys) one other = ((one.0, other.0), zip_both R S xs ys one.1 other.1)
-
-pub as_many : {A B : Type 0} (R : A → B → Type 0) (xs : List A) (ys : List B) → AllZip R xs ys → length ys ≡ length xs
-as_many R [] [] all = refl
-as_many R [] (y ∷ ys) all = absurd all
-as_many R (x ∷ xs) [] all = absurd all
-as_many R (x ∷ xs) (y ∷ ys) all = ap suc (as_many R xs ys all.1)
-
--- one of them is put in, of which it is so where it was so before
-pub zip_put : {A B : Type 0} (R : A → B → Type 0) (xs : List A) (ys : List B) (i : ℕ) (x : A) (d y : B) → i < length xs → x ≡ get_or xs i x → d ≡ get_or ys i d →
-    (R x d → R x y) → AllZip R xs ys → AllZip R xs (slice_set ys i y)
-zip_put R [] ys i x d y within is at more all = absurd (omega (arith, within))
-zip_put R (a ∷ xs) [] i x d y within is at more all = absurd all
-zip_put R (a ∷ xs) (b ∷ ys) zero x d y within is at more all =
-    (subst (λ z. R z y) is (more (subst (λ z. R x z) (sym at) (subst (λ z. R z b) (sym is) all.0))), all.1)
-zip_put R (a ∷ xs) (b ∷ ys) (suc i) x d y within is at more all = (all.0, zip_put R xs ys i x d y (omega (arith, within)) is at more all.1)
 
 -- one of them is put into each of two lists, of which it is so where it was so before
 pub zip_put_both : {A B C : Type 0} (R : A → B → Type 0) (S : A → C → Type 0) (xs : List A) (ys : List B) (zs : List C) (i : ℕ) (d y : B) (e z : C) →
@@ -150,10 +135,6 @@ module _ (when : When) (waits : List Wait) (p : Place) (ends : Ends) where
       (next_both rules i rule a.answer left next within is taken found).0 so_far)
 
 -- ---- counts and parts of lists
-
-pub nothing_left : {A : Type 0} (xs : List A) → length xs ≡ 0 → xs ≡ []
-nothing_left [] none = refl
-nothing_left (x ∷ xs) none = absurd (omega arith)
 
 pub one_further : (i all left next : ℕ) → left ≡ suc next → i + left ≡ all → (i + 1) + next ≡ all
 one_further i all left next is each = omega (arith, is, each)

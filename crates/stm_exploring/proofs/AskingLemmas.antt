@@ -1,6 +1,7 @@
 -- Looking at the events of a scenario one after the other, as loops do.
-use Rattle.std.proofs.Common.{◌≡◌, ℕ, zero, suc, ◌+◌, ◌<◌, ◌≤◌, ◌||◌, Bool, true, false, List, [], ◌∷◌, ◌++◌, length, map, take, drop, get_or, slice_set}
-use Rattle.std.proofs.Common.{Option, Some, None, cond, not, refl, sym, ap, ap₂, ◌∙◌, arith}
+use Rattle.std.proofs.Common.{◌≡◌, ℕ, zero, suc, ◌<◌, Bool, true, false, List, [], ◌∷◌, length, map, take, drop, get_or}
+use Rattle.std.proofs.Common.{Option, Some, None, cond, not, refl, sym, ap, ◌∙◌, arith}
+use Rattle.std.proofs.lemmas.Bool.{or_right}
 use Rattle.stm_events.specs.declared.event.WorldEvent.{WorldEvent}
 use Rattle.stm_schedules.specs.Scenarios.{at_level, is_start, has_start, up_to_last_start, after_last_start}
 use Rattle.stm_events.specs.declared.event.WorldEvent.TheVariants.{Start, Step}
@@ -44,10 +45,6 @@ pub record LastStart (es : List WorldEvent) (i : ℕ) : Type 0 where
   pub front : take (suc i) es ≡ up_to_last_start es
   pub rest : drop (suc i) es ≡ after_last_start es
 
-started : (b c : Bool) → c ≡ true → (b || c) ≡ true
-started true c is = refl
-started false c is = is
-
 pub last_start_at : (es : List WorldEvent) (i : ℕ) (e : WorldEvent) → i < length es → e ≡ get_or es i e → is_start e ≡ true
     → has_start (drop (suc i) es) ≡ false → LastStart es i
 last_start_at [] i e within at is none = absurd (omega (arith, within))
@@ -57,37 +54,5 @@ last_start_at (x ∷ es) zero e within at is none =
     record { some = some; front = rw (some, behind.0) refl; rest = rw (some, behind.1) refl }
 last_start_at (x ∷ es) (suc i) e within at is none =
     let behind = last_start_at es i e (omega (arith, within)) at is none in
-    let some : has_start (x ∷ es) ≡ true = started (is_start x) (has_start es) behind.some in
+    let some : has_start (x ∷ es) ≡ true = or_right (is_start x) (has_start es) behind.some in
     record { some = some; front = rw (some, sym behind.front) refl; rest = rw (some, sym behind.rest) refl }
-
--- ---- the levels
-
-module _ {A : Type 0} (f : A → A) where
-  -- what stands at the next place is as it was
-  pub next_is : (xs : List A) (i : ℕ) (d : A) → i < length xs → get_or (map f (take i xs) ++ drop i xs) i d ≡ get_or xs i d
-  next_is [] i d within = absurd (omega (arith, within))
-  next_is (x ∷ xs) zero d within = refl
-  next_is (x ∷ xs) (suc i) d within = next_is xs i d (omega (arith, within))
-
-  pub one_more : (xs : List A) (i : ℕ) (d : A) → i < length xs
-      → slice_set (map f (take i xs) ++ drop i xs) i (f (get_or xs i d)) ≡ map f (take (suc i) xs) ++ drop (suc i) xs
-  one_more [] i d within = absurd (omega (arith, within))
-  one_more (x ∷ xs) zero d within = refl
-  one_more (x ∷ xs) (suc i) d within = ap (λ (ys : List A). f x ∷ ys) (one_more xs i d (omega (arith, within)))
-
-  -- one event more has the level
-  pub put_next : (xs old : List A) (i : ℕ) (d new : A) → i < length xs → old ≡ map f (take i xs) ++ drop i xs → d ≡ get_or old i d → new ≡ f d
-      → slice_set old i new ≡ map f (take (i + 1) xs) ++ drop (i + 1) xs
-  put_next xs old i d new within is at put =
-      let step : i + 1 ≡ suc i = omega arith in
-      let same : d ≡ get_or xs i d = at ∙ ap (λ (ys : List A). get_or ys i d) is ∙ next_is xs i d within in
-      let value : new ≡ f (get_or xs i d) = put ∙ ap f same in
-      ap₂ (λ (ys : List A) (y : A). slice_set ys i y) is value
-      ∙ one_more xs i d within
-      ∙ sym (ap (λ (n : ℕ). map f (take n xs) ++ drop n xs) step)
-
-  pub all_put : (xs : List A) (i : ℕ) → length xs ≤ i → map f (take i xs) ++ drop i xs ≡ map f xs
-  all_put [] zero all = refl
-  all_put [] (suc i) all = refl
-  all_put (x ∷ xs) zero all = absurd (omega (arith, all))
-  all_put (x ∷ xs) (suc i) all = ap (λ (ys : List A). f x ∷ ys) (all_put xs i (omega (arith, all)))

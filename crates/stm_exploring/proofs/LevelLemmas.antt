@@ -1,7 +1,7 @@
 -- Answers at the four levels, as loops come to them.
 use Rattle.std.proofs.Common.{◌≡◌, ℕ, zero, suc, ◌+◌, ◌-◌, ◌<◌, ◌≤◌, true, false, List, [], ◌∷◌, ◌++◌, length, map, take, drop, get_or, All, Some, None, refl, sym, ap, ap₂, ◌∙◌, subst, arith}
 use Rattle.std.specs.List.{list_all}
-use Rattle.std.proofs.lemmas.List.{drop_all, length-drop, take_all}
+use Rattle.std.proofs.lemmas.List.{drop_all, take_rest}
 use Rattle.std.proofs.lemmas.List.Elements.{All-push}
 use Rattle.stm_program.specs.declared.level.Level.{Level}
 use Rattle.stm_events.specs.declared.event.WorldEvent.{WorldEvent}
@@ -55,15 +55,11 @@ next_not [] i within less = absurd (omega (arith, within))
 next_not (a ∷ at) zero within less = rw less refl
 next_not (a ∷ at) (suc i) within less = next_not at i (omega (arith, within)) less
 
--- what a slice from there on has
-rest_is : (at : List LevelAnswers) (i : ℕ) → take (length at - i) (drop i at) ≡ drop i at
-rest_is at i = let long : length (drop i at) ≡ length at - i = length-drop i at in take_all (length at - i) (drop i at) (omega arith)
-
 pub not_enough : (at : List LevelAnswers) (i : ℕ) → i < length at → list_all all_kept (take (length at - i) (drop i at)) ≡ false
     → enough (drop (i + 1) at) ≡ enough (drop i at)
 not_enough at i within less =
     let step : i + 1 ≡ suc i = omega arith in
-    ap (λ (n : ℕ). enough (drop n at)) step ∙ next_not at i within (ap (list_all all_kept) (sym (rest_is at i)) ∙ less)
+    ap (λ (n : ℕ). enough (drop n at)) step ∙ next_not at i within (ap (list_all all_kept) (sym (take_rest at i)) ∙ less)
 
 here_enough : (at : List LevelAnswers) (i : ℕ) (d : LevelAnswers) → i < length at → list_all all_kept (drop i at) ≡ true
     → Some (get_or at i d).level ≡ enough (drop i at)
@@ -73,7 +69,7 @@ here_enough (x ∷ at) (suc i) d within passes = here_enough at i d (omega (arit
 
 pub is_enough : (at : List LevelAnswers) (i : ℕ) (d : LevelAnswers) → i < length at → list_all all_kept (take (length at - i) (drop i at)) ≡ true
     → Some (get_or at i d).level ≡ enough (drop i at)
-is_enough at i d within passes = here_enough at i d within (ap (list_all all_kept) (sym (rest_is at i)) ∙ passes)
+is_enough at i d within passes = here_enough at i d within (ap (list_all all_kept) (sym (take_rest at i)) ∙ passes)
 
 pub none_enough : (at : List LevelAnswers) (i : ℕ) → length at ≤ i → None ≡ enough (drop i at)
 none_enough at i all = ap enough (sym (drop_all i at all))

@@ -1,7 +1,7 @@
 -- What is known at the four levels, as loops come to it.
 use Rattle.std.proofs.Common.{◌≡◌, ℕ, zero, suc, ◌+◌, ◌-◌, ◌<◌, ◌≤◌, true, false, List, [], ◌∷◌, ◌++◌, length, take, drop, get_or, All, Some, None, refl, sym, ap, ◌∙◌, subst, arith}
 use Rattle.std.specs.List.{list_all}
-use Rattle.std.proofs.lemmas.List.{drop_all, length-drop, take_all}
+use Rattle.std.proofs.lemmas.List.{drop_all, take_rest}
 use Rattle.std.proofs.lemmas.List.Elements.{All-push}
 use Rattle.stm_program.specs.declared.level.Level.{Level}
 use Rattle.stm_texts.specs.declared.scenario.Scenario.{Scenario}
@@ -30,15 +30,11 @@ next_not [] i within less = absurd (omega (arith, within))
 next_not (a ∷ at) zero within less = rw less refl
 next_not (a ∷ at) (suc i) within less = next_not at i (omega (arith, within)) less
 
--- what a slice from there on has
-rest_is : (at : List SerialLevel) (i : ℕ) → take (length at - i) (drop i at) ≡ drop i at
-rest_is at i = let long : length (drop i at) ≡ length at - i = length-drop i at in take_all (length at - i) (drop i at) (omega arith)
-
 pub not_serial_yet : (at : List SerialLevel) (i : ℕ) → i < length at → list_all is_serial (take (length at - i) (drop i at)) ≡ false
     → enough_serial (drop (i + 1) at) ≡ enough_serial (drop i at)
 not_serial_yet at i within less =
     let step : i + 1 ≡ suc i = omega arith in
-    ap (λ (n : ℕ). enough_serial (drop n at)) step ∙ next_not at i within (ap (list_all is_serial) (sym (rest_is at i)) ∙ less)
+    ap (λ (n : ℕ). enough_serial (drop n at)) step ∙ next_not at i within (ap (list_all is_serial) (sym (take_rest at i)) ∙ less)
 
 here_enough : (at : List SerialLevel) (i : ℕ) (d : SerialLevel) → i < length at → list_all is_serial (drop i at) ≡ true
     → Some (get_or at i d).level ≡ enough_serial (drop i at)
@@ -48,7 +44,7 @@ here_enough (x ∷ at) (suc i) d within passes = here_enough at i d (omega (arit
 
 pub is_serial_from : (at : List SerialLevel) (i : ℕ) (d : SerialLevel) → i < length at → list_all is_serial (take (length at - i) (drop i at)) ≡ true
     → Some (get_or at i d).level ≡ enough_serial (drop i at)
-is_serial_from at i d within passes = here_enough at i d within (ap (list_all is_serial) (sym (rest_is at i)) ∙ passes)
+is_serial_from at i d within passes = here_enough at i d within (ap (list_all is_serial) (sym (take_rest at i)) ∙ passes)
 
 pub never_serial : (at : List SerialLevel) (i : ℕ) → length at ≤ i → None ≡ enough_serial (drop i at)
 never_serial at i all = ap enough_serial (sym (drop_all i at all))

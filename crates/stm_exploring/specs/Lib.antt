@@ -10,3 +10,4 @@ pub mod Questions
 pub mod Laws
 pub mod Command
 pub mod Explaining
+pub mod Telling

@@ -1,19 +1,18 @@
 //! How the runs of programs ended: that a rule is always kept says little where they never did their work, or where it or they ask for keys that nobody
 //! puts.
-ghost use Rattle.std.specs.Prelude.{◌<◌, length, IfSome};
 ghost use Rattle.stm_serial_search.specs.Search.{AreProgramsOf};
 
+use crate::asked_keys::{rule_word, tell_of_rules, tell_of_runners};
 use crate::audience::Audience;
+use crate::counted_ends::{Came, count_end, push_ends};
 use crate::final_words::{AskedOutput, outputs_asked, wrong_ends};
-use crate::key_use::{AskedKey, KeyUse, VaryingRule, varying_rules};
-use crate::near_keys::{are_of_a_list, nearest};
+use crate::key_use::{KeyUse, VaryingRule, varying_rules};
 use crate::rules::{RuleAnswer, has_kept};
-use crate::seen_ends::SeenEnds;
+use crate::seen_ends::{SeenEnds, never_words};
 use serde_json::Value as Json;
 use std::alloc::{AllocError, Global};
 use stm_events::EventRefusal;
 use stm_explain::shown;
-use stm_explore::When;
 use stm_faulted_runs::fault_on;
 use stm_history::Text;
 use stm_meaning::{End, Run};
@@ -53,27 +52,14 @@ const OF_ALL_ORDERS: &str = "runs in all serial orders";
 /// The same, where not all were.
 const OF_SOME_ORDERS: &str = "runs in 10000 moves of serial orders";
 
-/// A key is near to another one where it is so by fewer edits than about this part of its characters.
-const NEAR: usize = 2;
-
-/// The same, where one is most likely meant for the other.
-const MEANT: usize = 4;
-
 /// What is said where an allocation failed for an account.
 const NO_MEMORY: &str = "out of memory: what the answer covers is not known";
 
-/// An end to which runs came, as it is said, and how many did.
-#[derive(Drop)]
-struct Came {
-    how: String,
-    times: u64,
-}
-
 /// How the runs of one runner ended.
 #[derive(Drop)]
-struct Runs {
-    has_committed: bool,
-    has_faulted: bool,
+pub(crate) struct Runs {
+    pub(crate) has_committed: bool,
+    pub(crate) has_faulted: bool,
     ends: Vec<Came>,
     /// How many outputs a run of it had at most.
     outputs: usize,
@@ -83,20 +69,20 @@ struct Runs {
 
 /// How the programs of runners end, each run alone, in every serial order.
 #[derive(Drop)]
-struct Account<'a> {
-    alloc: Global,
+pub(crate) struct Account<'a> {
+    pub(crate) alloc: Global,
     /// The rules that make keys of variables, and so may ask for another one at each place.
     varying: Vec<VaryingRule<'a>>,
     /// The runners' programs.
     programs: &'a [Program],
     /// By the runners' numbers.
-    runners: Vec<Runs>,
+    pub(crate) runners: Vec<Runs>,
     /// Which keys are asked for, and which are put.
-    keys: KeyUse,
+    pub(crate) keys: KeyUse,
     /// Which outputs are asked for.
     outputs: Vec<AskedOutput>,
     /// It goes on while something is to be learned of what is said.
-    told: Told,
+    pub(crate) told: Told,
     /// How many runners have not committed so far.
     waiting: usize,
     /// How many moves may still be made.
@@ -153,32 +139,6 @@ fn fault_in(alloc: Global, program: &Program, world: &World) -> Result<String, A
     fault_on(alloc, program, &state)
 }
 
-/// Where such an end is among these.
-fn place_of(ends: &[Came], how: &str) -> Option<usize>
-    ensures { IfSome result (λ place. place < length ends.now) }
-{
-    for place in 0..ends.len() {
-        if ends[place].how.as_str() == how {
-            return Some(place);
-        }
-    }
-    None
-}
-
-/// Counts an end to which a run came.
-fn count_end(ends: &mut Vec<Came>, how: String) -> Result<(), AllocError> {
-    match place_of(ends.as_slice(), how.as_str()) {
-        Some(place) => {
-            ends[place].times = ends[place].times.saturating_add(1);
-            Ok(())
-        }
-        None => {
-            ends.push(Came { how, times: 1 })?;
-            Ok(())
-        }
-    }
-}
-
 /// The runs of a runner of which nothing is known.
 fn no_runs(alloc: Global) -> Runs {
     Runs {
@@ -219,12 +179,12 @@ impl<'a> Account<'a> {
     }
 
     /// Whether nothing puts a key, by what the spelling of programs says of it or by their runs in all serial orders.
-    fn is_unput(&self, key: &Text) -> bool {
+    pub(crate) fn is_unput(&self, key: &Text) -> bool {
         !self.keys.is_put(key) && (self.is_whole || !self.keys.may_be_put(key))
     }
 
     /// The same of a key that no program puts by its spelling, either.
-    fn is_strange(&self, key: &Text) -> bool {
+    pub(crate) fn is_strange(&self, key: &Text) -> bool {
         self.is_unput(key) && !self.keys.is_spelled(key)
     }
 
@@ -358,55 +318,22 @@ impl<'a> Account<'a> {
     }
 }
 
-/// Adds how often each of these ends came.
-fn push_ends(alloc: Global, line: &mut String, ends: &[Came]) -> Result<(), AllocError> {
-    let mut between = ": ";
-    for came in ends {
-        let how = came.how.as_str();
-        let times = came.times;
-        let part = format!(in alloc; "{between}{times} {how}")?;
-        line.push_str(part.as_str())?;
-        between = ", ";
-    }
-    Ok(())
-}
-
-/// The line of a runner's account, which is of these runs.
-fn line_of(alloc: Global, runner: usize, runs: &Runs, of: &str) -> Result<String, AllocError> {
-    let never = if runs.has_committed {
-        ""
-    } else {
-        " never committed"
-    };
+/// The line of a runner's account, which is of these runs: that it never committed is said where a rule is always kept.
+fn line_of(
+    alloc: Global,
+    runner: usize,
+    runs: &Runs,
+    of: &str,
+    is_kept: bool,
+) -> Result<String, AllocError> {
+    let never = never_words(runs.has_committed, is_kept);
     let mut line = format!(in alloc; "runner {runner}{never}; {of}")?;
     push_ends(alloc, &mut line, runs.ends.as_slice())?;
     Ok(line)
 }
 
-/// What a runner is called.
-fn runner_word(alloc: Global, place: usize) -> Result<String, AllocError> {
-    let number = place.saturating_add(1);
-    format!(in alloc; "runner {number}")
-}
-
-/// What a rule is called.
-fn rule_word(alloc: Global, answers: &[RuleAnswer], place: usize) -> Result<String, AllocError> {
-    if place < answers.len() {
-        let rule = &answers[place].rule;
-        if let Some(name) = &rule.name {
-            let name = name.as_str();
-            let word = match rule.when {
-                When::Each => "rule",
-                When::Last => "finally",
-            };
-            return format!(in alloc; "{word} {name}");
-        }
-    }
-    String::from_str(alloc, "the rule")
-}
-
 /// Whether it is to be said how the runs of a runner ended, if there were any.
-fn is_said(runs: &Runs, told: Told) -> bool {
+pub(crate) fn is_said(runs: &Runs, told: Told) -> bool {
     if runs.ends.is_empty() {
         return false;
     }
@@ -438,13 +365,14 @@ fn tell_runner<O: Audience>(
     runner: usize,
     runs: &Runs,
     of: &str,
+    is_kept: bool,
     audience: &mut O,
 ) -> Result<(), AllocError> {
-    let line = line_of(alloc, runner, runs, of)?;
-    if runs.has_committed {
-        audience.hear(line.as_str());
-    } else {
+    let line = line_of(alloc, runner, runs, of, is_kept)?;
+    if is_kept && !runs.has_committed {
         audience.doubt(line.as_str());
+    } else {
+        audience.hear(line.as_str());
     }
     drop(line);
     tell_fault(alloc, runner, runs, audience)
@@ -453,152 +381,17 @@ fn tell_runner<O: Audience>(
 /// Says how the runs of each runner ended of which it is to be said. The account is of these runs.
 fn tell_runs<O: Audience>(
     account: &Account<'_>,
-    told: Told,
     of: &str,
+    is_kept: bool,
     audience: &mut O,
 ) -> Result<(), AllocError> {
     for index in 0..account.runners.len() {
         let runs = &account.runners[index];
-        if is_said(runs, told) {
-            tell_runner(account.alloc, index + 1, runs, of, audience)?;
+        if is_said(runs, account.told) {
+            tell_runner(account.alloc, index + 1, runs, of, is_kept, audience)?;
         }
     }
     Ok(())
-}
-
-/// A text before a key that is near to another one; nothing where there is none.
-fn near_words(alloc: Global, near: &str) -> Result<String, AllocError> {
-    if near.is_empty() {
-        return Ok(String::new(alloc));
-    }
-    let near = shown_text(alloc, near)?;
-    format!(in alloc; "; the nearest is {near}")
-}
-
-/// The line that says that somebody asks for a key that nothing puts, and which one is nearest.
-fn key_line(
-    alloc: Global,
-    who: &str,
-    key: &Text,
-    is_sure: bool,
-    near: &str,
-) -> Result<String, AllocError> {
-    let key = shown_text(alloc, key.as_str())?;
-    let places = if is_sure { "" } else { " in any serial order" };
-    let near = near_words(alloc, near)?;
-    format!(in alloc;
-        "{who} asks for the key {key}, which is not there and which nothing puts{places}{near}"
-    )
-}
-
-/// A key that is so near to one which nothing puts that this is most likely misspelt; an empty text where there is none.
-fn meant<'a>(account: &'a Account<'_>, key: &Text) -> Result<&'a str, AllocError> {
-    let alloc = account.alloc;
-    if !account.is_strange(key) {
-        return Ok("");
-    }
-    let keys = &account.keys;
-    let near = nearest(alloc, keys, key, MEANT)?;
-    if are_of_a_list(alloc, key.as_str(), near)? {
-        return Ok("");
-    }
-    Ok(near)
-}
-
-/// The line of a key that a runner asks for and that nothing puts.
-fn runner_key_line(
-    account: &Account<'_>,
-    asked: &AskedKey,
-    near: &str,
-) -> Result<String, AllocError> {
-    let alloc = account.alloc;
-    let who = runner_word(alloc, asked.who)?;
-    let is_sure = !account.keys.may_be_put(&asked.key);
-    key_line(alloc, who.as_str(), &asked.key, is_sure, near)
-}
-
-/// Whether a runner came to a fault, and asks for a key that some program puts: that no run puts it says nothing of the key, since the runs ended before.
-fn is_behind_fault(account: &Account<'_>, asked: &AskedKey, runs: &Runs) -> bool {
-    runs.has_faulted && account.keys.may_be_put(&asked.key)
-}
-
-/// Says of a key that a runner asks for that nothing puts it: where another key is most likely meant, and where it is to be said how its runs ended, unless
-/// that was by a fault before the key could be put. That is worth a doubt, if none of them committed.
-fn tell_asked<O: Audience>(
-    account: &Account<'_>,
-    asked: &AskedKey,
-    runs: &Runs,
-    audience: &mut O,
-) -> Result<(), AllocError> {
-    let alloc = account.alloc;
-    let meant = meant(account, &asked.key)?;
-    let is_said = is_said(runs, account.told) && !is_behind_fault(account, asked, runs);
-    if !meant.is_empty() || (is_said && !runs.has_committed) {
-        let near = nearest(alloc, &account.keys, &asked.key, NEAR)?;
-        let line = runner_key_line(account, asked, near)?;
-        audience.doubt(line.as_str());
-    } else if is_said {
-        let line = runner_key_line(account, asked, "")?;
-        audience.hear(line.as_str());
-    }
-    Ok(())
-}
-
-/// Says which keys the runners ask for that nothing puts.
-fn tell_of_runners<O: Audience>(account: &Account<'_>, audience: &mut O) -> Result<(), AllocError> {
-    let keys = &account.keys;
-    for asked in keys.by_runners.as_slice() {
-        if asked.who < account.runners.len() && account.is_unput(&asked.key) {
-            tell_asked(account, asked, &account.runners[asked.who], audience)?;
-        }
-    }
-    Ok(())
-}
-
-/// Says that a rule asks for a key that nothing puts, and which one is nearest.
-fn tell_of_rule<O: Audience>(
-    account: &Account<'_>,
-    answers: &[RuleAnswer],
-    asked: &AskedKey,
-    audience: &mut O,
-) -> Result<(), AllocError> {
-    let alloc = account.alloc;
-    let keys = &account.keys;
-    let key = &asked.key;
-    let near = nearest(alloc, keys, key, NEAR)?;
-    let who = rule_word(alloc, answers, asked.who)?;
-    let line = key_line(alloc, who.as_str(), key, !keys.may_be_put(key), near)?;
-    audience.doubt(line.as_str());
-    Ok(())
-}
-
-/// Says which keys rules make of variables that nothing puts, where another one is most likely meant: of a list a rule may well ask for more than is there.
-fn tell_of_made<O: Audience>(
-    account: &Account<'_>,
-    answers: &[RuleAnswer],
-    audience: &mut O,
-) -> Result<(), AllocError> {
-    let keys = &account.keys;
-    for asked in keys.made.as_slice() {
-        if !keys.is_asked(asked) && !meant(account, &asked.key)?.is_empty() {
-            tell_of_rule(account, answers, asked, audience)?;
-        }
-    }
-    Ok(())
-}
-
-/// Says which keys rules ask for that nothing puts.
-fn tell_of_rules<O: Audience>(
-    account: &Account<'_>,
-    answers: &[RuleAnswer],
-    audience: &mut O,
-) -> Result<(), AllocError> {
-    for asked in account.keys.by_rules.as_slice() {
-        if account.is_strange(&asked.key) {
-            tell_of_rule(account, answers, asked, audience)?;
-        }
-    }
-    tell_of_made(account, answers, audience)
 }
 
 /// Says of finals which words they compare with a runner's end that are none.
@@ -670,15 +463,16 @@ fn tell_ended<O: Audience>(
     seen: Option<&SeenEnds>,
     audience: &mut O,
 ) -> Result<(), AllocError> {
+    let is_kept = has_kept(answers);
     match seen {
-        Some(seen) => seen.tell(account.told, has_kept(answers), audience),
+        Some(seen) => seen.tell(account.told, is_kept, audience),
         None => {
             let of = if account.left == 0 {
                 OF_SOME_ORDERS
             } else {
                 OF_ALL_ORDERS
             };
-            tell_runs(account, account.told, of, audience)
+            tell_runs(account, of, is_kept, audience)
         }
     }
 }

@@ -6,7 +6,9 @@ ghost use Rattle.stm_exploring.specs.Judging.{AreFound};
 ghost use Rattle.stm_exploring.specs.Levels.{AreFoundAt, ArePrintedAt, SearchesLevels, leveled, levels};
 
 use crate::asking::put_levels;
-use crate::audience::{Audience, Once};
+use crate::audience::Audience;
+use crate::enough::tell_enough;
+use crate::heard::{AtLevel, HeardLine, tell_heard};
 use crate::level_lines::print_levels;
 use crate::printed::Printed;
 use crate::reading::{ExploreFault, scenario_of};
@@ -55,7 +57,7 @@ fn put_level(alloc: Global, scenario: &mut Scenario, level: Level)
 }
 
 /// What is known of each rule about a scenario, once its starts are put at a level, in which these runners wait. For each at most so many moves are
-/// made. What was said already is not said again.
+/// made. What is said of it is kept, with the level.
 fn judge_level<O: Audience>(
     alloc: Global,
     scenario: &mut Scenario,
@@ -63,7 +65,7 @@ fn judge_level<O: Audience>(
     waits: &[Wait],
     rules: &[Rule],
     most: u64,
-    heard: &mut Vec<String>,
+    heard: &mut Vec<HeardLine>,
     audience: &mut O,
 ) -> Result<LevelAnswers, AllocError>
     requires { HaveNoStep scenario.old.events }
@@ -73,8 +75,9 @@ fn judge_level<O: Audience>(
     ensures found { IfOk result (λ a. AreFound waits.now rules.now scenario.new a.answers) }
 {
     put_level(alloc, scenario, level);
-    let observer = Once {
+    let observer = AtLevel {
         alloc,
+        level,
         heard,
         audience,
     };
@@ -110,6 +113,7 @@ fn judge_levels<O: Audience>(
         )?;
         at.push(answers)?;
     }
+    tell_heard(alloc, heard.as_slice(), audience);
     Ok(at)
 }
 
@@ -141,6 +145,7 @@ fn search_levels<O: Audience>(
     ensures { IfOk result (ArePrintedAt waits.now rules.now scenario.old) }
 {
     let at = judge_each(alloc, scenario, waits, rules, budget)?;
+    tell_enough(at.as_slice(), &mut budget.observer);
     print_levels(alloc, at.as_slice())
 }
 

@@ -6,14 +6,18 @@
 #![tactic(auto)]
 
 mod accounts;
+mod asked_keys;
 mod asking;
 mod audience;
 mod command;
+mod counted_ends;
+mod enough;
 mod explaining;
 mod exploring;
 mod faulted;
 mod final_words;
 mod grouping;
+mod heard;
 mod judging;
 mod key_use;
 mod laws;

@@ -1,10 +1,18 @@
-//! How the runs of runners ended, at the ends of the schedules that a search came to.
+//! How the runs of runners ended, at the places that a search came to.
+ghost use Rattle.std.specs.Prelude.{◌≡◌};
+ghost use Rattle.stm_exploring.specs.Telling.{never_words};
 
 use crate::accounts::{Told, shown_text};
 use crate::audience::Audience;
 use std::alloc::{AllocError, Global};
 use std::cell::RefCell;
 use stm_explore::{Onlooker, RunnerEnd};
+
+/// The ends of a line, where the search has come to all schedules.
+const OF_ALL: &str = "at the ends of all schedules";
+
+/// The same, where it has not.
+const OF_SOME: &str = "in the schedules looked at, up to where the search stopped";
 
 /// The ends of a runner, each once, as they are said.
 #[derive(Drop)]
@@ -21,7 +29,8 @@ struct Seen {
     is_cut: bool,
 }
 
-/// The ends of runners at the places that a search comes to and from where no schedule goes on.
+/// The ends of runners at the places that a search comes to, also at the last one of a schedule that breaks a rule; and that a runner still waits, at those
+/// from where no schedule goes on.
 #[derive(Drop)]
 pub(crate) struct SeenEnds {
     alloc: Global,
@@ -30,11 +39,8 @@ pub(crate) struct SeenEnds {
 
 impl Onlooker for SeenEnds {
     fn see(&self, ends: &[Option<RunnerEnd>], is_last: bool) {
-        if !is_last {
-            return;
-        }
         if let Ok(mut seen) = self.seen.try_borrow_mut() {
-            if note_each(self.alloc, &mut seen.runners, ends).is_err() {
+            if note_each(self.alloc, &mut seen.runners, ends, is_last).is_err() {
                 seen.is_cut = true;
             }
         }
@@ -70,8 +76,25 @@ fn has_words(among: &[String], words: &str) -> bool {
     among.iter().any(|it| it.as_str() == words)
 }
 
-/// Notes an end of a runner.
-fn note(alloc: Global, ends: &mut Ends, end: Option<&RunnerEnd>) -> Result<(), AllocError> {
+/// Whether there is nothing to note of a runner at a place: it still goes on there, or that it committed is known.
+fn is_known(ends: &Ends, end: Option<&RunnerEnd>, is_last: bool) -> bool {
+    match end {
+        None => !is_last,
+        Some(RunnerEnd::Committed { .. }) => ends.has_committed,
+        Some(_) => false,
+    }
+}
+
+/// Notes what is known of the end of a runner at a place.
+fn note(
+    alloc: Global,
+    ends: &mut Ends,
+    end: Option<&RunnerEnd>,
+    is_last: bool,
+) -> Result<(), AllocError> {
+    if is_known(ends, end, is_last) {
+        return Ok(());
+    }
     let words = end_words(alloc, end)?;
     if matches!(end, Some(RunnerEnd::Committed { .. })) {
         ends.has_committed = true;
@@ -90,14 +113,15 @@ fn end_at(ends: &[Option<RunnerEnd>], index: usize) -> Option<&RunnerEnd> {
     None
 }
 
-/// Notes an end of each runner.
+/// Notes what is known of the end of each runner at a place.
 fn note_each(
     alloc: Global,
     runners: &mut Vec<Ends>,
     ends: &[Option<RunnerEnd>],
+    is_last: bool,
 ) -> Result<(), AllocError> {
     for index in 0..runners.len() {
-        note(alloc, &mut runners[index], end_at(ends, index))?;
+        note(alloc, &mut runners[index], end_at(ends, index), is_last)?;
     }
     Ok(())
 }
@@ -114,14 +138,23 @@ fn none_seen(alloc: Global, count: usize) -> Result<Vec<Ends>, AllocError> {
     Ok(runners)
 }
 
-/// The line of a runner with these ends.
-fn line_of(alloc: Global, runner: usize, ends: &Ends, of: &str) -> Result<String, AllocError> {
-    let never = if ends.has_committed {
-        ""
-    } else {
+/// What is said behind a runner of which nothing that was looked at has committed: that it never did, where all was looked at. Of a search that stopped at a
+/// schedule that breaks a rule, or had no more moves, that would be too much.
+pub(crate) fn never_words(has_committed: bool, is_all: bool) -> &'static str
+    ensures { result.now ≡ never_words has_committed is_all }
+{
+    if !has_committed && is_all {
         " never committed"
-    };
-    let mut line = format!(in alloc; "runner {runner}{never}; at the ends of {of}")?;
+    } else {
+        ""
+    }
+}
+
+/// The line of a runner with these ends, of all schedules, or of what was looked at.
+fn line_of(alloc: Global, runner: usize, ends: &Ends, is_all: bool) -> Result<String, AllocError> {
+    let never = never_words(ends.has_committed, is_all);
+    let of = if is_all { OF_ALL } else { OF_SOME };
+    let mut line = format!(in alloc; "runner {runner}{never}; {of}")?;
     let mut between = ": ";
     for words in ends.words.as_slice() {
         line.push_str(between)?;
@@ -148,17 +181,17 @@ fn tell_each<O: Audience>(
     alloc: Global,
     runners: &[Ends],
     told: Told,
-    of: &str,
+    is_all: bool,
     audience: &mut O,
 ) -> Result<(), AllocError> {
     for index in 0..runners.len() {
         let ends = &runners[index];
         if is_said(ends, told) {
-            let line = line_of(alloc, index + 1, ends, of)?;
-            if ends.has_committed {
-                audience.hear(line.as_str());
-            } else {
+            let line = line_of(alloc, index + 1, ends, is_all)?;
+            if is_all && !ends.has_committed {
                 audience.doubt(line.as_str());
+            } else {
+                audience.hear(line.as_str());
             }
         }
     }
@@ -176,25 +209,20 @@ impl SeenEnds {
         Ok(SeenEnds { alloc, seen })
     }
 
-    /// Says how the runs of each runner ended of which it is to be said: at the ends of all schedules, where a rule is always kept, since the search for it
-    /// has come to all. It fails where an allocation failed for that or for an end.
+    /// Says how the runs of each runner ended of which it is to be said: in all schedules, where `is_all` says that the search has come to all, and else at
+    /// the places that it has come to. It fails where an allocation failed for that or for an end.
     pub(crate) fn tell<O: Audience>(
         &self,
         told: Told,
         is_all: bool,
         audience: &mut O,
     ) -> Result<(), AllocError> {
-        let of = if is_all {
-            "all schedules"
-        } else {
-            "the schedules looked at"
-        };
         match self.seen.try_borrow() {
             Ok(seen) => {
                 if seen.is_cut {
                     return Err(AllocError);
                 }
-                tell_each(self.alloc, seen.runners.as_slice(), told, of, audience)
+                tell_each(self.alloc, seen.runners.as_slice(), told, is_all, audience)
             }
             Err(_) => Ok(()),
         }

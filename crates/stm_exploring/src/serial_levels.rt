@@ -8,7 +8,9 @@ ghost use Rattle.stm_exploring.specs.Asking.{ends_of, place_of};
 ghost use Rattle.stm_exploring.specs.Levels.{leveled, levels};
 ghost use Rattle.stm_exploring.specs.SerialLevels.{AreComparedAt, ArePrintedAt, enough_serial, is_odd, is_serial, printed_at, serial_level_line, serial_level_text, serial_levels_text, verdict_at};
 
-use crate::audience::{Audience, Once};
+use crate::audience::Audience;
+use crate::enough::tell_enough_serial;
+use crate::heard::{AtLevel, HeardLine, tell_heard};
 use crate::level_lines::{level_name, push_enough};
 use crate::leveled::{LEVELS, put_starts};
 use crate::lines::push_word;
@@ -29,13 +31,13 @@ pub(crate) struct SerialLevel {
     pub(crate) answer: SerialAnswer,
 }
 
-/// What is known of a scenario, once its starts are put at a level. At most so many moves are made.
+/// What is known of a scenario, once its starts are put at a level. At most so many moves are made. What is said of it is kept, with the level.
 fn compare_level<O: Audience>(
     alloc: Global,
     scenario: &mut Scenario,
     level: Level,
     most: u64,
-    heard: &mut Vec<String>,
+    heard: &mut Vec<HeardLine>,
     audience: &mut O,
 ) -> Result<SerialLevel, AllocError>
     ensures leveled { OnOk result (scenario.new ≡ leveled level scenario.old) }
@@ -43,8 +45,9 @@ fn compare_level<O: Audience>(
     ensures answer { IfOk result (λ a. IsSerialAnswer (place_of scenario.new) (ends_of scenario.new) a.answer) }
 {
     put_starts(alloc, scenario, level);
-    let observer = Once {
+    let observer = AtLevel {
         alloc,
+        level,
         heard,
         audience,
     };
@@ -72,6 +75,7 @@ fn compare_levels<O: Audience>(
         let answer = compare_level(alloc, scenario, *level, most, &mut heard, audience)?;
         at.push(answer)?;
     }
+    tell_heard(alloc, heard.as_slice(), audience);
     Ok(at)
 }
 
@@ -170,7 +174,7 @@ fn serial_levels_text(alloc: Global, at: &[SerialLevel]) -> Result<String, Alloc
 }
 
 /// What it comes to.
-fn verdict_at(at: &[SerialLevel]) -> SearchAnswer
+pub(crate) fn verdict_at(at: &[SerialLevel]) -> SearchAnswer
     ensures { result ≡ verdict_at at.now }
 {
     if any_odd(at) {
@@ -202,5 +206,6 @@ pub(crate) fn compare_at_levels<O: Audience>(
     ensures { IfOk result (ArePrintedAt scenario.old) }
 {
     let at = compare_each(alloc, scenario, budget)?;
+    tell_enough_serial(at.as_slice(), &mut budget.observer);
     print_at(alloc, at.as_slice())
 }

@@ -1,21 +1,14 @@
 -- The end of a text, from its first whole character on.
-use Rattle.std.proofs.Common.{◌≡◌, ℕ, zero, suc, ◌+◌, ◌<◌, ◌≤◌, Bool, true, false, cond, List, [], ◌∷◌, length, drop, get_or, refl, sym, ap, ◌∙◌, arith}
+use Rattle.std.proofs.Common.{◌≡◌, ℕ, zero, suc, ◌+◌, ◌<◌, ◌≤◌, true, false, List, [], ◌∷◌, length, drop, get_or, sym, ap, ◌∙◌, arith}
 use Rattle.std.proofs.lemmas.List.{drop_all}
+use Rattle.std.proofs.lemmas.Bool.{cond-true, cond-false}
 use Rattle.stm_formats.specs.FormatShown.{from_character, is_continuation}
-
-by_next : (b : Bool) (rest other : List ℕ) → b ≡ true → cond b rest other ≡ rest
-by_next true rest other is = refl
-by_next false rest other is = cc
-
-by_other : (b : Bool) (rest other : List ℕ) → b ≡ false → cond b rest other ≡ other
-by_other true rest other is = cc
-by_other false rest other is = refl
 
 -- one more byte that goes on
 pub skips : (i : ℕ) (bs : List ℕ) (x : ℕ) → i < length bs → x ≡ get_or bs i x → is_continuation x ≡ true
     → from_character (drop i bs) ≡ from_character (drop (i + 1) bs)
 skips i [] x within is on = absurd (omega arith)
-skips zero (b ∷ bs) x within is on = by_next (is_continuation b) (from_character bs) (b ∷ bs) (ap is_continuation (sym is) ∙ on)
+skips zero (b ∷ bs) x within is on = cond-true (is_continuation b) (from_character bs) (b ∷ bs) (ap is_continuation (sym is) ∙ on)
 skips (suc i) (b ∷ bs) x within is on =
     let step : suc i + 1 ≡ suc (i + 1) = omega arith in
     skips i bs x (omega arith) is on ∙ ap (λ (n : ℕ). from_character (drop n (b ∷ bs))) (sym step)
@@ -23,7 +16,7 @@ skips (suc i) (b ∷ bs) x within is on =
 -- a byte that does not
 pub begins : (i : ℕ) (bs : List ℕ) (x : ℕ) → i < length bs → x ≡ get_or bs i x → is_continuation x ≡ false → from_character (drop i bs) ≡ drop i bs
 begins i [] x within is other = absurd (omega arith)
-begins zero (b ∷ bs) x within is other = by_other (is_continuation b) (from_character bs) (b ∷ bs) (ap is_continuation (sym is) ∙ other)
+begins zero (b ∷ bs) x within is other = cond-false (is_continuation b) (from_character bs) (b ∷ bs) (ap is_continuation (sym is) ∙ other)
 begins (suc i) (b ∷ bs) x within is other = begins i bs x (omega arith) is other
 
 -- no byte

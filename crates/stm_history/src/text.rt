@@ -13,6 +13,7 @@ use std::convert::AsStr;
 use std::fmt;
 use std::hash::{Hash, Hasher};
 use std::marker::Model;
+use std::sync::Arc;
 
 /// The most bytes of a text that stores them inline.
 const SHORT: usize = 24;
@@ -22,13 +23,15 @@ const SHORT: usize = 24;
 pub(crate) enum Bytes {
     /// Inline, in the text itself.
     Short(ArrayString<SHORT>),
-    /// In an allocation of their own.
-    Long(String),
+    /// In an allocation that this text alone uses.
+    Own(String),
+    /// In an allocation that all copies of this text use.
+    Shared(Arc<String>),
 }
 
 /// A text: a key, a value or a message.
 ///
-/// Contracts see its bytes, and never where they are stored.
+/// Contracts see its bytes, and never where they are stored. A long text that a copy was made of is stored once for all further copies.
 pub struct Text {
     bytes: Bytes,
 }
@@ -65,18 +68,29 @@ impl Text {
     {
         let bytes = match short_of(string.as_str()) {
             Some(short) => Bytes::Short(short),
-            None => Bytes::Long(string),
+            None => Bytes::Own(string),
         };
         Text { bytes }
     }
 
-    /// A copy of a text. A short one allocates nothing.
+    /// The text of a string, of which each copy is made without an allocation. It fails where an allocation failed.
+    pub fn shared(alloc: Global, string: String) -> Result<Text, AllocError>
+        ensures { IfOk result (λ t. t ≡ string_bytes string) }
+    {
+        let bytes = match short_of(string.as_str()) {
+            Some(short) => Bytes::Short(short),
+            None => Bytes::Shared(Arc::new(alloc, string)?),
+        };
+        Ok(Text { bytes })
+    }
+
+    /// A copy of a text, of which each further copy is made without an allocation. A short one allocates nothing.
     pub fn copy_of(alloc: Global, text: &str) -> Result<Text, AllocError>
         ensures { IfOk result (λ t. t ≡ text.now) }
     {
         let bytes = match short_of(text) {
             Some(short) => Bytes::Short(short),
-            None => Bytes::Long(String::from_str(alloc, text)?),
+            None => Bytes::Shared(Arc::new(alloc, String::from_str(alloc, text)?)?),
         };
         Ok(Text { bytes })
     }
@@ -87,7 +101,8 @@ impl Text {
     {
         match &self.bytes {
             Bytes::Short(short) => short.as_str(),
-            Bytes::Long(string) => string.as_str(),
+            Bytes::Own(string) => string.as_str(),
+            Bytes::Shared(string) => string.as_str(),
         }
     }
 }
@@ -129,7 +144,8 @@ impl Clone for Text {
     fn clone(&self) -> Result<Text, AllocError> {
         let bytes = match &self.bytes {
             Bytes::Short(short) => Bytes::Short(*short),
-            Bytes::Long(string) => Bytes::Long(string.clone()?),
+            Bytes::Own(string) => Bytes::Shared(Arc::new(*string.allocator(), string.clone()?)?),
+            Bytes::Shared(string) => Bytes::Shared(string.clone()?),
         };
         Ok(Text { bytes })
     }

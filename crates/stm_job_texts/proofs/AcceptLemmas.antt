@@ -1,5 +1,5 @@
 -- Sorting the events of a scenario one after the other, as a loop does.
-use Rattle.std.proofs.Common.{◌≡◌, inl, inr, ℕ, suc, ◌+◌, List, [], ◌∷◌, length, Result, Ok, Err, refl, sym, ap, ◌∙◌, arith}
+use Rattle.std.proofs.Common.{◌≡◌, inl, inr, ℕ, suc, ◌+◌, List, [], ◌∷◌, Result, Ok, Err, sym, ap, ◌∙◌, arith}
 use Rattle.stm_json.specs.declared.read_error.BadInput.{BadInput}
 use Rattle.stm_json.specs.declared.read_error.ReadError.{ReadError}
 use Rattle.stm_json.specs.declared.read_error.ReadError.TheVariants.{OutOfMemory, Bad}
@@ -57,10 +57,6 @@ stops_at first before events rest event old total (Bad fault) is reported so_far
     ∙ ap (λ (o : Outcome Sorted). o >>= (λ (next : Sorted). add_events first (suc before) rest next)) reported
 
 -- ---- the end
-
-pub nothing_left : (events : List WorldEvent) → length events ≡ 0 → events ≡ []
-nothing_left [] none = refl
-nothing_left (e ∷ es) none = absurd (omega arith)
 
 -- no event is left, so what was sorted is what is accepted
 pub all_sorted : (first before : ℕ) (events : List WorldEvent) (sorted : Sorted) (total : Outcome Sorted)

@@ -5,6 +5,7 @@ use Rattle.stm_world.specs.World.{World}
 use Rattle.stm_frames.specs.Frame.{frame, log}
 use Rattle.stm_frames.proofs.Frames.{log-push}
 use Rattle.stm_frames.proofs.Unique.{opens_log}
+use Rattle.stm_records.proofs.Heads.{log_head}
 use Rattle.stm_lasting.specs.Kept.{led, world_in, IsKept, HasRecords, OpensToEither}
 
 one_record : (file text : List ℕ) → file ≡ frame 0 text → file ≡ log 0 (text ∷ [])
@@ -22,9 +23,14 @@ one_kept file text is = record { records = text ∷ []; whole = one_record file 
 pub opens_either : (file text c : List ℕ) (before after : World) → IsKept file before → world_in (text ∷ []) ≡ Some after → (c ≡ file) ⊎ (c ≡ frame 0 text)
     → OpensToEither before after c
 opens_either file text c before after kept leads (inl old) =
-    inl (record { records = kept.records; opens = opens_log c kept.records (old ∙ kept.whole); leads = kept.leads })
+    inl (record { head = log_head c kept.records (old ∙ kept.whole); records = kept.records; opens = opens_log c kept.records (old ∙ kept.whole); leads = kept.leads })
 opens_either file text c before after kept leads (inr new) =
-    inr (record { records = text ∷ []; opens = opens_log c (text ∷ []) (one_record c text new); leads = leads })
+    inr (record {
+      head = log_head c (text ∷ []) (one_record c text new);
+      records = text ∷ [];
+      opens = opens_log c (text ∷ []) (one_record c text new);
+      leads = leads;
+    })
 
 -- no further records lead on to the same world
 pub nothing_more : (o begun : Option World) → o ≡ begun → o ≡ option_and_then (led []) begun

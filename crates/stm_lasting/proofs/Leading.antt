@@ -12,8 +12,8 @@ use Rattle.stm_world.specs.World.{World, opened, world_after}
 use Rattle.stm_frames.specs.Frame.{frame, log, at_places}
 use Rattle.stm_frames.proofs.Frames.{log-push}
 use Rattle.stm_frames.proofs.Unique.{opens_one, opens_log}
-use Rattle.stm_records.specs.RecordFiles.{IsBeforeOrAfter}
-use Rattle.stm_lasting.specs.Kept.{taken, led, begun_with, world_in, IsKept, LeadsTo, IsReady, IsWorldBeforeOrAfter}
+use Rattle.stm_records.proofs.Heads.{log_head}
+use Rattle.stm_lasting.specs.Kept.{taken, led, begun_with, world_in, IsKept, LeadsTo, IsReady, LeavesWhole, IsWorldBeforeOrAfter}
 
 -- ---- one record more ----
 
@@ -81,20 +81,22 @@ same_records file rs qs short is are = opens_one file rs qs short (opens_log fil
 -- the file as it was
 pub still : (file text : List ℕ) (after : World) (c : List ℕ) → c ≡ file → IsWorldBeforeOrAfter file text after c
 still file text after c is = λ before kept chance.
-    inl (record { records = kept.records; opens = opens_log c kept.records (is ∙ kept.whole); leads = kept.leads })
+    inl (record { head = log_head c kept.records (is ∙ kept.whole); records = kept.records; opens = opens_log c kept.records (is ∙ kept.whole); leads = kept.leads })
 
 -- what a crash left of a file and one more record, as worlds
-pub as_worlds : (file text : List ℕ) (after : World) (c : List ℕ) → length file < 2 ^ 64 → LeadsTo file text after → IsBeforeOrAfter file text c
+pub as_worlds : (file text : List ℕ) (after : World) (c : List ℕ) → length file < 2 ^ 64 → LeadsTo file text after → LeavesWhole file text c
     → IsWorldBeforeOrAfter file text after c
 as_worlds file text after c short leads left = λ before kept chance.
+    let head = left.1 (log_head file kept.records kept.whole) in
     ⊎_elim
-    (λ without. inl (record { records = kept.records; opens = without; leads = kept.leads }))
+    (λ without. inl (record { head = head; records = kept.records; opens = without; leads = kept.leads }))
     (λ with_it. inr (record {
+      head = head;
       records = kept.records ++ text ∷ [];
       opens = with_it;
       leads = ap (λ (rs : List (List ℕ)). world_in (rs ++ text ∷ [])) (same_records file kept.records leads.records short kept.whole leads.whole) ∙ leads.leads;
     }))
-    (left kept.records kept.whole chance)
+    (left.0 kept.records kept.whole chance)
 
 -- ---- a loop over the places of records ----
 

@@ -1,9 +1,10 @@
 -- What a crash at any moment leaves, in the words of worlds.
-use Rattle.std.proofs.Common.{◌≡◌, ◌⊎◌, inl, inr, ⊎_elim, ℕ, ◌+◌, List, [], ◌∷◌, ◌++◌, length, refl, sym, ◌∙◌, ap, arith}
+use Rattle.std.proofs.Common.{◌≡◌, ◌⊎◌, inl, inr, ⊎_elim, ℕ, ◌+◌, List, [], ◌∷◌, ◌++◌, length, refl, sym, ◌∙◌, ap, subst, arith, append-nil}
 use Rattle.stm_frames.specs.Frame.{frame}
 use Rattle.stm_frames.proofs.Frames.{log-push}
 use Rattle.stm_frames.proofs.Unique.{opens_log}
 use Rattle.stm_records.specs.Disk.{LeavesOnly}
+use Rattle.stm_records.specs.Head.{BeginsWhole}
 use Rattle.stm_records.specs.RecordFiles.{IsBeforeOrAfter}
 
 -- what has P has Q
@@ -22,6 +23,11 @@ first_left file text none c (inr new) = λ records whole chance.
     inr (opens_log c (records ++ text ∷ [])
     (new ∙ ap (λ (l : List ℕ). l ++ frame (length l) text) (sym none) ∙ ap (λ (l : List ℕ). l ++ frame (length file) text) whole
     ∙ sym (log-push records text (length file) (ap length whole))))
+
+-- either is whole
+pub first_head : (file text c : List ℕ) → (c ≡ file) ⊎ (c ≡ frame 0 text) → BeginsWhole file → BeginsWhole c
+first_head file text c (inl old) whole = subst BeginsWhole (sym old) whole
+first_head file text c (inr new) whole = inr (text, [], new ∙ sym (append-nil (frame 0 text)))
 
 -- no bytes and a record behind them are that record
 pub first_alone : (file new text : List ℕ) → file ≡ [] → new ≡ frame 0 text → new ≡ file ++ frame (length file) text

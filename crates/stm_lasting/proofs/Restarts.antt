@@ -3,9 +3,8 @@ use Rattle.std.proofs.Common.{◌≡◌, ◌⊎◌, inl, inr, ⊎_elim, ℕ, Lis
 use Rattle.std.specs.Prelude.{Option, None, Some}
 use Rattle.stm_world.specs.World.{World}
 use Rattle.stm_frames.proofs.Unique.{opens_one}
-use Rattle.stm_records.specs.RecordFiles.{OpensAlike as RecordsAlike}
-use Rattle.stm_lasting.specs.Kept.{world_in, OpensAlike}
-use Rattle.stm_lasting.specs.Laws.{OpensToOne, ServesTheKept}
+use Rattle.stm_lasting.specs.Kept.{world_in}
+use Rattle.stm_lasting.specs.Laws.{OpensToOne, ServesTheKept, OpensToTheSame}
 
 some_is : (o : Option World) (v w : World) → o ≡ Some v → o ≡ Some w → v ≡ w
 some_is o v w is are = ap in_it (sym is ∙ are)
@@ -23,5 +22,6 @@ serves file text c before after served short kept left chance opens =
     ⊎_elim (λ old. inl (to_one c served before short opens old)) (λ new. inr (to_one c served after short opens new)) (left before kept chance)
 
 -- records that open alike lead to one world
-pub worlds_alike : (file c : List ℕ) → RecordsAlike file c → OpensAlike file c
-worlds_alike file c alike world opens = record { records = opens.records; opens = alike opens.records opens.opens; leads = opens.leads }
+pub worlds_alike : OpensToTheSame
+worlds_alike file c world alike opens =
+    record { head = alike.head opens.head; records = opens.records; opens = alike.same opens.records opens.opens; leads = opens.leads }

@@ -27,7 +27,7 @@ abbrev pub behind_line : List ℕ → List ℕ
 behind_line [] = []
 behind_line (b ∷ bytes) = if is_line_feed b then bytes else behind_line bytes
 
--- the leases that lines say are live, and nothing else, up to the end line
+-- the leases that lines say are live, and nothing else, up to the end line, of which nothing is taken: the scenario says the revision
 abbrev pub leases_in : List ReportLine → Option (List KeptLease)
 leases_in (Lease id ttl renewed ∷ lines) =
     option_map (λ (leases : List KeptLease). (record { id = id; ttl = ttl; renewed = renewed }) ∷ leases) (leases_in lines)

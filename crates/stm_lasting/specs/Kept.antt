@@ -14,9 +14,10 @@ use Rattle.stm_txn.specs.declared.restored.Checkpoint.{Checkpoint}
 use Rattle.stm_txn.specs.Restored.{can_restore}
 use Rattle.stm_lasting.specs.CheckpointText.{checkpoint_in}
 use Rattle.stm_frames.specs.Frame.{log, Opens}
-use Rattle.stm_records.specs.RecordFiles.{NoChance}
+use Rattle.stm_records.specs.Head.{BeginsWhole}
+use Rattle.stm_records.specs.RecordFiles.{NoChance, IsBeforeOrAfter}
 
--- the world after the events of a scenario that was read
+-- the world after the events of a scenario that was read: what it opens with is of no use over a world, and no such scenario is kept
 abbrev pub taken : World → Outcome Scenario → Option World
 taken w (Ok scenario) = Some (world_after scenario.events w)
 taken w (Err fault) = None
@@ -55,12 +56,14 @@ pub record IsKept (file : List ℕ) (world : World) : Type 0 where
 
 -- opening the file, as it was found, comes to this world
 pub record OpensTo (file : List ℕ) (world : World) : Type 0 where
+  pub head : BeginsWhole file
   pub records : List (List ℕ)
   pub opens : Opens file records
   pub leads : world_in records ≡ Some world
 
 -- opening the file comes to no world: a record spells no scenario
 pub record LeadsNowhere (file : List ℕ) : Type 0 where
+  pub head : BeginsWhole file
   pub records : List (List ℕ)
   pub opens : Opens file records
   pub nowhere : world_in records ≡ None
@@ -71,15 +74,15 @@ pub record HasRecords (file : List ℕ) (count : ℕ) : Type 0 where
   pub whole : file ≡ log 0 records
   pub number : count ≡ length records
 
--- Whatever this file opens to, that one opens to.
-abbrev pub OpensAlike : List ℕ → List ℕ → Type 0
-OpensAlike file c = (world : World) → OpensTo file world → OpensTo c world
-
 -- the file has these records and nothing else, and with this text as one more they lead to this world
 pub record LeadsTo (file text : List ℕ) (world : World) : Type 0 where
   pub records : List (List ℕ)
   pub whole : file ≡ log 0 records
   pub leads : world_in (records ++ text ∷ []) ≡ Some world
+
+-- of a crash while a record is added: the records from before it, with the text or without, in a file that begins as it should
+abbrev pub LeavesWhole : List ℕ → List ℕ → List ℕ → Type 0
+LeavesWhole file text c = IsBeforeOrAfter file text c × (BeginsWhole file → BeginsWhole c)
 
 -- a file, or the text that is to be its next record, has 2^60 bytes or more
 abbrev pub IsTooLong : List ℕ → List ℕ → Type 0

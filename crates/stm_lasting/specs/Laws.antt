@@ -1,7 +1,7 @@
 -- The laws of files of scenarios, each carried by a function of `src/laws.rt`.
 use Rattle.std.specs.Prelude.{◌≡◌, ◌⊎◌, ℕ, ◌<◌, ◌^◌, List, length}
 use Rattle.stm_world.specs.World.{World}
-use Rattle.stm_records.specs.RecordFiles.{NoChance}
+use Rattle.stm_records.specs.RecordFiles.{NoChance, OpensAlike}
 use Rattle.stm_lasting.specs.Kept.{IsKept, OpensTo, IsWorldBeforeOrAfter}
 
 -- A file opens to one world.
@@ -13,3 +13,7 @@ abbrev pub ServesTheKept : Type 0
 ServesTheKept =
     (file text c : List ℕ) (before after served : World) → length c < 2 ^ 64 → IsKept file before → IsWorldBeforeOrAfter file text after c
     → NoChance file text c → OpensTo c served → (served ≡ before) ⊎ (served ≡ after)
+
+-- What opens to whatever records a file opens to opens to its world.
+abbrev pub OpensToTheSame : Type 0
+OpensToTheSame = (file c : List ℕ) (world : World) → OpensAlike file c → OpensTo file world → OpensTo c world

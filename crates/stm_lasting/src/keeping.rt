@@ -2,10 +2,10 @@
 ghost use Rattle.std.specs.Prelude.{◌≡◌, ◌⊎◌, ◌<◌, ◌≤◌, ◌^◌, ◌++◌, ℕ, Ok as OkOf, length, IfOk, IfErr, OnOk, IsErrOf};
 ghost use Rattle.stm_frames.specs.Frame.{frame};
 ghost use Rattle.stm_records.specs.Disk.{LeavesOnly};
-ghost use Rattle.stm_records.specs.RecordFiles.{IsSettled, IsBeforeOrAfter};
+ghost use Rattle.stm_records.specs.RecordFiles.{IsSettled};
 ghost use Rattle.stm_texts.specs.Reading.{scenario_in};
 ghost use Rattle.stm_world.specs.World.{replies_to, world_after};
-ghost use Rattle.stm_lasting.specs.Kept.{IsKept, IsReady, IsTooLong, LeadsTo, IsWorldBeforeOrAfter};
+ghost use Rattle.stm_lasting.specs.Kept.{IsKept, IsReady, IsTooLong, LeadsTo, LeavesWhole, IsWorldBeforeOrAfter};
 
 use crate::fault::KeepFault;
 use stm_events::{Denied, Reply};
@@ -55,7 +55,7 @@ fn add_record<D: Disk>(records: &mut RecordFile<D>, text: &[u8]) -> Result<(), D
         × (D.seen records.new.disk ≡ D.seen records.old.disk ++ frame (length (D.seen records.old.disk)) text.now)) }
 
     ensures any_moment { LeavesOnly D.moment D.left_since records.old.disk records.new.disk
-        (IsBeforeOrAfter (D.seen records.old.disk) text.now) }
+        (LeavesWhole (D.seen records.old.disk) text.now) }
 
     ensures failed { IsErrOf result DiskFault.Failed → D.faults records.old.disk < D.faults records.new.disk }
     ensures full { IsErrOf result DiskFault.Full → (2 ^ 60 ≤ records.old.end) ⊎ (2 ^ 60 ≤ length text.now) }

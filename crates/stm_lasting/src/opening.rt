@@ -1,9 +1,9 @@
 //! Opening the file of a world.
-ghost use Rattle.std.specs.Prelude.{◌≡◌, ◌⊎◌, ◌<◌, ℕ, None, Some, length, IfOk, IfErr, OnOk, IsTrue};
+ghost use Rattle.std.specs.Prelude.{◌≡◌, ◌⊎◌, ◌<◌, ◌≤◌, ℕ, None, Some, length, IfOk, IfErr, OnOk, IsTrue};
 ghost use Rattle.stm_records.specs.Disk.{Only, LeavesOnly};
 ghost use Rattle.stm_records.specs.Head.{IsHurt};
-ghost use Rattle.stm_records.specs.RecordFiles.{payloads_of};
-ghost use Rattle.stm_lasting.specs.Kept.{world_in, IsKept, OpensTo, LeadsNowhere, HasRecords, OpensAlike};
+ghost use Rattle.stm_records.specs.RecordFiles.{payloads_of, OpensAlike};
+ghost use Rattle.stm_lasting.specs.Kept.{world_in, IsKept, OpensTo, LeadsNowhere, HasRecords};
 
 use crate::fault::KeptFault;
 use crate::replay::{ReplayFault, world_of};
@@ -60,7 +60,7 @@ fn kept_of(alloc: Global, opened: Opened) -> Result<Kept, KeptFault>
 ///
 /// `Damaged`: a record is not as it was written. Nothing behind it is served, nothing is changed, and its offset is told. `NoScenario`: the record at this
 /// offset is whole, and spells no scenario, nor, as the first one, a checkpoint; the records lead to no world. `Failed`: the disk failed at the repair.
-/// `OutOfMemory`. After each of them the file opens, later, to what it would have.
+/// `OutOfMemory`. After each of them the file opens, later, to what it would have: what is refused is not changed, but for a torn end.
 pub fn open<D: Disk>(alloc: Global, disk: &mut D, bytes: Vec<u8>) -> Result<Kept, KeptFault>
     requires bytes { bytes.items ≡ D.seen disk.old }
     // After a restart, what is read is what is on the disk.
@@ -80,9 +80,10 @@ pub fn open<D: Disk>(alloc: Global, disk: &mut D, bytes: Vec<u8>) -> Result<Kept
     ensures hurt { IfErr result (λ e. (at : ℕ) → e ≡ KeptFault.Damaged at → IsHurt (D.seen disk.old) at
         × LeavesOnly D.moment D.left_since disk.old disk.new (λ c. c ≡ D.seen disk.old)) }
     ensures nowhere { IfErr result (λ e. (at : ℕ) → e ≡ KeptFault.NoScenario at → LeadsNowhere (D.seen disk.old)) }
+    ensures later { D.faults disk.old ≤ D.faults disk.new }
     ensures failed { IfErr result (λ e. e ≡ KeptFault.Failed → D.faults disk.old < D.faults disk.new) }
 
-    // A crash at any moment leaves a file that opens to the same world.
+    // A crash at any moment leaves a file that opens to the same records, and so to the same world or to none. One that is not opened is left as it is.
     ensures any_moment { LeavesOnly D.moment D.left_since disk.old disk.new (OpensAlike (D.seen disk.old)) }
 {
     match stm_records::open(alloc, disk, bytes) {

@@ -7,7 +7,9 @@ use Rattle.stm_frames.proofs.Unique.{opens_one, opens_log, none_in_front}
 use Rattle.stm_records.specs.Disk.{Torn, Cut, Follows, Only}
 use Rattle.stm_records.specs.declared.fault.DiskFault.{DiskFault}
 use Rattle.stm_records.specs.declared.fault.DiskFault.TheVariants.{Damaged}
-use Rattle.stm_records.specs.RecordFiles.{IsBeforeOrAfter, OpensAlike}
+use Rattle.stm_records.specs.Head.{BeginsWhole}
+use Rattle.stm_records.specs.RecordFiles.{IsBeforeOrAfter, LeavesRecords, OpensAlike}
+use Rattle.stm_records.proofs.Heads.{cut_head, front_head}
 
 eq_or_not : (xs ys : List ℕ) → (xs ≡ ys) ⊎ (xs ≡ ys → ⊥)
 eq_or_not [] [] = inl refl
@@ -25,8 +27,11 @@ eq_or_not (x ∷ xs) (y ∷ ys) = elim (cases_eq x y) [
     head_of [] = 0
     head_of (h ∷ t) = h
 
-pub unchanged : (file payload c : List ℕ) → c ≡ file → IsBeforeOrAfter file payload c
-unchanged file payload c is = λ ps log_is chance. inl (opens_log c ps (is ∙ log_is))
+pub unchanged : (file payload c : List ℕ) → c ≡ file → LeavesRecords file payload c
+unchanged file payload c is = record {
+  records = λ ps log_is chance. inl (opens_log c ps (is ∙ log_is));
+  head = λ some whole. subst BeginsWhole (sym is) whole;
+}
 
 pub torn_append : (file payload c : List ℕ) → take (length file) c ≡ file → IsBeforeOrAfter file payload c
 torn_append file payload c front = λ ps log_is chance. elim (eq_or_not c (file ++ frame (length file) payload)) [
@@ -41,11 +46,12 @@ torn_append file payload c front = λ ps log_is chance. elim (eq_or_not c (file 
 ]
 
 -- what one torn write behind a file on the disk leaves
-pub append_crash : (file payload : List ℕ) (at n : ℕ) (old new : List ℕ → Type 0) → at ≡ length file → Only file old → Follows (Torn at n) old new → (c : List ℕ) → new c → IsBeforeOrAfter file payload c
+pub append_crash : (file payload : List ℕ) (at n : ℕ) (old new : List ℕ → Type 0) → at ≡ length file → Only file old → Follows (Torn at n) old new → (c : List ℕ) → new c → LeavesRecords file payload c
 append_crash file payload at n old new at_is only follows c left =
     let from = follows c left in
     let torn = subst (λ (f : List ℕ). Torn at n f c) (only from.0 from.1) from.2 in
-    torn_append file payload c (ap (λ (m : ℕ). take m c) (sym at_is) ∙ torn.before ∙ take_all at file (omega (arith, at_is)))
+    let front : take (length file) c ≡ file = ap (λ (m : ℕ). take m c) (sym at_is) ∙ torn.before ∙ take_all at file (omega (arith, at_is)) in
+    record { records = torn_append file payload c front; head = front_head file c front }
 
 take_past : (xs ys : List ℕ) (m n : ℕ) → m ≡ length xs + n → take m (xs ++ ys) ≡ xs ++ take n ys
 take_past [] ys m n is = let same : m ≡ n = omega arith in ap (λ (k : ℕ). take k ys) same
@@ -53,22 +59,41 @@ take_past (x ∷ xs) ys zero n is = absurd (omega arith)
 take_past (x ∷ xs) ys (suc m) n is = ap (λ (l : List ℕ). x ∷ l) (take_past xs ys m n (omega arith))
 
 pub alike : (file c : List ℕ) → c ≡ file → OpensAlike file c
-alike file c is ps opens = subst (λ (f : List ℕ). Opens f ps) (sym is) opens
+alike file c is = record {
+  head = λ whole. subst BeginsWhole (sym is) whole;
+  same = λ ps opens. subst (λ (f : List ℕ). Opens f ps) (sym is) opens;
+  untouched = λ nothing. is;
+}
 
-pub cut_alike : (file : List ℕ) (qs : List (List ℕ)) (end : ℕ) (c : List ℕ) → length file < 2 ^ 64 → Opens file qs → end ≡ length (log 0 qs) → Cut end file c → OpensAlike file c
-cut_alike file qs end c short found end_is cut ps opens =
-    let n = length c - end in
+-- the frames of a file that was cut behind them, and what is left behind them
+cut_split : (file : List ℕ) (qs : List (List ℕ)) (end : ℕ) (c : List ℕ) → (found : Opens file qs) → end ≡ length (log 0 qs) → Cut end file c
+    → c ≡ log 0 qs ++ take (length c - end) found.end
+cut_split file qs end c found end_is cut =
     let room : end ≤ length file = omega (arith, end_is, ap length found.split, length-append (log 0 qs) found.end) in
+    sym cut.front ∙ ap (λ (l : List ℕ). take (length c) l) found.split
+    ∙ take_past (log 0 qs) found.end (length c) (length c - end) (omega (arith, cut.no_shorter room, end_is))
+
+cut_opens : (file : List ℕ) (qs : List (List ℕ)) (end : ℕ) (c : List ℕ) → length file < 2 ^ 64 → Opens file qs → end ≡ length (log 0 qs) → Cut end file c
+    → (payloads : List (List ℕ)) → Opens file payloads → Opens c payloads
+cut_opens file qs end c short found end_is cut ps opens =
+    let n = length c - end in
     let same : qs ≡ ps = opens_one file qs ps short found opens in
-    let split : c ≡ log 0 qs ++ take n found.end =
-    sym cut.front ∙ ap (λ (l : List ℕ). take (length c) l) found.split ∙ take_past (log 0 qs) found.end (length c) n (omega (arith, cut.no_shorter room, end_is)) in
-    let kept : Opens c qs = record { end = take n found.end; split = split; none = none_in_front (length (log 0 qs)) n found.end found.none } in
+    let kept : Opens c qs =
+    record { end = take n found.end; split = cut_split file qs end c found end_is cut; none = none_in_front (length (log 0 qs)) n found.end found.none } in
     subst (λ (l : List (List ℕ)). Opens c l) same kept
 
-pub cut_crash : (file : List ℕ) (qs : List (List ℕ)) (end : ℕ) (old new : List ℕ → Type 0) → length file < 2 ^ 64 → Opens file qs → end ≡ length (log 0 qs) → Only file old → Follows (Cut end) old new → (c : List ℕ) → new c → OpensAlike file c
-cut_crash file qs end old new short found end_is only follows c left =
+-- a file that is cut opens to something, and begins with its first frame
+pub cut_alike : (file : List ℕ) (qs : List (List ℕ)) (end : ℕ) (c : List ℕ) → length file < 2 ^ 64 → BeginsWhole file → Opens file qs → end ≡ length (log 0 qs) → Cut end file c → OpensAlike file c
+cut_alike file qs end c short whole found end_is cut = record {
+  head = λ head. cut_head qs file c (length c - end) found (cut_split file qs end c found end_is cut) head;
+  same = cut_opens file qs end c short found end_is cut;
+  untouched = λ nothing. absurd (nothing qs whole found);
+}
+
+pub cut_crash : (file : List ℕ) (qs : List (List ℕ)) (end : ℕ) (old new : List ℕ → Type 0) → length file < 2 ^ 64 → BeginsWhole file → Opens file qs → end ≡ length (log 0 qs) → Only file old → Follows (Cut end) old new → (c : List ℕ) → new c → OpensAlike file c
+cut_crash file qs end old new short whole found end_is only follows c left =
     let from = follows c left in
-    cut_alike file qs end c short found end_is (subst (λ (f : List ℕ). Cut end f c) (only from.0 from.1) from.2)
+    cut_alike file qs end c short whole found end_is (subst (λ (f : List ℕ). Cut end f c) (only from.0 from.1) from.2)
 
 -- what the reading and the scan tell
 pub found_opens : (file : List ℕ) (qs : List (List ℕ)) (end : ℕ) → end ≤ length file → take end file ≡ log 0 qs → NoneIn end (drop end file) → Opens file qs

@@ -1,3 +1,5 @@
 pub mod Crash
+pub mod Heads
+mod Hurt
 pub mod Moments
 mod Restart

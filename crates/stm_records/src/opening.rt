@@ -1,5 +1,5 @@
 //! Opening a file of records, also one that a crash has left.
-ghost use Rattle.std.specs.Prelude.{◌≡◌, ◌<◌, ℕ, length, IfOk, IfErr, OnOk, IsErrOf, IsTrue, IsFalse};
+ghost use Rattle.std.specs.Prelude.{◌≡◌, ◌<◌, ◌≤◌, ℕ, [], length, IfOk, IfErr, OnOk, IsErrOf, IsTrue, IsFalse};
 ghost use Rattle.stm_frames.specs.Frame.{log, NoFrame, Opens, IsDamaged};
 ghost use Rattle.stm_records.specs.Disk.{Only, LeavesOnly};
 ghost use Rattle.stm_records.specs.Head.{IsHurt, BeginsWhole};
@@ -25,6 +25,7 @@ pub struct Opened {
 /// it. The bytes are those that the disk was opened with.
 fn recover<D: Disk>(alloc: Global, disk: &mut D, bytes: Vec<u8>) -> Result<Opened, DiskFault>
     requires bytes { bytes.items ≡ D.seen disk.old }
+    requires head { BeginsWhole (D.seen disk.old) }
     // After a restart, what is read is what is on the disk.
     requires durable { Only (D.seen disk.old) (D.may_leave disk.old) }
 
@@ -40,9 +41,10 @@ fn recover<D: Disk>(alloc: Global, disk: &mut D, bytes: Vec<u8>) -> Result<Opene
     ensures damaged { IfErr result (λ e. (at : ℕ) → e ≡ DiskFault.Damaged at → IsDamaged (D.seen disk.old) at
         × LeavesOnly D.moment D.left_since disk.old disk.new (λ c. c ≡ D.seen disk.old)) }
 
-    // A crash at any moment leaves a file that opens to the same records.
+    // A crash at any moment leaves a file that opens to the same records: the file itself, where that is not opened.
     ensures any_moment { LeavesOnly D.moment D.left_since disk.old disk.new (OpensAlike (D.seen disk.old)) }
 
+    ensures later { D.faults disk.old ≤ D.faults disk.new }
     ensures failed { IsErrOf result DiskFault.Failed → D.faults disk.old < D.faults disk.new }
     ensures full { IsErrOf result DiskFault.Full → ⊥ }
 {
@@ -69,6 +71,7 @@ fn recover<D: Disk>(alloc: Global, disk: &mut D, bytes: Vec<u8>) -> Result<Opene
 
 /// Whether a file has bytes, and does not begin with a whole record.
 fn is_headless(bytes: &[u8]) -> bool
+    ensures some { IsTrue result → bytes.now ≡ [] → ⊥ }
     ensures hurt { IsTrue result → NoFrame 0 bytes.now }
     ensures whole { IsFalse result → BeginsWhole bytes.now }
 {
@@ -102,9 +105,10 @@ pub fn open<D: Disk>(alloc: Global, disk: &mut D, bytes: Vec<u8>) -> Result<Open
     ensures hurt { IfErr result (λ e. (at : ℕ) → e ≡ DiskFault.Damaged at → IsHurt (D.seen disk.old) at
         × LeavesOnly D.moment D.left_since disk.old disk.new (λ c. c ≡ D.seen disk.old)) }
 
-    // A crash at any moment leaves a file that opens to the same records.
+    // A crash at any moment leaves a file that opens to the same records: the file itself, where that is not opened.
     ensures any_moment { LeavesOnly D.moment D.left_since disk.old disk.new (OpensAlike (D.seen disk.old)) }
 
+    ensures later { D.faults disk.old ≤ D.faults disk.new }
     ensures failed { IsErrOf result DiskFault.Failed → D.faults disk.old < D.faults disk.new }
     ensures full { IsErrOf result DiskFault.Full → ⊥ }
 {

@@ -2,7 +2,7 @@
 ghost use Rattle.std.specs.Prelude.{◌≡◌, ◌⊎◌, ◌<◌, ◌≤◌, ◌^◌, ◌++◌, ℕ, length, OnOk, IsErrOf};
 ghost use Rattle.stm_frames.specs.Frame.{frame};
 ghost use Rattle.stm_records.specs.Disk.{LeavesOnly};
-ghost use Rattle.stm_records.specs.RecordFiles.{IsSettled, IsBeforeOrAfter};
+ghost use Rattle.stm_records.specs.RecordFiles.{IsSettled, LeavesRecords};
 
 use crate::disk::Disk;
 use crate::fault::DiskFault;
@@ -34,9 +34,10 @@ impl<D: Disk> RecordFile<D> {
         ensures acknowledged { OnOk result (IsSettled D.is_usable D.seen D.may_leave self.new
             × (D.seen self.new.disk ≡ D.seen self.old.disk ++ frame (length (D.seen self.old.disk)) payload.now)) }
 
-        // A crash at any moment of the call leaves the records from before it, with the new one or without.
+        // A crash at any moment of the call leaves the records from before it, with the new one or without. A first record alone may be torn: `checkpoint`
+        // makes one that is not.
         ensures any_moment { LeavesOnly D.moment D.left_since self.old.disk self.new.disk
-            (IsBeforeOrAfter (D.seen self.old.disk) payload.now) }
+            (LeavesRecords (D.seen self.old.disk) payload.now) }
 
         // It doesn't give up by itself.
         ensures failed { IsErrOf result DiskFault.Failed → D.faults self.old.disk < D.faults self.new.disk }

@@ -1,5 +1,6 @@
 -- Members of a line, one after the other.
-use Rattle.std.proofs.Common.{◌≡◌, ℕ, zero, suc, ◌+◌, ◌<◌, List, [], ◌∷◌, map, ◌++◌, length, drop, get_or, Bool, false, true, ◌||◌, refl, sym, ap, ◌∙◌, append_assoc, arith}
+use Rattle.std.proofs.Common.{◌≡◌, ℕ, zero, suc, ◌+◌, ◌<◌, List, [], ◌∷◌, map, ◌++◌, length, drop, get_or, false, refl, sym, ap, ◌∙◌, append_assoc, arith}
+use Rattle.std.proofs.lemmas.Bool.{or_parts}
 use Rattle.std.proofs.lemmas.List.{get_or-map}
 use Rattle.serde_json.specs.declared.value.Value.{Value}
 use Rattle.serde_json.specs.View.{view, items_view}
@@ -17,24 +18,20 @@ module _ {A : Type 0} (name : A → List ℕ) where
   no_name (x ∷ xs) zero past = absurd (past (omega arith))
   no_name (x ∷ xs) (suc i) past = no_name xs i (λ within. past (omega (arith, within)))
 
-first_of : (a b : Bool) → (a || b) ≡ false → a ≡ false
-first_of false b none = refl
-first_of true b none = none
-
-rest_of : (a b : Bool) → (a || b) ≡ false → b ≡ false
-rest_of false b none = none
-rest_of true b none = cc
-
 module _ (values : List Value) (i : ℕ) (value : Value) (within : i < length values) (is : value ≡ get_or values i value) where
   left : drop i values ≡ value ∷ drop (i + 1) values
   left = left_at values i value within is
 
+  parts : items_have_float (items_view (drop i values)) ≡ false → (has_float (view value) ≡ false) × (items_have_float (items_view (drop (i + 1) values)) ≡ false)
+  parts none =
+      or_parts (has_float (view value)) (items_have_float (items_view (drop (i + 1) values))) (ap (λ (vs : List Value). items_have_float (items_view vs)) (sym left) ∙ none)
+
   -- neither it nor one behind it has a float
   pub plain : items_have_float (items_view (drop i values)) ≡ false → has_float (view value) ≡ false
-  plain none = first_of (has_float (view value)) (items_have_float (items_view (drop (i + 1) values))) (ap (λ (vs : List Value). items_have_float (items_view vs)) (sym left) ∙ none)
+  plain none = (parts none).0
 
   pub plain_behind : items_have_float (items_view (drop i values)) ≡ false → items_have_float (items_view (drop (i + 1) values)) ≡ false
-  plain_behind none = rest_of (has_float (view value)) (items_have_float (items_view (drop (i + 1) values))) (ap (λ (vs : List Value). items_have_float (items_view vs)) (sym left) ∙ none)
+  plain_behind none = (parts none).1
 
   -- one more member
   pub next_member : (names : List (List ℕ)) (name text total : List ℕ) → name ≡ get_or names i [] → text ++ members_text names i (items_view (drop i values)) ≡ total

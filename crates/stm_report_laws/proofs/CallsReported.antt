@@ -1,8 +1,7 @@
 -- The replies to calls: each is the one that a check looks for, and leads to the store that the call leaves.
 --
 -- A check has no watchers, and a call of the store but a poll, a watch or a cancellation does not look at them.
-use Rattle.std.proofs.Common.{◌≡◌, ◌≤◌, ℕ, zero, suc, Bool, true, false, cond, List, [], ◌∷◌, Option, Some, None, Ok, Err, refl, sym, ◌∙◌, ap, arith}
-use Rattle.std.proofs.lemmas.Bool.{le-ltb}
+use Rattle.std.proofs.Common.{◌≡◌, ◌≤◌, ℕ, zero, suc, Bool, true, false, cond, List, [], ◌∷◌, Option, Some, None, Ok, Err, refl, sym, ◌∙◌, ap}
 use Rattle.std.specs.Prelude.{Result, nat_lt}
 use Rattle.std.specs.FinMap as finmap
 use Rattle.stm_history.specs.History.{now}
@@ -27,8 +26,8 @@ use Rattle.stm_outcome.specs.Terms.{most_operations}
 use Rattle.stm_txn.specs.Standing.{Standing, Step, Advance, step_of, transacted, granted, kept_alive, revoked, without_lease, after, expired_in, expire_up_to}
 use Rattle.stm_txn.specs.Standing.{at_moment, advanced, watched, watch_step, poll_step, cancelled, cancel_step, terms_of, compaction_refusal, with_floor, floor_step, raised}
 use Rattle.stm_entries.specs.declared.entry.Entry.{Entry}
-use Rattle.stm_entries.specs.declared.entry.Entry.TheVariants.{Foreign, Grant as GrantEntry, Renew, Revoke as RevokeEntry}
-use Rattle.stm_entries.specs.Entered.{if_changed, expiries}
+use Rattle.stm_entries.specs.declared.entry.Entry.TheVariants.{Grant as GrantEntry, Renew, Revoke as RevokeEntry}
+use Rattle.stm_entries.specs.Entered.{expiries}
 use Rattle.stm_events.specs.declared.event.WorldEvent.{WorldEvent}
 use Rattle.stm_events.specs.declared.event.WorldEvent.TheVariants.{Txn, Grant, Keep, Revoke, Advance as AdvanceEvent, WatchKey, WatchRange, Poll, Cancel, Compact}
 use Rattle.stm_events.specs.declared.reply.Reply.{Reply}
@@ -36,7 +35,7 @@ use Rattle.stm_events.specs.declared.reply.Reply.TheVariants.{Granted, Kept, Rev
 use Rattle.stm_events.specs.declared.refusal.Denied.{Denied}
 use Rattle.stm_events.specs.Replies.{txn_reply, event_refusal, denied, reply_to, store_after_call, store_after_poll, advance_reply}
 use Rattle.stm_events.specs.Called as call
-use Rattle.stm_events.specs.Called.{Call, called, entered_by, if_reported}
+use Rattle.stm_events.specs.Called.{Call, Asked, Calls, asked, called, entered_by, if_reported}
 use Rattle.stm_events.proofs.CallMeans.{granted_by, kept_by, revoked_by, advance_ended, advance_due, advance_back}
 use Rattle.stm_events.proofs.CallReplies.{poll_reported, expiries_reported}
 use Rattle.stm_world.proofs.Slots.{same_number}
@@ -44,8 +43,9 @@ use Rattle.stm_check.specs.declared.runner.Runner.{Runner}
 use Rattle.stm_check.specs.Fits.{can_have}
 use Rattle.stm_check.specs.Replays.{Replays}
 use Rattle.stm_check.specs.Runners.{runners_after}
-use Rattle.stm_check.specs.Point.{led_by, moment_after, entries_reported, standing_after, txn_entries, grant_entries, keep_entries, revoke_entries, advance_entries}
-use Rattle.stm_check.proofs.CallLemmas.{StepIsTransacted, is_transacted, txn_led, grant_led, keep_led, revoke_led, advance_led, line_keeps}
+use Rattle.stm_check.specs.Point.{led_by, moment_after, entries_reported, standing_after, txn_entries, grant_entries, keep_entries, revoke_entries}
+use Rattle.stm_check.proofs.LegalReported.{txn_reported, advance_reported}
+use Rattle.stm_check.proofs.CallLemmas.{is_transacted, txn_led, grant_led, keep_led, revoke_led, advance_led, line_keeps}
 
 -- a store without its watchers
 abbrev pub unwatched : Standing → Standing
@@ -78,17 +78,12 @@ txn_store : (s : Standing) (txn : StoreTxn) (r : Result (Step TxnAnswer) StoreRe
 txn_store s txn (Ok step) few is = ap unwatched (sym (txn_led s step.next txn step.answer few is))
 txn_store s txn (Err cause) few is = refl
 
-txn_entered : (s : Standing) (txn : StoreTxn) (r : Result (Step TxnAnswer) StoreRefusal) → StepIsTransacted s r →
-    txn_entries (now s.history) txn (reply_to txn_reply r) ≡ if_changed s (store_after_call s r) txn
-txn_entered s txn (Ok step) came = ap (λ revision. cond (nat_lt (now s.history) revision) (Foreign txn ∷ []) []) came.counter
-txn_entered s txn (Err cause) came = ap (λ (b : Bool). cond b (Foreign txn ∷ []) []) (sym (le-ltb (now s.history) (now s.history) (omega arith)))
-
-pub txn_right : (s : Standing) (rs : List Runner) (txn : StoreTxn) → s.limit ≤ most_operations → CallIsRight s rs (Txn txn) (call.Txn txn)
+txn_right : (s : Standing) (rs : List Runner) (txn : StoreTxn) → s.limit ≤ most_operations → CallIsRight s rs (Txn txn) (call.Txn txn)
 txn_right s rs txn few = record {
   fits = by_reply (λ x. can_have rs (Txn txn) x ≡ true) txn_reply (transacted s txn) (λ x. refl) (λ cause. refl);
   replays = txn_same s (outcome (terms_of s) txn);
   store = txn_store s txn (transacted s txn) few refl;
-  entries = txn_entered s txn (transacted s txn) (is_transacted s txn);
+  entries = txn_reported s txn (transacted s txn) (is_transacted s txn);
   runners = refl;
 }
 
@@ -104,7 +99,7 @@ grant_store : (s : Standing) (id ttl : ℕ) (r : Result (Step (Unit {0})) StoreR
 grant_store s id ttl (Ok step) is = ap unwatched (sym (grant_led s step.next id ttl is))
 grant_store s id ttl (Err cause) is = refl
 
-pub grant_right : (s : Standing) (rs : List Runner) (id ttl : ℕ) → CallIsRight s rs (Grant id ttl) (call.Grant id ttl)
+grant_right : (s : Standing) (rs : List Runner) (id ttl : ℕ) → CallIsRight s rs (Grant id ttl) (call.Grant id ttl)
 grant_right s rs id ttl = record {
   fits = by_reply (λ x. can_have rs (Grant id ttl) x ≡ true) (λ _. Granted id) (granted s id ttl) (λ x. refl) (λ cause. refl);
   replays = grant_same s id ttl (grant_refusal s.live id ttl);
@@ -126,7 +121,7 @@ keep_store : (s : Standing) (id : ℕ) (r : Result (Step (Unit {0})) StoreRefusa
 keep_store s id (Ok step) is = ap unwatched (sym (keep_led s step.next id is))
 keep_store s id (Err cause) is = refl
 
-pub keep_right : (s : Standing) (rs : List Runner) (id : ℕ) → CallIsRight s rs (Keep id) (call.Keep id)
+keep_right : (s : Standing) (rs : List Runner) (id : ℕ) → CallIsRight s rs (Keep id) (call.Keep id)
 keep_right s rs id = record {
   fits = by_reply (λ x. can_have rs (Keep id) x ≡ true) (λ _. Kept id) (kept_alive s id) (λ x. refl) (λ cause. refl);
   replays = keep_same s id (finmap.get s.live id);
@@ -148,7 +143,7 @@ revoke_store : (s : Standing) (id : ℕ) (r : Result (Step ℕ) StoreRefusal) �
 revoke_store s id (Ok step) is = ap unwatched (sym (revoke_led s step.next id step.answer is))
 revoke_store s id (Err cause) is = refl
 
-pub revoke_right : (s : Standing) (rs : List Runner) (id : ℕ) → CallIsRight s rs (Revoke id) (call.Revoke id)
+revoke_right : (s : Standing) (rs : List Runner) (id : ℕ) → CallIsRight s rs (Revoke id) (call.Revoke id)
 revoke_right s rs id = record {
   fits = by_reply (λ x. can_have rs (Revoke id) x ≡ true) (Revoked id) (revoked s id) (λ x. refl) (λ cause. refl);
   replays = revoke_same s id (is_live_in s.live id) (is_used_up s.history (deletions_of s.history id));
@@ -192,20 +187,15 @@ advance_fits : (rs : List Runner) (moment : ℕ) (expired : List Expired) (cause
 advance_fits rs moment expired None = refl
 advance_fits rs moment expired (Some cause) = refl
 
-advance_entered : (moment : ℕ) (expired : List Expired) (cause : Option StoreRefusal) →
-    advance_entries (advance_reply moment expired cause) ≡ expiries expired
-advance_entered moment expired None = refl
-advance_entered moment expired (Some cause) = refl
-
-pub advance_right : (s : Standing) (rs : List Runner) (moment : ℕ) → CallIsRight s rs (AdvanceEvent moment) (call.Advance moment)
+advance_right : (s : Standing) (rs : List Runner) (moment : ℕ) → CallIsRight s rs (AdvanceEvent moment) (call.Advance moment)
 advance_right s rs moment =
     let a : Advance = advanced s moment in
     record {
       fits = advance_fits rs moment a.expired a.cause;
       replays = ap (λ (x : Advance). advance_reply moment x.expired x.cause) (advance_same s moment);
-      store = ap (λ (es : List Entry). led_by es (unwatched s) (moment_after s (AdvanceEvent moment))) (advance_entered moment a.expired a.cause)
+      store = ap (λ (es : List Entry). led_by es (unwatched s) (moment_after s (AdvanceEvent moment))) (advance_reported moment a.expired a.cause)
           ∙ ap unwatched (sym (advance_led s a.leaves moment a.expired a.cause refl));
-      entries = advance_entered moment a.expired a.cause ∙ ap expiries (sym (expiries_reported moment a.expired a.cause));
+      entries = advance_reported moment a.expired a.cause ∙ ap expiries (sym (expiries_reported moment a.expired a.cause));
       runners = refl;
     }
 
@@ -230,7 +220,7 @@ compact_store s rs revision (Ok step) is =
     ∙ ap (λ (r : Result (Step (Unit {0})) StoreRefusal). unwatched (store_after_call s r)) is
 compact_store s rs revision (Err cause) is = refl
 
-pub compact_right : (s : Standing) (rs : List Runner) (revision : ℕ) → CallIsRight s rs (Compact revision) (call.Compact revision)
+compact_right : (s : Standing) (rs : List Runner) (revision : ℕ) → CallIsRight s rs (Compact revision) (call.Compact revision)
 compact_right s rs revision = record {
   fits = by_reply (λ x. can_have rs (Compact revision) x ≡ true) (λ _. Compacted revision) (raised s revision) (λ x. refl) (λ cause. refl);
   replays = compact_by s revision (compaction_refusal s revision);
@@ -245,7 +235,7 @@ watch_stays : (s : Standing) (o : Result (WatchStep ℕ) WatchRefusal) → unwat
 watch_stays s (Ok step) = refl
 watch_stays s (Err cause) = refl
 
-pub watch_key_right : (s : Standing) (rs : List Runner) (key : List ℕ) (from : ℕ) → CallIsRight s rs (WatchKey key from) (call.Watch (Key key) from)
+watch_key_right : (s : Standing) (rs : List Runner) (key : List ℕ) (from : ℕ) → CallIsRight s rs (WatchKey key from) (call.Watch (Key key) from)
 watch_key_right s rs key from = record {
   fits = by_reply (λ x. can_have rs (WatchKey key from) x ≡ true) Watching (watched s (Key key) from) (λ x. refl) (λ cause. refl);
   replays = tt;
@@ -254,7 +244,7 @@ watch_key_right s rs key from = record {
   runners = refl;
 }
 
-pub watch_range_right : (s : Standing) (rs : List Runner) (first end : List ℕ) (from : ℕ) →
+watch_range_right : (s : Standing) (rs : List Runner) (first end : List ℕ) (from : ℕ) →
     CallIsRight s rs (WatchRange first end from) (call.Watch (Range first end) from)
 watch_range_right s rs first end from = record {
   fits = by_reply (λ x. can_have rs (WatchRange first end from) x ≡ true) Watching (watched s (Range first end) from) (λ x. refl) (λ cause. refl);
@@ -268,7 +258,7 @@ poll_stays : (s : Standing) (watcher : ℕ) (o : Result (WatchStep Batch) PollRe
 poll_stays s watcher (Ok step) = refl
 poll_stays s watcher (Err cause) = refl
 
-pub poll_right : (s : Standing) (rs : List Runner) (watcher most : ℕ) → CallIsRight s rs (Poll watcher most) (call.Poll watcher most)
+poll_right : (s : Standing) (rs : List Runner) (watcher most : ℕ) → CallIsRight s rs (Poll watcher most) (call.Poll watcher most)
 poll_right s rs watcher most = record {
   fits = poll_reported (λ x. can_have rs (Poll watcher most) x ≡ true) s watcher most (λ batch. same_number watcher) (same_number watcher) refl;
   replays = tt;
@@ -281,7 +271,7 @@ cancel_stays : (s : Standing) (id : ℕ) (o : Option Watcher) → unwatched s �
 cancel_stays s id None = refl
 cancel_stays s id (Some w) = refl
 
-pub cancel_right : (s : Standing) (rs : List Runner) (watcher : ℕ) → CallIsRight s rs (Cancel watcher) (call.Cancel watcher)
+cancel_right : (s : Standing) (rs : List Runner) (watcher : ℕ) → CallIsRight s rs (Cancel watcher) (call.Cancel watcher)
 cancel_right s rs watcher = record {
   fits = by_reply (λ x. can_have rs (Cancel watcher) x ≡ true) (λ _. Cancelled watcher) (cancelled s watcher) (λ x. same_number watcher) (λ cause. refl);
   replays = tt;
@@ -289,3 +279,23 @@ cancel_right s rs watcher = record {
   entries = refl;
   runners = refl;
 }
+
+-- ---- every call
+
+-- what the reply to an event's call is, if it has one
+abbrev pub AskedIsRight : Standing → List Runner → WorldEvent → Asked → Type 0
+AskedIsRight s rs event (Calls c) = CallIsRight s rs event c
+AskedIsRight s rs event other = Unit {0}
+
+pub calls_right : (s : Standing) (rs : List Runner) (event : WorldEvent) → s.limit ≤ most_operations → AskedIsRight s rs event (asked event)
+calls_right s rs (Txn txn) few = txn_right s rs txn few
+calls_right s rs (Grant id ttl) few = grant_right s rs id ttl
+calls_right s rs (Keep id) few = keep_right s rs id
+calls_right s rs (Revoke id) few = revoke_right s rs id
+calls_right s rs (AdvanceEvent moment) few = advance_right s rs moment
+calls_right s rs (WatchKey key from) few = watch_key_right s rs key from
+calls_right s rs (WatchRange first end from) few = watch_range_right s rs first end from
+calls_right s rs (Poll watcher most) few = poll_right s rs watcher most
+calls_right s rs (Cancel watcher) few = cancel_right s rs watcher
+calls_right s rs (Compact revision) few = compact_right s rs revision
+calls_right s rs _ few = tt

@@ -1,28 +1,17 @@
 -- What stands escaped has none of the bytes that open or close an element or end an attribute.
-use Rattle.std.proofs.Common.{◌≡◌, ℕ, Bool, true, false, cond, ◌||◌, List, [], ◌∷◌, ◌++◌, nat_eq, codes, refl, ◌∙◌}
+use Rattle.std.proofs.Common.{◌≡◌, ℕ, Bool, true, false, cond, List, [], ◌∷◌, ◌++◌, nat_eq, codes, refl, ◌∙◌, arith}
+use Rattle.std.proofs.lemmas.Bool.{or_from, or_parts}
 use Rattle.stm_formats.specs.FormatEscaped.{entity, escaped}
 use Rattle.stm_report_laws.specs.FormatLaws.{has, NothingUnescaped}
-
-neither : (a b : Bool) → a ≡ false → b ≡ false → (a || b) ≡ false
-neither false b first second = second
-neither true b first second = first
-
-first_of : (a b : Bool) → (a || b) ≡ false → a ≡ false
-first_of false b none = refl
-first_of true b none = none
-
-rest_of : (a b : Bool) → (a || b) ≡ false → b ≡ false
-rest_of false b none = none
-rest_of true b none = cc
 
 pub has-append : (b : ℕ) (xs ys : List ℕ) → has b xs ≡ false → has b ys ≡ false → has b (xs ++ ys) ≡ false
 has-append b [] ys none more = more
 has-append b (x ∷ xs) ys none more =
-    neither (nat_eq x b) (has b (xs ++ ys)) (first_of (nat_eq x b) (has b xs) none) (has-append b xs ys (rest_of (nat_eq x b) (has b xs) none) more)
+    or_from (nat_eq x b) (has b (xs ++ ys)) (or_parts (nat_eq x b) (has b xs) none).0 (has-append b xs ys (or_parts (nat_eq x b) (has b xs) none).1 more)
 
 -- a byte that is none of the five
 plain_byte : (b x : ℕ) (is : Bool) → nat_eq x b ≡ is → is ≡ false → has b (x ∷ []) ≡ false
-plain_byte b x is same other = neither (nat_eq x b) false (same ∙ other) refl
+plain_byte b x is same other = or_from (nat_eq x b) false (same ∙ other) refl
 
 by_tests : (b x : ℕ) (amp less greater double single : Bool) (same : Bool)
     → has b (codes "&amp;") ≡ false → has b (codes "&lt;") ≡ false → has b (codes "&gt;") ≡ false → has b (codes "&quot;") ≡ false → has b (codes "&apos;") ≡ false
@@ -43,36 +32,16 @@ escaped_without b each [] = refl
 escaped_without b each (x ∷ xs) = has-append b (entity x) (escaped xs) (each x) (escaped_without b each xs)
 
 less_test : (less amp greater double single : Bool) → cond amp true (cond less true (cond greater true (cond double true (cond single true (cond less false true))))) ≡ true
-less_test less true greater double single = refl
-less_test true false greater double single = refl
-less_test false false true double single = refl
-less_test false false false true single = refl
-less_test false false false false true = refl
-less_test false false false false false = refl
+less_test less amp greater double single = grind arith
 
 greater_test : (greater amp less double single : Bool) → cond amp true (cond less true (cond greater true (cond double true (cond single true (cond greater false true))))) ≡ true
-greater_test greater true less double single = refl
-greater_test greater false true double single = refl
-greater_test true false false double single = refl
-greater_test false false false true single = refl
-greater_test false false false false true = refl
-greater_test false false false false false = refl
+greater_test greater amp less double single = grind arith
 
 double_test : (double amp less greater single : Bool) → cond amp true (cond less true (cond greater true (cond double true (cond single true (cond double false true))))) ≡ true
-double_test double true less greater single = refl
-double_test double false true greater single = refl
-double_test double false false true single = refl
-double_test true false false false single = refl
-double_test false false false false true = refl
-double_test false false false false false = refl
+double_test double amp less greater single = grind arith
 
 single_test : (single amp less greater double : Bool) → cond amp true (cond less true (cond greater true (cond double true (cond single true (cond single false true))))) ≡ true
-single_test single true less greater double = refl
-single_test single false true greater double = refl
-single_test single false false true double = refl
-single_test single false false false true = refl
-single_test true false false false false = refl
-single_test false false false false false = refl
+single_test single amp less greater double = grind arith
 
 entity_without : (b x : ℕ) → has b (codes "&amp;") ≡ false → has b (codes "&lt;") ≡ false → has b (codes "&gt;") ≡ false → has b (codes "&quot;") ≡ false
     → has b (codes "&apos;") ≡ false

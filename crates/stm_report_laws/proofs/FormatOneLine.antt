@@ -4,6 +4,7 @@ use Rattle.std.proofs.Common.{replicate, true≢false, sym}
 use Rattle.std.proofs.Common.{nat_eq, nat_lt, nat_le, Option, Some, None, codes, decimal, Result, Ok, Err, refl, ap, ◌∙◌, arith}
 use Rattle.std.proofs.lemmas.Bool.Decides.{nat_tests}
 use Rattle.std.specs.Fmt.{digits, digits_onto, digit_glyph}
+use Rattle.std.proofs.lemmas.Bool.{cond-false, or_from, or_parts}
 use Rattle.stm_program.specs.declared.level.Level.{Level}
 use Rattle.stm_program.specs.declared.level.Level.TheVariants.{SerializableSnapshot}
 use Rattle.stm_texts.specs.Grammar.{level_text}
@@ -56,10 +57,6 @@ joined_without (t ∷ ts) all = has-append 10 t (joined ts) all.0 (joined_withou
 
 -- ---- what stands in words
 
-one_without : (b : Bool) (rest : Bool) → b ≡ false → rest ≡ false → (b || rest) ≡ false
-one_without false rest first second = second
-one_without true rest first second = first
-
 -- what is no control character is no line feed
 other_by : (control delete : Bool) (x : ℕ) (rest : ℕ) → nat_lt x 32 ≡ control → nat_eq (cond (control || delete) 1 rest) 0 ≡ true → nat_eq x 10 ≡ false
 other_by true delete x rest is none = absurd (true≢false (sym none))
@@ -72,12 +69,12 @@ digit_without false n = grind (arith, nat_tests)
 
 coded_without : (b : ℕ) → has 10 (coded b) ≡ false
 coded_without b =
-    one_without (nat_eq (digit (b / 16)) 10) (nat_eq (digit (b % 16)) 10 || false) (digit_without (nat_lt (b / 16) 10) (b / 16))
-    (one_without (nat_eq (digit (b % 16)) 10) false (digit_without (nat_lt (b % 16) 10) (b % 16)) refl)
+    or_from (nat_eq (digit (b / 16)) 10) (nat_eq (digit (b % 16)) 10 || false) (digit_without (nat_lt (b / 16) 10) (b / 16))
+    (or_from (nat_eq (digit (b % 16)) 10) false (digit_without (nat_lt (b % 16) 10) (b % 16)) refl)
 
 spelled_by : (doubled : Bool) (b : ℕ) → nat_eq b 10 ≡ false → has 10 (cond doubled (92 ∷ 92 ∷ []) (b ∷ [])) ≡ false
 spelled_by true b other = refl
-spelled_by false b other = one_without (nat_eq b 10) false other refl
+spelled_by false b other = or_from (nat_eq b 10) false other refl
 
 byte_without : (exact : Bool) (hidden b : ℕ) → (nat_eq hidden 0 ≡ true → nat_eq b 10 ≡ false) → has 10 (byte_text exact hidden b) ≡ false
 byte_without exact zero b other = spelled_by (exact && nat_eq b 92) b (other refl)
@@ -124,7 +121,7 @@ glyph_by false d = grind (arith, nat_tests)
 
 digits_by : (b : Bool) (glyph : ℕ) (acc more : List ℕ) → nat_eq glyph 10 ≡ false → has 10 acc ≡ false → has 10 more ≡ false
     → has 10 (cond b (glyph ∷ acc) more) ≡ false
-digits_by true glyph acc more other none rest = one_without (nat_eq glyph 10) (has 10 acc) other none
+digits_by true glyph acc more other none rest = or_from (nat_eq glyph 10) (has 10 acc) other none
 digits_by false glyph acc more other none rest = rest
 
 digits_without : (k n : ℕ) (acc : List ℕ) → has 10 acc ≡ false → has 10 (digits_onto k 10 false n acc) ≡ false
@@ -132,7 +129,7 @@ digits_without zero n acc none = none
 digits_without (suc k) n acc none =
     let glyph : nat_eq (digit_glyph false (n % 10)) 10 ≡ false = glyph_by (nat_lt (n % 10) 10) (n % 10) in
     digits_by (n / 10 == 0) (digit_glyph false (n % 10)) acc (digits_onto k 10 false (n / 10) (digit_glyph false (n % 10) ∷ acc)) glyph none
-    (digits_without k (n / 10) (digit_glyph false (n % 10) ∷ acc) (one_without (nat_eq (digit_glyph false (n % 10)) 10) (has 10 acc) glyph none))
+    (digits_without k (n / 10) (digit_glyph false (n % 10) ∷ acc) (or_from (nat_eq (digit_glyph false (n % 10)) 10) (has 10 acc) glyph none))
 
 decimal_without : (n : ℕ) → has 10 (decimal n) ≡ false
 unfolding digits
@@ -358,23 +355,11 @@ tag_without : (lane : Lane) → has 10 (tag_text lane) ≡ false
 tag_without Store = refl
 tag_without (Runner runner) = tag_by _ runner
 
-count_by : (b : Bool) (n : ℕ) → b ≡ false → cond b (n + 1) n ≡ n
-count_by false n is = refl
-count_by true n is = cc
-
-first_of : (a b : Bool) → (a || b) ≡ false → a ≡ false
-first_of false b none = refl
-first_of true b none = none
-
-rest_of : (a b : Bool) → (a || b) ≡ false → b ≡ false
-rest_of false b none = none
-rest_of true b none = cc
-
 -- a text without line feeds before another
 count-before : (xs ys : List ℕ) → has 10 xs ≡ false → count 10 (xs ++ ys) ≡ count 10 ys
 count-before [] ys none = refl
 count-before (x ∷ xs) ys none =
-    count_by (nat_eq x 10) (count 10 (xs ++ ys)) (first_of (nat_eq x 10) (has 10 xs) none) ∙ count-before xs ys (rest_of (nat_eq x 10) (has 10 xs) none)
+    cond-false (nat_eq x 10) (count 10 (xs ++ ys) + 1) (count 10 (xs ++ ys)) (or_parts (nat_eq x 10) (has 10 xs) none).0 ∙ count-before xs ys (or_parts (nat_eq x 10) (has 10 xs) none).1
 
 line_by : (b : Bool) (n m : ℕ) → cond b ((n + m) + 1) (n + m) ≡ cond b (n + 1) n + m
 line_by true n m = omega arith
@@ -384,7 +369,8 @@ count-append : (xs ys : List ℕ) → count 10 (xs ++ ys) ≡ count 10 xs + coun
 count-append [] ys = omega arith
 count-append (x ∷ xs) ys = ap (λ (n : ℕ). cond (nat_eq x 10) (n + 1) n) (count-append xs ys) ∙ line_by (nat_eq x 10) (count 10 xs) (count 10 ys)
 
-one_line : (cuts : Cuts) (labels : List RunnerLabel) (places : List ℕ) (n : ℕ) (h : History) (before : ℕ) (e : WorldEvent) (reply : Result Reply Denied) → count 10 (row_text places (row_of cuts labels h before n e reply)) ≡ 1
+one_line : (cuts : Cuts) (labels : List RunnerLabel) (places : List ℕ) (n : ℕ) (h : History) (before : ℕ) (e : WorldEvent)
+    (reply : Result Reply Denied) → count 10 (row_text places (row_of cuts labels h before n e reply)) ≡ 1
 one_line cuts labels places n h before e reply =
     let at : ℕ = 2 + place places (column (lane_of e reply)) in
     let indent = spaces at in

@@ -6,6 +6,7 @@ pub mod CommitsReported
 pub mod LinesRight
 pub mod Checks
 pub mod SmallRuns
+pub mod Plain
 pub mod SmallStores
 pub mod SmallReplies
 pub mod SmallSteps

@@ -12,7 +12,7 @@ use Rattle.stm_entries.specs.declared.entry.Entry.{Entry}
 use Rattle.stm_events.specs.declared.line.ReportLine.{ReportLine}
 use Rattle.stm_events.specs.declared.line.ReportLine.TheVariants.{Event}
 use Rattle.stm_events.specs.declared.event.WorldEvent.{WorldEvent}
-use Rattle.stm_events.specs.declared.event.WorldEvent.TheVariants.{Start, Step, Txn, Grant, Keep, Revoke, Advance, WatchKey, WatchRange, Poll, Cancel, Compact}
+use Rattle.stm_events.specs.declared.event.WorldEvent.TheVariants.{Start, Step}
 use Rattle.stm_events.specs.declared.reply.Reply.{Reply}
 use Rattle.stm_events.specs.declared.reply.Reply.TheVariants.{Started, Prefetched, Fetched, Committed, Conflict, GaveUp, Aborted, Faulted, Ended}
 use Rattle.stm_events.specs.declared.refusal.Denied.{Denied}
@@ -41,8 +41,7 @@ use Rattle.stm_report.specs.Report.{event_lines}
 use Rattle.stm_report_laws.proofs.RunsReported.{RunsAreReported, none_are_reported, run_with, runs_with}
 use Rattle.stm_report_laws.proofs.RunsReported.{same_runs, quiet_runs, Goes, goes_on, ended_runs, failed_runs, begun_runs}
 use Rattle.stm_world.proofs.EventKeeps.{store_limit}
-use Rattle.stm_report_laws.proofs.CallsReported.{unwatched, CallIsRight, txn_right, grant_right, keep_right, revoke_right, advance_right, compact_right}
-use Rattle.stm_report_laws.proofs.CallsReported.{watch_key_right, watch_range_right, poll_right, cancel_right}
+use Rattle.stm_report_laws.proofs.CallsReported.{unwatched, CallIsRight, calls_right}
 use Rattle.stm_report_laws.proofs.CommitsReported.{IsCommitLine, commit_right, commit_store}
 
 -- ---- a point, by the log so far
@@ -269,26 +268,8 @@ event_goes start n log rs (Start program level limit) reply reported fresh known
     start_goes start n log rs (record { program = program; level = level; limit = limit }) reply reported fresh right
 event_goes start n log rs (Step id) reply reported fresh known right =
     runner_goes start n log rs id (running id log) reply reported refl known right
-event_goes start n log rs (Txn txn) reply reported fresh known right =
-    call_goes start n log rs (Txn txn) reply refl right reported (txn_right (store start log) rs txn (store_limit start log))
-event_goes start n log rs (Grant id ttl) reply reported fresh known right =
-    call_goes start n log rs (Grant id ttl) reply refl right reported (grant_right (store start log) rs id ttl)
-event_goes start n log rs (Keep id) reply reported fresh known right =
-    call_goes start n log rs (Keep id) reply refl right reported (keep_right (store start log) rs id)
-event_goes start n log rs (Revoke id) reply reported fresh known right =
-    call_goes start n log rs (Revoke id) reply refl right reported (revoke_right (store start log) rs id)
-event_goes start n log rs (Advance moment) reply reported fresh known right =
-    call_goes start n log rs (Advance moment) reply refl right reported (advance_right (store start log) rs moment)
-event_goes start n log rs (Compact revision) reply reported fresh known right =
-    call_goes start n log rs (Compact revision) reply refl right reported (compact_right (store start log) rs revision)
-event_goes start n log rs (WatchKey key from) reply reported fresh known right =
-    call_goes start n log rs (WatchKey key from) reply refl right reported (watch_key_right (store start log) rs key from)
-event_goes start n log rs (WatchRange first end from) reply reported fresh known right =
-    call_goes start n log rs (WatchRange first end from) reply refl right reported (watch_range_right (store start log) rs first end from)
-event_goes start n log rs (Poll watcher most) reply reported fresh known right =
-    call_goes start n log rs (Poll watcher most) reply refl right reported (poll_right (store start log) rs watcher most)
-event_goes start n log rs (Cancel watcher) reply reported fresh known right =
-    call_goes start n log rs (Cancel watcher) reply refl right reported (cancel_right (store start log) rs watcher)
+event_goes start n log rs event reply reported fresh known right =
+    call_goes start n log rs event reply refl right reported (calls_right (store start log) rs event (store_limit start log))
 
 -- ---- all lines
 

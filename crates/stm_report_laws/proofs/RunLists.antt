@@ -1,7 +1,7 @@
 -- The runners that a check knows, by their numbers.
 use Rattle.std.proofs.Common.{◌≡◌, ◌≢◌, ℕ, ◌+◌, ◌-◌, ◌<◌, zero, suc, List, [], ◌∷◌, ◌++◌, length, Option, Some, None, Bool, true, false, cond, refl}
 use Rattle.std.proofs.Common.{◌∙◌, ap, arith}
-use Rattle.std.proofs.lemmas.List.{length-append}
+use Rattle.std.proofs.lemmas.List.{length-set}
 use Rattle.std.proofs.lemmas.Option.{slice_get_within}
 use Rattle.std.specs.Prelude.{nat_eq, slice_get, slice_set}
 use Rattle.stm_world.proofs.Slots.{other_number, differ}
@@ -20,12 +20,6 @@ other_place (x ∷ rs) zero zero r ne = absurd (ne refl)
 other_place (x ∷ rs) zero (suc j) r ne = refl
 other_place (x ∷ rs) (suc i) zero r ne = refl
 other_place (x ∷ rs) (suc i) (suc j) r ne = other_place rs i j r (λ e. ne (ap suc e))
-
-pub length_set : {X : Type 0} (xs : List X) (i : ℕ) (x : X) → length (slice_set xs i x) ≡ length xs
-length_set [] zero x = refl
-length_set [] (suc i) x = refl
-length_set (y ∷ xs) zero x = refl
-length_set (y ∷ xs) (suc i) x = ap suc (length_set xs i x)
 
 new_place : (rs : List Runner) (r : Runner) → slice_get (rs ++ r ∷ []) (length rs) ≡ Some r
 new_place [] r = refl
@@ -102,7 +96,7 @@ changed_other id other rs r change found ne =
 pub changed_count : (id : ℕ) (rs : List Runner) (r : Runner) (change : Runner → Runner) → running id rs ≡ Some r →
     length (with_runner id change rs) ≡ length rs
 changed_count id rs r change found =
-    ap (λ (list : List Runner). length list) (changed_is id rs r change (is_there id rs r found)) ∙ length_set rs (id - 1) (change r)
+    ap (λ (list : List Runner). length list) (changed_is id rs r change (is_there id rs r found)) ∙ length-set rs (id - 1) (change r)
 
 -- ---- one runner more
 
@@ -117,6 +111,3 @@ added_own rs r =
 pub added_other : (rs : List Runner) (r : Runner) (other : ℕ) → other ≢ length rs + 1 → running other (rs ++ r ∷ []) ≡ running other rs
 added_other rs r other ne =
     alike other (slice_get (rs ++ r ∷ []) (other - 1)) (slice_get rs (other - 1)) (λ some. old_place rs r (other - 1) (omega arith))
-
-pub added_count : (rs : List Runner) (r : Runner) → length (rs ++ r ∷ []) ≡ length rs + 1
-added_count rs r = length-append rs (r ∷ [])

@@ -1,6 +1,7 @@
 -- What a check knows of the runners is what the log so far says of them, whatever the next line is about.
 use Rattle.std.proofs.Common.{◌≡◌, ℕ, ◌+◌, List, [], ◌∷◌, ◌++◌, length, Option, Some, None, Ok, Bool, true, false, cond, refl, sym, ◌∙◌, ap, subst}
 use Rattle.std.specs.Prelude.{nat_eq, option_map, Result, ◌||◌}
+use Rattle.std.proofs.lemmas.List.{length_push}
 use Rattle.stm_txn.specs.Standing.{Setup}
 use Rattle.stm_events.specs.declared.event.WorldEvent.TheVariants.{Start}
 use Rattle.stm_events.specs.declared.reply.Reply.{Reply}
@@ -14,7 +15,7 @@ use Rattle.stm_world.proofs.Slots.{equal_numbers, same_number, differ}
 use Rattle.stm_world.proofs.Untouched.{IsFresh, SaysNothing as IsAboutNone, same_running, same_failures}
 use Rattle.stm_check.specs.declared.runner.Runner.{Runner}
 use Rattle.stm_check.specs.Runners.{running as running_in, begun as begun_run, unless_over, ended, with_conflict, with_runner}
-use Rattle.stm_report_laws.proofs.RunLists.{changed_own, changed_other, changed_count, added_own, added_other, added_count}
+use Rattle.stm_report_laws.proofs.RunLists.{changed_own, changed_other, changed_count, added_own, added_other}
 
 -- a run of this task with that many conflicts
 abbrev pub run_with : ℕ → Task → Runner
@@ -131,7 +132,7 @@ begun_runs start log rs task fresh reported =
     let line : Line = record { event = Start task.program task.level task.limit; reply = Ok (Started id) } in
     let next : length rs + 1 ≡ id = ap (λ n. n + 1) reported.count in
     record {
-      count = added_count rs r ∙ next;
+      count = length_push rs r ∙ next;
       runs = by_id (λ other. running_in other (rs ++ r ∷ []) ≡ runs_with (failures other (line ∷ log)) (running other (line ∷ log))) id
           (subst (λ n. running_in n (rs ++ r ∷ []) ≡ Some r) next (added_own rs r)
           ∙ sym (ap (λ (b : Bool). runs_with (failures id log) (cond b None (cond (nat_eq id id) (Some task) (begun id log)))) fresh.not_over

@@ -48,9 +48,8 @@ lines_readable s asks =
     let count : length s.events ≤ MOST_EVENTS = asks.count in
     let each : length replies ≡ length s.events = one_reply s.events (opened start) in
     let run : RunFits (0 + length s.events) replies w = run_fits_from 0 s.events (opened start) (opened_fits start asks.opens) (omega (arith, count)) asks.events in
-    let entries : length w.entries + finmap.len w.standing.live ≤ (0 + length s.events) + (0 + length s.events) = run.world.entries in
     all_append IsReadable (event_lines 1 replies) (end_lines w.standing (length w.entries)) (events_readable 1 replies (omega (arith, count, each)) run.replies)
-    (end_readable w.standing (length w.entries) run.world.small (omega (arith, count, entries)))
+    (end_readable w.standing (length w.entries) run.world.small (omega (arith, count, run.world.entries)))
 
 -- ---- it is read
 

@@ -4,7 +4,7 @@ use Rattle.std.proofs.Common.{subst, arith, Option, Some, None, Ok, Err}
 use Rattle.std.specs.Prelude.{Result, nat_eq, nat_lt, slice_set, slice_index_or, option_map}
 use Rattle.std.specs.FinMap as finmap
 use Rattle.std.specs.Cmp.{nat_cmp_total}
-use Rattle.std.proofs.lemmas.List.{length-append, length-map}
+use Rattle.std.proofs.lemmas.List.{length-append, length-map, length-set}
 use Rattle.stm_history.specs.declared.revisions.TheConstants.{HIGHEST_NUMBER}
 use Rattle.stm_history.specs.History.{History, now}
 use Rattle.stm_leases.specs.LeaseLog.{Term}
@@ -15,7 +15,7 @@ use Rattle.stm_watch.specs.Calls.{watcher_at, poll_found, compacted_one, compact
 use Rattle.stm_watch.specs.Pending.{watching_from, batch_of, after_poll}
 use Rattle.stm_outcome.specs.declared.advance.Expired.{Expired}
 use Rattle.stm_outcome.specs.declared.refusal.Refusal.{Refusal as StoreRefusal}
-use Rattle.stm_outcome.specs.declared.refusal.Refusal.TheVariants.{RevisionsUsedUp}
+use Rattle.stm_outcome.specs.declared.refusal.Refusal.TheVariants.{RevisionsUsedUp, TimeGoesBack}
 use Rattle.stm_outcome.specs.declared.txn.Txn.{Txn as StoreTxn}
 use Rattle.stm_outcome.specs.Numbers.{ExpiredFits}
 use Rattle.stm_outcome.specs.Outcome.{Done, is_used_up}
@@ -30,16 +30,16 @@ use Rattle.stm_entries.specs.Alone.{history_left}
 use Rattle.stm_entries.specs.Entered.{expiries}
 use Rattle.stm_events.specs.declared.reply.Reply.{Reply}
 use Rattle.stm_events.specs.declared.refusal.Denied.{Denied}
-use Rattle.stm_events.specs.Replies.{advance_reply}
+use Rattle.stm_events.specs.Replies.{event_refusal, advance_reply}
 use Rattle.stm_events.specs.Called.{Call, Poll, Called, called, entered}
 use Rattle.stm_events.proofs.CallMeans.{CallMeans, call_means}
 use Rattle.stm_world.specs.World.{World, after_call}
 use Rattle.stm_world.specs.Sound.{IsSound}
-use Rattle.stm_report_laws.proofs.RunLists.{length_set}
 use Rattle.stm_report_laws.proofs.SmallRuns.{all_append}
 use Rattle.stm_report_laws.proofs.SmallStores.{IsSmall, HistoryFits, id_fits, outcome_fits, granted_in_range, with_small, without_small}
 use Rattle.stm_report_laws.proofs.SmallStores.{WatcherFits, WatchersFit, watchers_set, watching_fits, upto_fits}
-use Rattle.stm_report_laws.proofs.SmallReplies.{Few, AnswerToFits, CallAsksFew, WorldFits, low_fits, txn_reply_fits, StepFits}
+use Rattle.stm_report_laws.proofs.Plain.{Few, plain, line_of, and_number, and_text}
+use Rattle.stm_report_laws.proofs.SmallReplies.{AnswerToFits, CallAsksFew, WorldFits, low_fits, txn_fits, refused_fits, advanced_fits, batch_told, StepFits}
 
 -- ---- the calls of the store
 
@@ -53,10 +53,6 @@ pub record CallFits (n : ℕ) (before after : Standing) (more : List Entry) : Ty
 pub called_fits : (n : ℕ) (w : World) (reply : Result Reply Denied) (next : Standing) (more : List Entry) → WorldFits n w → AnswerToFits reply →
     CallFits n w.standing next more → IsSound (after_call reply next more w).next → StepFits n (after_call reply next more w)
 called_fits n w reply next more fits one call sound =
-    let started : length w.runners ≤ n = fits.started in
-    let entries : length w.entries + finmap.len w.standing.live ≤ n + n = fits.entries in
-    let grown : length (w.entries ++ more) ≡ length w.entries + length more = length-append w.entries more in
-    let entered : length more + finmap.len next.live ≤ finmap.len w.standing.live + 2 = call.entered in
     record {
       reply = one;
       next = record {
@@ -64,9 +60,9 @@ called_fits n w reply next more fits one call sound =
         small = call.small;
         watchers = call.watchers;
         watching = call.watching;
-        started = omega (arith, started);
+        started = omega (arith, fits.started);
         runners = fits.runners;
-        entries = omega (arith, entries, grown, entered);
+        entries = omega (arith, fits.entries, length-append w.entries more, call.entered);
       };
     }
 
@@ -116,8 +112,10 @@ ends_by s id room = ap (ended_by s id) room
 
 one_more_fits : (moment : ℕ) (e : Expired) (es : List Expired) (cause : Option StoreRefusal) → ExpiredFits e → AnswerToFits (advance_reply moment es cause) →
     AnswerToFits (advance_reply moment (e ∷ es) cause)
-one_more_fits moment e es None one fits = (fits.0, (one, fits.1))
-one_more_fits moment e es (Some cause) one fits = (one, fits)
+one_more_fits moment e es None one fits =
+    line_of (fits.0.1.1.0, (((plain e.id one.0, (plain e.revision one.1, tt)), fits.0.1.1.1.0), tt))
+one_more_fits moment e es (Some cause) one fits =
+    line_of (and_text (((plain e.id one.0, (plain e.revision one.1, tt)), fits.0.1.1.1.0), tt))
 
 -- ---- watchers
 
@@ -151,8 +149,7 @@ with_others n s ws fit few small many = record {
 set_one : (n : ℕ) (s : Standing) (id : ℕ) (w : Option Watching) → WatcherFits w → IsSmall s → WatchersFit s.watchers → length s.watchers ≤ n →
     CallFits n s (with_watchers s (slice_set s.watchers (id - 1) w)) []
 set_one n s id w fits small watchers many =
-    let same : length (slice_set s.watchers (id - 1) w) ≡ length s.watchers = length_set s.watchers (id - 1) w in
-    with_others n s (slice_set s.watchers (id - 1) w) (watchers_set s.watchers (id - 1) w watchers fits) (omega (arith, same)) small many
+    with_others n s (slice_set s.watchers (id - 1) w) (watchers_set s.watchers (id - 1) w watchers fits) (omega (arith, length-set s.watchers (id - 1) w)) small many
 
 polled_is : (s : Standing) (id most : ℕ) (w : Watching) → watcher_at id s.watchers ≡ Some w → w.lost ≡ false →
     polled s id most ≡ Ok record {
@@ -171,10 +168,10 @@ polled_is s id most w found lost =
 -- where the number of one more watcher fits
 fits_on : (n : ℕ) → Few (suc n) → CallMeans CallAsksFew (Fits n)
 fits_on n last = record {
-  stays = λ s c cause of other small watchers many reached. (tt, still n s small watchers many);
+  stays = λ s c cause of other small watchers many reached. (refused_fits (event_refusal cause) [] tt, still n s small watchers many);
   made = λ s txn done of is small watchers many reached.
       let came : transacted s txn ≡ Ok record { answer = done.answer; next = with_history s done.history } = ap (step_of s) is in (
-        txn_reply_fits done.answer (numbers_fit s (with_history s done.history) txn done.answer small.history.1 small.history.0 small.live came),
+        txn_fits done.answer (numbers_fit s (with_history s done.history) txn done.answer small.history.1 small.history.0 small.live came),
         record {
           small = record {
             history = subst (λ (x : Result Done StoreRefusal). HistoryFits (history_left s.history x)) is (outcome_fits s txn small.live small.history);
@@ -189,33 +186,32 @@ fits_on n last = record {
       );
   granted = λ s id ttl of is small watchers many reached.
       let ranges = granted_in_range s.live id ttl is in (
-        id_fits id ranges.0,
+        line_of (and_number id (id_fits id ranges.0) tt),
         with_leases n s (with_lease s id ttl) (GrantEntry id ttl s.moment) (with_small s id ttl ranges.0 ranges.1 small) refl
             (renewed_count s.live id (record { ttl = ttl; renewed = s.moment }) (GrantEntry id ttl s.moment)) watchers many,
       );
   renewed = λ s id term of is small watchers many reached.
       let ranges = small.live id term is in (
-        of,
+        line_of (and_number id of tt),
         with_leases n s (with_lease s id term.ttl) (Renew id s.moment) (with_small s id term.ttl ranges.0 ranges.1 small) refl
             (renewed_count s.live id (record { ttl = term.ttl; renewed = s.moment }) (Renew id s.moment)) watchers many,
       );
   revoked = λ s id of live room small watchers many reached.
       let less : IsSmall (without_lease s id) = without_small s id small room in
       let fewer : finmap.len s.live ≡ suc (finmap.len (finmap.remove s.live id)) = one_fewer s.live id live in (
-        (of, low_fits (without_lease s id).history less.history),
+        line_of (and_number id of (and_number (now (without_lease s id).history) (low_fits (without_lease s id).history less.history) tt)),
         with_leases n s (without_lease s id) (RevokeEntry id) less refl (omega (arith, fewer)) watchers many,
       );
-  went_back = λ s moment of back small watchers many reached. (tt, still n s small watchers many);
+  went_back = λ s moment of back small watchers many reached. (refused_fits (event_refusal TimeGoesBack) [] tt, still n s small watchers many);
   moved = λ s moment a of forward rest small watchers many reached.
       let r = rest (record { history = small.history; live = small.live; renewed = small.renewed; moment = of }) watchers many tt in
       (r.0, record { small = r.1.small; watchers = r.1.watchers; watching = r.1.watching; entered = r.1.entered });
-  rested = λ s moment of at small watchers many reached. ((of, tt), still n s small watchers many);
-  stuck = λ s moment of at small watchers many reached. (tt, still n s small watchers many);
+  rested = λ s moment of at small watchers many reached. (advanced_fits moment [] None of tt, still n s small watchers many);
+  stuck = λ s moment of at small watchers many reached. (refused_fits (event_refusal RevisionsUsedUp) [] tt, still n s small watchers many);
   expired = λ s moment id a of at live room rest small watchers many reached.
       let r = rest (without_small s id small room) watchers many tt in
-      let fewer : finmap.len s.live ≡ suc (finmap.len (finmap.remove s.live id)) = one_fewer s.live id live in
       let count : length (expiries a.expired) + finmap.len a.leaves.live ≤ finmap.len (finmap.remove s.live id) + 2 = r.1.entered in
-      let more : length (Expire id ∷ expiries a.expired) + finmap.len a.leaves.live ≤ finmap.len s.live + 2 = omega (arith, fewer, count) in (
+      let more : length (Expire id ∷ expiries a.expired) + finmap.len a.leaves.live ≤ finmap.len s.live + 2 = omega (arith, one_fewer s.live id live, count) in (
         one_more_fits moment (expired_in id (without_lease s id)) a.expired a.cause
             (expired_fits s (without_lease s id) id small.history.1 small.live live (ends_by s id room)) r.0,
         record { small = r.1.small; watchers = r.1.watchers; watching = r.1.watching; entered = more },
@@ -223,24 +219,24 @@ fits_on n last = record {
   watching = λ s keys from of small watchers many reached.
       let one : Option Watching = Some (watching_from s.history s.floor keys from) in
       let grown : length (s.watchers ++ one ∷ []) ≡ length s.watchers + length (one ∷ []) = length-append s.watchers (one ∷ []) in (
-        omega (arith, many, last),
+        line_of (and_number (length s.watchers + 1) (omega (arith, many, last)) tt),
         with_others n s (s.watchers ++ one ∷ []) (all_append WatcherFits s.watchers (one ∷ []) watchers (watching_fits s.history s.floor keys from small.history.1 of, tt))
             (omega (arith, grown)) small many,
       );
   polled = λ s id most w of found lost small watchers many reached.
       let next : Standing = with_watchers s (slice_set s.watchers (id - 1) (Some (after_poll most s.history w))) in
       let upto : Few (batch_of most s.history w).upto = upto_fits most s.history w small.history.1 (watcher_found id s.watchers w watchers found) in (
-        (of, upto, batch_fits s next id most (batch_of most s.history w) small.history.1 small.history.0 (polled_is s id most w found lost)),
+        batch_told id (batch_of most s.history w) of upto
+            (batch_fits s next id most (batch_of most s.history w) small.history.1 small.history.0 (polled_is s id most w found lost)),
         set_one n s id (Some (after_poll most s.history w)) upto small watchers many,
       );
   lost = λ s id most w of found is small watchers many reached.
-      let low : Few (now s.history) = low_fits s.history small.history in
       let come : s.floor ≤ now s.history = reached in
-      ((of, omega (arith, low, come)), set_one n s id None tt small watchers many);
-  cancelled = λ s id of small watchers many reached. (of, set_one n s id None tt small watchers many);
+      (line_of (and_number id of (and_number s.floor (omega (arith, low_fits s.history small.history, come)) tt)), set_one n s id None tt small watchers many);
+  cancelled = λ s id of small watchers many reached. (line_of (and_number id of tt), set_one n s id None tt small watchers many);
   raised = λ s revision of above future small watchers many reached.
       let same : length (compacted s.history revision s.watchers) ≡ length s.watchers = length-map s.watchers (option_map (compacted_one s.history revision)) in (
-        of,
+        line_of (and_number revision of tt),
         record {
           small = record { history = small.history; live = small.live; renewed = small.renewed; moment = small.moment };
           watchers = compacted_fit s.history revision s.watchers watchers;

@@ -23,8 +23,7 @@ literals_by (key ∷ keys) statements fits = fits.1.ranges
 
 event_asks_few : (d : Data) (event : WorldEvent) → SpellsEvent d event → EventAsksFew event
 event_asks_few d (Start program level limit) (a, b, c, is, level_is, limit_is, spelled, fits) =
-    let few : limit ≤ 4294967295 = limit_is.2 in
-    (omega (arith, few), literals_by program.prefetch program.statements fits)
+    (omega (arith, limit_is.2), literals_by program.prefetch program.statements fits)
 event_asks_few d (Step runner) (a, is, number) = number.2
 event_asks_few d (Txn txn) spelled = tt
 event_asks_few d (Grant id ttl) spelled = tt

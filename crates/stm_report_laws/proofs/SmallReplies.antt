@@ -14,6 +14,10 @@ use Rattle.stm_history.specs.History.{History, now, key_at, key_now, mod_of, num
 use Rattle.stm_history.proofs.HistoryLaws.{mod_is_reached}
 use Rattle.stm_program.specs.Limits.{BlockInRange}
 use Rattle.stm_steps.specs.Answer.{Answer}
+use Rattle.serde_json.specs.View.{items_of}
+use Rattle.stm_watch.specs.declared.watchers.Batch.{Batch}
+use Rattle.stm_outcome.specs.declared.advance.Expired.{Expired}
+use Rattle.stm_outcome.specs.declared.refusal.Refusal.{Refusal as StoreRefusal}
 use Rattle.stm_outcome.specs.declared.answer.FailedCompare.{FailedCompare}
 use Rattle.stm_outcome.specs.declared.answer.OpAnswer.{OpAnswer}
 use Rattle.stm_outcome.specs.declared.answer.OpAnswer.TheVariants as answer
@@ -28,71 +32,30 @@ use Rattle.stm_compile.specs.CommitTxn.{first_carried}
 use Rattle.stm_events.specs.declared.event.WorldEvent.{WorldEvent}
 use Rattle.stm_events.specs.Called.{Call, Txn, Grant, Keep, Revoke, Advance, Watch, Poll, Cancel, Compact, Asked, Starts, Steps, Calls, asked}
 use Rattle.stm_events.specs.declared.reply.Reply.{Reply}
-use Rattle.stm_events.specs.declared.reply.KeyRead.{KeyRead}
-use Rattle.stm_events.specs.declared.reply.CommittedRead.{CommittedRead}
-use Rattle.stm_events.specs.declared.reply.OpReply.{OpReply}
-use Rattle.stm_events.specs.declared.reply.OpReply.TheVariants as op
-use Rattle.stm_events.specs.declared.reply.Reply.TheVariants.{Started, Prefetched, Fetched, Committed, Conflict, GaveUp, Aborted, Faulted, Ended}
-use Rattle.stm_events.specs.declared.reply.Reply.TheVariants.{Txn as TxnDone, Granted, Kept, Revoked, Advanced, Compacted, Watching as WatchingReply, Batch as BatchReply}
-use Rattle.stm_events.specs.declared.reply.Reply.TheVariants.{Lost, Cancelled}
 use Rattle.stm_events.specs.declared.refusal.Denied.{Denied}
-use Rattle.stm_events.specs.Replies.{committed_read, op_reply, txn_reply}
+use Rattle.stm_events.specs.declared.refusal.EventRefusal.{EventRefusal}
+use Rattle.stm_events.specs.declared.line.ReportLine.TheVariants.{Event}
+use Rattle.stm_events.specs.Replies.{committed_read, op_reply, txn_reply, event_refusal, advance_reply, batch_reply}
 use Rattle.stm_world.specs.Task.{modified_now}
 use Rattle.stm_world.specs.World.{World, Runner, Slot, Stepped, runner_at}
 use Rattle.stm_world.specs.Sound.{IsSound}
-use Rattle.stm_report_laws.proofs.SmallRuns.{ValuesFit, ItemsFit, all_append}
+use Rattle.stm_report_lines.specs.Grammar.{AllCountsFit}
+use Rattle.stm_report_lines.specs.LineData.{answer_data, op_data, read_data}
+use Rattle.stm_report_lines.specs.ReadBack.{ArePlain}
+use Rattle.stm_report_laws.specs.ReadBack.{IsReadable}
+use Rattle.stm_report_laws.proofs.Plain.{Few, plain, text_plain, state_or_null_plain, expireds_plain, events_plain, zero_plain, line_of, and_number, and_text}
+use Rattle.stm_report_laws.proofs.SmallRuns.{all_append}
 use Rattle.stm_report_laws.proofs.SmallStores.{IsSmall, HistoryFits, WatchersFit, either}
 
-abbrev pub Few : ℕ → Type 0
-Few n = n ≤ HIGHEST_NUMBER
-
 -- ---- what fits
-
-abbrev pub KeyReadsFit : List KeyRead → Type 0
-KeyReadsFit = AllByRecursion (λ (r : KeyRead). Few r.mod_rev)
 
 -- what answers show
 abbrev pub AnswersFit : List ReadAnswer → Type 0
 AnswersFit = AllByRecursion (λ (a : ReadAnswer). Few (mod_of a.kv) × Few a.of_rev)
 
--- what is reported of a commit's answers
-abbrev pub CommittedReadsFit : List CommittedRead → Type 0
-CommittedReadsFit = AllByRecursion (λ (r : CommittedRead). Few r.mod_rev × Few r.of_rev)
-
--- what is reported of a transaction's answers
-abbrev pub OpReplyFits : OpReply → Type 0
-OpReplyFits (op.Get revision kv) = (revision ≤ HIGHEST_NUMBER) × IfSome kv StateFits
-OpReplyFits op.Put = Unit {0}
-OpReplyFits (op.Del count) = count ≤ 1
-
-abbrev pub OpRepliesFit : List OpReply → Type 0
-OpRepliesFit = AllByRecursion OpReplyFits
-
-abbrev pub ReplyFits : Reply → Type 0
-ReplyFits (Started runner) = Few runner
-ReplyFits (Prefetched runner revision reads) = Few runner × Few revision × KeyReadsFit reads
-ReplyFits (Fetched runner key mod_rev of_rev revision) = Few runner × Few mod_rev × Few of_rev × Few revision
-ReplyFits (Committed runner revision attempts output trace answers) =
-    Few runner × Few revision × Few attempts × ValuesFit output × ItemsFit trace × CommittedReadsFit answers
-ReplyFits (Conflict runner key seen now_modified) = Few runner × Few seen × Few now_modified
-ReplyFits (GaveUp runner attempts key seen now_modified) = Few runner × Few attempts × Few seen × Few now_modified
-ReplyFits (Aborted runner text) = Few runner
-ReplyFits (Faulted runner fault) = Few runner
-ReplyFits (Ended runner cause) = Few runner
-ReplyFits (TxnDone succeeded revision answers) = Few revision × OpRepliesFit answers
-ReplyFits (Granted id) = Few id
-ReplyFits (Kept id) = Few id
-ReplyFits (Revoked id revision) = Few id × Few revision
-ReplyFits (Advanced moment expired) = Few moment × AllExpiredFit expired
-ReplyFits (Compacted revision) = Few revision
-ReplyFits (WatchingReply watcher) = Few watcher
-ReplyFits (BatchReply watcher upto events) = Few watcher × Few upto × EventsFit events
-ReplyFits (Lost watcher floor) = Few watcher × Few floor
-ReplyFits (Cancelled watcher) = Few watcher
-
+-- the numbers of the line of a reply, whatever the number of its event
 abbrev pub AnswerToFits : Result Reply Denied → Type 0
-AnswerToFits (Ok reply) = ReplyFits reply
-AnswerToFits (Err denied) = AllExpiredFit denied.expired
+AnswerToFits reply = IsReadable (Event 0 reply)
 
 abbrev pub RepliesFit : List (Result Reply Denied) → Type 0
 RepliesFit = AllByRecursion AnswerToFits
@@ -151,9 +114,7 @@ mod_fits h key r fits = mod_by (key_at h key r) (states_fit h fits.1 fits.0 key 
 
 mod_now_fits : (h : History) (key : List ℕ) → HistoryFits h → Few (mod_of (key_now h key))
 mod_now_fits h key fits =
-    let low : now h ≤ HIGHEST_REVISION = fits.1 in
-    let reached : mod_of (key_now h key) ≤ now h = mod_is_reached h.opening key h.revisions in
-    omega (arith, low, reached)
+    omega (arith, fits.1, mod_is_reached h.opening key h.revisions)
 
 pub low_fits : (h : History) → HistoryFits h → Few (now h)
 low_fits h fits = let low : now h ≤ HIGHEST_REVISION = fits.1 in omega (arith, low)
@@ -161,9 +122,8 @@ low_fits h fits = let low : now h ≤ HIGHEST_REVISION = fits.1 in omega (arith,
 pub answers_fit : (h : History) (answers : List ReadAnswer) → HistoryFits h → AreTrue h answers → AnswersFit answers
 answers_fit h [] fits truth = tt
 answers_fit h (a ∷ rest) fits truth =
-    let reached : a.of_rev ≤ now h = truth.0.reached in
     let low : now h ≤ HIGHEST_REVISION = fits.1 in (
-      (subst (λ (o : Option KeyState). Few (mod_of o)) truth.0.shown (mod_fits h a.key a.of_rev fits), omega (arith, reached, low)),
+      (subst (λ (o : Option KeyState). Few (mod_of o)) truth.0.shown (mod_fits h a.key a.of_rev fits), omega (arith, truth.0.reached, low)),
       answers_fit h rest fits truth.1,
     )
 
@@ -176,26 +136,49 @@ pub found_in : (answers : List ReadAnswer) (key : List ℕ) (a : Answer) → Ans
 found_in [] key a fits is = absurd (cc)
 found_in (x ∷ rest) key a fits is = found_by x rest key a (bytes_eq x.key key) fits.0.0 (λ same. found_in rest key a fits.1 same) is
 
-pub keys_fit : (h : History) (keys : List (List ℕ)) → HistoryFits h → KeyReadsFit (map (modified_now h) keys)
-keys_fit h [] fits = tt
-keys_fit h (key ∷ keys) fits = (mod_now_fits h key fits, keys_fit h keys fits)
+pub keys_plain : (h : History) (keys : List (List ℕ)) → HistoryFits h → ArePlain (items_of (map read_data (map (modified_now h) keys)))
+keys_plain h [] fits = tt
+keys_plain h (key ∷ keys) fits = ((tt, (plain (mod_of (key_now h key)) (mod_now_fits h key fits), tt)), keys_plain h keys fits)
 
-committed_reads_fit : (answers : List ReadAnswer) → AnswersFit answers → CommittedReadsFit (map committed_read answers)
-committed_reads_fit [] fits = tt
-committed_reads_fit (a ∷ rest) fits = (fits.0, committed_reads_fit rest fits.1)
+committed_reads_plain : (answers : List ReadAnswer) → AnswersFit answers → ArePlain (items_of (map answer_data (map committed_read answers)))
+committed_reads_plain [] fits = tt
+committed_reads_plain (a ∷ rest) fits = (
+  (tt, (text_plain (committed_read a).value, (plain (mod_of a.kv) fits.0.0, (plain a.of_rev fits.0.1, tt)))),
+  committed_reads_plain rest fits.1,
+)
 
-pub kept_by_level : (answers : List ReadAnswer) (b : Bool) → AnswersFit answers → CommittedReadsFit (map committed_read (cond b [] answers))
-kept_by_level answers true fits = tt
-kept_by_level answers false fits = committed_reads_fit answers fits
+pub plain_by_level : (answers : List ReadAnswer) (b : Bool) → AnswersFit answers → ArePlain (items_of (map answer_data (map committed_read (cond b [] answers))))
+plain_by_level answers true fits = tt
+plain_by_level answers false fits = committed_reads_plain answers fits
 
-op_replies_fit : (answers : List OpAnswer) → OpsFit answers → OpRepliesFit (map op_reply answers)
-op_replies_fit [] fits = tt
-op_replies_fit (answer.Get a ∷ rest) fits = ((fits.0.revision, fits.0.state), op_replies_fit rest fits.1)
-op_replies_fit (answer.Put ∷ rest) fits = (tt, op_replies_fit rest fits.1)
-op_replies_fit (answer.Del count ∷ rest) fits = (fits.0, op_replies_fit rest fits.1)
+-- ---- the replies to calls
 
-pub txn_reply_fits : (a : TxnAnswer) → AnswerFits a → ReplyFits (txn_reply a)
-txn_reply_fits a fits = (fits.revision, op_replies_fit a.answers fits.answers)
+ops_plain : (answers : List OpAnswer) → OpsFit answers → ArePlain (items_of (map op_data (map op_reply answers)))
+ops_plain [] fits = tt
+ops_plain (answer.Get a ∷ rest) fits = ((tt, (plain a.revision fits.0.revision, (state_or_null_plain a.kv fits.0.state, tt))), ops_plain rest fits.1)
+ops_plain (answer.Put ∷ rest) fits = ((tt, tt), ops_plain rest fits.1)
+ops_plain (answer.Del count ∷ rest) fits = ((tt, (plain count (omega (arith, fits.0)), tt)), ops_plain rest fits.1)
+
+counts_fit : (answers : List OpAnswer) → OpsFit answers → AllCountsFit (map op_reply answers)
+counts_fit [] fits = tt
+counts_fit (answer.Get a ∷ rest) fits = (tt, counts_fit rest fits.1)
+counts_fit (answer.Put ∷ rest) fits = (tt, counts_fit rest fits.1)
+counts_fit (answer.Del count ∷ rest) fits = (fits.0, counts_fit rest fits.1)
+
+pub txn_fits : (a : TxnAnswer) → AnswerFits a → AnswerToFits (Ok (txn_reply a))
+txn_fits a fits =
+    ((zero_plain, (tt, (tt, and_number a.revision fits.revision (ops_plain a.answers fits.answers, tt)))), counts_fit a.answers fits.answers)
+
+pub refused_fits : (cause : EventRefusal) (expired : List Expired) → AllExpiredFit expired → AnswerToFits (Err record { cause = cause; expired = expired })
+refused_fits cause expired fits = line_of (and_text (expireds_plain expired fits, tt))
+
+pub advanced_fits : (moment : ℕ) (expired : List Expired) (cause : Option StoreRefusal) → Few moment → AllExpiredFit expired →
+    AnswerToFits (advance_reply moment expired cause)
+advanced_fits moment expired None few fits = line_of (and_number moment few (expireds_plain expired fits, tt))
+advanced_fits moment expired (Some cause) few fits = refused_fits (event_refusal cause) expired fits
+
+pub batch_told : (id : ℕ) (batch : Batch) → Few id → Few batch.upto → EventsFit batch.events → AnswerToFits (Ok (batch_reply id batch))
+batch_told id batch few upto fits = line_of (and_number id few (and_number batch.upto upto (events_plain batch.events fits, tt)))
 
 -- ---- what a failed compare is about
 
@@ -221,9 +204,7 @@ seen_at_place (s ∷ ss) (suc i) seen fits is = seen_at_place ss i seen fits.1 i
 changed_above : (opening : Opening) (r : ℕ) (key : List ℕ) (revisions : List (List Change)) → changes_above opening r key revisions ≡ true →
     r ≤ number_of_last opening revisions
 changed_above opening r key [] is =
-    let below : r < mod_of (opened_state opening key) = ltb-true r (mod_of (opened_state opening key)) is in
-    let reached : mod_of (opened_state opening key) ≤ number_of_last opening [] = mod_is_reached opening key [] in
-    omega (arith, below, reached)
+    omega (arith, ltb-true r (mod_of (opened_state opening key)) is, mod_is_reached opening key [])
 changed_above opening r key (changes ∷ older) is =
     let number : ℕ = number_of_last opening (changes ∷ older) in
     either (nat_lt r number && is_some (change_of key changes)) (changes_above opening r key older) is (r ≤ number)
@@ -233,9 +214,7 @@ changed_above opening r key (changes ∷ older) is =
 seen_few : (h : History) (seen : Seen) → HistoryFits h → changes_above h.opening seen.at seen.key h.revisions ≡ true → SeenFits seen → Few seen.mod_rev
 seen_few h seen fits changed (inl few) = few
 seen_few h seen fits changed (inr same) =
-    let reached : seen.at ≤ now h = changed_above h.opening seen.at seen.key h.revisions changed in
-    let low : now h ≤ HIGHEST_REVISION = fits.1 in
-    omega (arith, same, reached, low)
+    omega (arith, same, changed_above h.opening seen.at seen.key h.revisions changed, fits.1)
 
 -- a failed compare
 pub record FailureFits (about : Seen) (failed : FailedCompare) : Type 0 where

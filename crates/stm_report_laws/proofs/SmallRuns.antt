@@ -317,12 +317,11 @@ module _ (look : Lookup) (known : (key : List ℕ) (a : Answer) → look key ≡
         (λ b t _ h. branch_fits (run_block look then_block) (run_block look else_block) (block_fits then_block within.1)
         (block_fits else_block within.2) b t h)
     statement_fits (For v e limit body) within s fits =
-        let few : limit ≤ MAX_TURNS = within.2 in
         then_fits ValueFits Any (evaluate look e s) (λ x t. and_then (given (turns_of x limit) t) (λ n. repeat v (run_block look body) n 0))
         (evaluate_fits e within.1 s fits)
         (λ x t _ h. then_fits (λ (n : ℕ). n ≤ limit) Any (given (turns_of x limit) t) (λ n. repeat v (run_block look body) n 0)
         (given_fits (λ (n : ℕ). n ≤ limit) (turns_of x limit) t (turns_fit x limit) h)
-        (λ n u most k. repeat_fits v (run_block look body) (block_fits body within.3) n 0 (omega (arith, few, most)) u k))
+        (λ n u most k. repeat_fits v (run_block look body) (block_fits body within.3) n 0 (omega (arith, within.2, most)) u k))
     statement_fits (Emit e) within s fits =
         then_fits ValueFits Any (evaluate look e s) (λ x t. Gives tt (with_output x t)) (evaluate_fits e within s fits)
         (λ x t is h. (tt, (h.0, all_append ValueFits t.output (x ∷ []) h.1 (is, tt), h.2, h.3)))

@@ -34,7 +34,7 @@ use Rattle.stm_entries.specs.declared.entry.Entry.{Entry}
 use Rattle.stm_entries.specs.Alone.{history_left}
 use Rattle.stm_events.specs.declared.reply.Reply.{Reply}
 use Rattle.stm_events.specs.declared.reply.Reply.TheVariants.{Started, Prefetched, Fetched, Conflict, GaveUp, Aborted, Faulted, Ended}
-use Rattle.stm_events.specs.declared.refusal.EventRefusal.TheVariants.{BadLimit}
+use Rattle.stm_events.specs.declared.refusal.EventRefusal.TheVariants.{BadLimit, NoRunner}
 use Rattle.stm_events.specs.Replies.{event_refusal}
 use Rattle.stm_world.specs.Task.{Task, answer_at, modified_now, after_list, after_fetch, after_conflict}
 use Rattle.stm_world.specs.World.{World, Runner, Slot, Over, Live as LiveSlot, Stepped, live_in, runner_at, with_slot, refused, replied, begin, start_runner}
@@ -46,8 +46,9 @@ use Rattle.stm_world.proofs.CommitCases.{fails, Fails}
 use Rattle.stm_world.proofs.Slots.{differ, equal_numbers, runner_there, runner_own, runner_other, count_stays, runner_new, runner_old, count_grows}
 use Rattle.stm_report_laws.proofs.SmallRuns.{run_fits}
 use Rattle.stm_report_laws.proofs.SmallStores.{IsSmall, HistoryFits, commit_fits}
-use Rattle.stm_report_laws.proofs.SmallReplies.{Few, AnswersFit, ReplyFits, RunnerFits, RunnersFit, WorldFits, mod_fits, low_fits, answers_fit, found_in}
-use Rattle.stm_report_laws.proofs.SmallReplies.{keys_fit, kept_by_level, FailureFits, failure_fits, StepFits}
+use Rattle.stm_report_laws.proofs.Plain.{Few, values_plain, traces_plain, line_of, and_number, and_text}
+use Rattle.stm_report_laws.proofs.SmallReplies.{AnswersFit, AnswerToFits, RunnerFits, RunnersFit, WorldFits, mod_fits, low_fits, answers_fit, found_in}
+use Rattle.stm_report_laws.proofs.SmallReplies.{keys_plain, plain_by_level, refused_fits, FailureFits, failure_fits, StepFits}
 
 -- ---- runners
 
@@ -69,23 +70,19 @@ live_fits r x fits is = let same : r ≡ x = cc in subst RunnerFits same fits
 
 -- a step that leads a runner to another place, and changes nothing of the store
 replied_fits : (n : ℕ) (w : World) (id : ℕ) (r : Runner) (slot : Slot) (reply : Reply) → WorldFits n w → runner_at id w.runners ≡ Some r →
-    ((x : Runner) → live_in (Some slot) ≡ Some x → RunnerFits x) → IsSound (replied reply id slot w).next → ReplyFits reply →
+    ((x : Runner) → live_in (Some slot) ≡ Some x → RunnerFits x) → IsSound (replied reply id slot w).next → AnswerToFits (Ok reply) →
     StepFits n (replied reply id slot w)
 replied_fits n w id r slot reply fits found mine sound one =
-    let watching : length w.standing.watchers ≤ n = fits.watching in
-    let started : length w.runners ≤ n = fits.started in
-    let same : length (with_slot id slot w.runners) ≡ length w.runners = count_stays id w.runners slot in
-    let entries : length w.entries + finmap.len w.standing.live ≤ n + n = fits.entries in
     record {
       reply = one;
       next = record {
         sound = sound;
         small = fits.small;
         watchers = fits.watchers;
-        watching = omega (arith, watching);
-        started = omega (arith, same, started);
+        watching = omega (arith, fits.watching);
+        started = omega (arith, count_stays id w.runners slot, fits.started);
         runners = runners_set w id r slot fits.runners found mine;
-        entries = omega (arith, entries);
+        entries = omega (arith, fits.entries);
       };
     }
 
@@ -95,7 +92,7 @@ record Stands (n : ℕ) (w : World) (id : ℕ) (r : Runner) : Type 0 where
   found : runner_at id w.runners ≡ Some r
   few : Few id
 
-ended_fits : (n : ℕ) (w : World) (id : ℕ) (r : Runner) (reply : Reply) → Stands n w id r → IsSound (replied reply id Over w).next → ReplyFits reply →
+ended_fits : (n : ℕ) (w : World) (id : ℕ) (r : Runner) (reply : Reply) → Stands n w id r → IsSound (replied reply id Over w).next → AnswerToFits (Ok reply) →
     StepFits n (replied reply id Over w)
 ended_fits n w id r reply at sound one = replied_fits n w id r Over reply at.fits at.found over_fits sound one
 
@@ -116,26 +113,29 @@ fetch_fits n w id r key at sound =
     let mine = at.fits.runners id r at.found in
     replied_fits n w id r (LiveSlot next) (Fetched id key (mod_of (key_at h key of_rev)) of_rev (now h)) at.fits at.found
     (λ x is. live_fits next x (record { limit = mine.limit; failures = mine.failures; literals = mine.literals }) is) sound
-    (at.few, mod_fits h key of_rev fits, read_by h base (nat_eq base 0) fits (worlds_are_sound.base_is_reached w id r at.fits.sound at.found), low_fits h fits)
+    (line_of (and_number id at.few (and_text (and_number (mod_of (key_at h key of_rev)) (mod_fits h key of_rev fits)
+    (and_number of_rev (read_by h base (nat_eq base 0) fits (worlds_are_sound.base_is_reached w id r at.fits.sound at.found))
+    (and_number (now h) (low_fits h fits) tt))))))
 
 base_fits : (n : ℕ) (w : World) (id : ℕ) (r : Runner) (key : List ℕ) (below : Bool) → Stands n w id r →
     (let o : Stepped = cond below (replied (Ended id (event_refusal CompactedRefusal)) id Over w)
     (fetch id r key (revision_read w.standing.history (at_of r.task.level r.known.reads)) w) in IsSound o.next → StepFits n o)
-base_fits n w id r key true at sound = ended_fits n w id r (Ended id (event_refusal CompactedRefusal)) at sound at.few
+base_fits n w id r key true at sound = ended_fits n w id r (Ended id (event_refusal CompactedRefusal)) at sound (line_of (and_number id at.few (and_text tt)))
 base_fits n w id r key false at sound = fetch_fits n w id r key at sound
 
 list_by : (n : ℕ) (w : World) (id : ℕ) (r : Runner) (many : Bool) → Stands n w id r →
     (let o : Stepped = cond many (replied (Ended id (event_refusal TooManyOpsRefusal)) id Over w)
     (replied (Prefetched id (now w.standing.history) (map (modified_now w.standing.history) r.task.program.prefetch)) id
     (LiveSlot (record r { known = after_list r.task w.standing.history r.known })) w) in IsSound o.next → StepFits n o)
-list_by n w id r true at sound = ended_fits n w id r (Ended id (event_refusal TooManyOpsRefusal)) at sound at.few
+list_by n w id r true at sound = ended_fits n w id r (Ended id (event_refusal TooManyOpsRefusal)) at sound (line_of (and_number id at.few (and_text tt)))
 list_by n w id r false at sound =
     let h : History = w.standing.history in
     let next : Runner = record r { known = after_list r.task h r.known } in
     let mine = at.fits.runners id r at.found in
     replied_fits n w id r (LiveSlot next) (Prefetched id (now h) (map (modified_now h) r.task.program.prefetch)) at.fits at.found
     (λ x is. live_fits next x (record { limit = mine.limit; failures = mine.failures; literals = mine.literals }) is) sound
-    (at.few, low_fits h at.fits.small.history, keys_fit h r.task.program.prefetch at.fits.small.history)
+    (line_of (and_number id at.few (and_number (now h) (low_fits h at.fits.small.history)
+    (keys_plain h r.task.program.prefetch at.fits.small.history, tt))))
 
 fail_by : (n : ℕ) (w : World) (id : ℕ) (r : Runner) (seen : Seen) (failed : FailedCompare) (more : Bool) → Stands n w id r →
     nat_lt (r.failures + 1) r.task.limit ≡ more → FailureFits seen failed →
@@ -148,12 +148,12 @@ fail_by n w id r seen failed true at is f sound =
     let mine = at.fits.runners id r at.found in
     replied_fits n w id r (LiveSlot next) (Conflict id seen.key seen.mod_rev failed.mod_rev) at.fits at.found
     (λ x same. live_fits next x (record { limit = mine.limit; failures = ltb-true (r.failures + 1) r.task.limit is; literals = mine.literals }) same)
-    sound (at.few, f.seen, f.stands)
+    sound (line_of (and_number id at.few (and_text (and_number seen.mod_rev f.seen (and_number failed.mod_rev f.stands tt)))))
 fail_by n w id r seen failed false at is f sound =
-    let limit : r.task.limit ≤ HIGHEST_NUMBER = (at.fits.runners id r at.found).limit in
-    let below : r.failures < r.task.limit = (at.fits.runners id r at.found).failures in
     ended_fits n w id r (GaveUp id (r.failures + 1) seen.key seen.mod_rev failed.mod_rev) at sound
-    (at.few, omega (arith, limit, below), f.seen, f.stands)
+    (line_of (and_number id at.few
+    (and_number (r.failures + 1) (omega (arith, (at.fits.runners id r at.found).limit, (at.fits.runners id r at.found).failures))
+    (and_text (and_number seen.mod_rev f.seen (and_number failed.mod_rev f.stands tt))))))
 
 take_fits : (n : ℕ) (w : World) (id : ℕ) (r : Runner) (run : Run) (done : Done) → Stands n w id r → run_on r.task.program r.known.reads ≡ EndedRun run →
     HistoryFits done.history → IsSound (take_commit id r r.known.reads run done w).next → StepFits n (take_commit id r r.known.reads run done w)
@@ -161,33 +161,21 @@ take_fits n w id r run done at is_run left sound =
     let reads : List ReadAnswer = r.known.reads in
     let h : History = w.standing.history in
     let mine = at.fits.runners id r at.found in
-    let limit : r.task.limit ≤ HIGHEST_NUMBER = mine.limit in
-    let below : r.failures < r.task.limit = mine.failures in
     let answers : AnswersFit reads = answers_fit h reads at.fits.small.history (at.fits.sound.truth id r at.found).0 in
     let came = run_fits (look_up reads) (λ key a found. found_in reads key a answers found) r.task.program.statements run mine.literals is_run in
-    let watching : length w.standing.watchers ≤ n = at.fits.watching in
-    let started : length w.runners ≤ n = at.fits.started in
-    let same : length (with_slot id Over w.runners) ≡ length w.runners = count_stays id w.runners Over in
-    let entries : length w.entries + finmap.len w.standing.live ≤ n + n = at.fits.entries in
     let one : List Entry = entry_of r.task reads run (now done.history) ∷ [] in
-    let more : length (w.entries ++ one) ≡ length w.entries + length one = length-append w.entries one in
     record {
-      reply = (
-        at.few,
-        low_fits done.history left,
-        omega (arith, limit, below),
-        came.0,
-        came.1,
-        kept_by_level reads (is_comparing r.task.level) answers,
-      );
+      reply = line_of (and_number id at.few (and_number (now done.history) (low_fits done.history left)
+          (and_number (r.failures + 1) (omega (arith, mine.limit, mine.failures))
+          (values_plain run.output came.0, (traces_plain run.trace came.1, (plain_by_level reads (is_comparing r.task.level) answers, tt))))));
       next = record {
         sound = sound;
         small = record { history = left; live = at.fits.small.live; renewed = at.fits.small.renewed; moment = at.fits.small.moment };
         watchers = at.fits.watchers;
-        watching = omega (arith, watching);
-        started = omega (arith, same, started);
+        watching = omega (arith, at.fits.watching);
+        started = omega (arith, count_stays id w.runners Over, at.fits.started);
         runners = runners_set w id r Over at.fits.runners at.found over_fits;
-        entries = omega (arith, entries, more);
+        entries = omega (arith, at.fits.entries, length-append w.entries one);
       };
     }
 
@@ -213,7 +201,7 @@ commit_by : (n : ℕ) (w : World) (id : ℕ) (r : Runner) (run : Run) (o : Resul
     run_on r.task.program r.known.reads ≡ EndedRun run → committed (terms_of w.standing) r.task.level r.known.reads run ≡ o →
     IsSound (commit_reported id r r.known.reads run o w).next → StepFits n (commit_reported id r r.known.reads run o w)
 commit_by n w id r run (Ok done) at is_run comes sound = decided_fits n w id r run done done.answer.failed at is_run comes refl sound
-commit_by n w id r run (Err cause) at is_run comes sound = ended_fits n w id r (Ended id (event_refusal cause)) at sound at.few
+commit_by n w id r run (Err cause) at is_run comes sound = ended_fits n w id r (Ended id (event_refusal cause)) at sound (line_of (and_number id at.few (and_text tt)))
 
 commit_step : (n : ℕ) (w : World) (id : ℕ) (r : Runner) (run : Run) → Stands n w id r → run_on r.task.program r.known.reads ≡ EndedRun run →
     IsSound (commit id r r.known.reads run w).next → StepFits n (commit id r r.known.reads run w)
@@ -224,8 +212,8 @@ commit_step n w id r run at is_run sound =
 finish_fits : (n : ℕ) (w : World) (id : ℕ) (r : Runner) (run : Run) (end : End) → Stands n w id r → run_on r.task.program r.known.reads ≡ EndedRun run →
     IsSound (finish id r r.known.reads run end w).next → StepFits n (finish id r r.known.reads run end w)
 finish_fits n w id r run DoneEnd at is_run sound = commit_step n w id r run at is_run sound
-finish_fits n w id r run (AbortedEnd text) at is_run sound = ended_fits n w id r (Aborted id text) at sound at.few
-finish_fits n w id r run (FaultedEnd fault) at is_run sound = ended_fits n w id r (Faulted id fault) at sound at.few
+finish_fits n w id r run (AbortedEnd text) at is_run sound = ended_fits n w id r (Aborted id text) at sound (line_of (and_number id at.few (and_text tt)))
+finish_fits n w id r run (FaultedEnd fault) at is_run sound = ended_fits n w id r (Faulted id fault) at sound (line_of (and_number id at.few (and_text tt)))
 
 answered_fits : (n : ℕ) (w : World) (id : ℕ) (r : Runner) (answered : Answered) → Stands n w id r → run_on r.task.program r.known.reads ≡ answered →
     IsSound (step_on id r r.known.reads answered w).next → StepFits n (step_on id r r.known.reads answered w)
@@ -245,22 +233,19 @@ live_step n w id r at sound = due_by n w id r (is_due r.task.program.prefetch r.
 -- a world that stays as it is
 stays_fits : (n : ℕ) (w : World) → WorldFits n w → WorldFits (suc n) w
 stays_fits n w fits =
-    let watching : length w.standing.watchers ≤ n = fits.watching in
-    let started : length w.runners ≤ n = fits.started in
-    let entries : length w.entries + finmap.len w.standing.live ≤ n + n = fits.entries in
     record {
       sound = fits.sound;
       small = fits.small;
       watchers = fits.watchers;
-      watching = omega (arith, watching);
-      started = omega (arith, started);
+      watching = omega (arith, fits.watching);
+      started = omega (arith, fits.started);
       runners = fits.runners;
-      entries = omega (arith, entries);
+      entries = omega (arith, fits.entries);
     }
 
 pub runner_step : (n : ℕ) (w : World) (id : ℕ) (o : Option Runner) → WorldFits n w → Few id → runner_at id w.runners ≡ o →
     IsSound (step_runner id o w).next → StepFits n (step_runner id o w)
-runner_step n w id None fits few is sound = record { reply = tt; next = stays_fits n w fits }
+runner_step n w id None fits few is sound = record { reply = refused_fits NoRunner [] tt; next = stays_fits n w fits }
 runner_step n w id (Some r) fits few is sound = live_step n w id r (record { fits = fits; found = is; few = few }) sound
 
 -- ---- a start
@@ -271,30 +256,25 @@ start_by : (n : ℕ) (w : World) (task : Task) (none : Bool) → WorldFits n w �
       reply = Ok (Started (length w.runners + 1));
       next = record { standing = w.standing; runners = w.runners ++ LiveSlot (begin task) ∷ []; entries = w.entries };
     }) in IsSound o.next → StepFits n o)
-start_by n w task true fits room limit literals is sound = record { reply = tt; next = stays_fits n w fits }
+start_by n w task true fits room limit literals is sound = record { reply = refused_fits BadLimit [] tt; next = stays_fits n w fits }
 start_by n w task false fits room limit literals is sound =
     let slot : Slot = LiveSlot (begin task) in
     let id : ℕ = length w.runners + 1 in
-    let watching : length w.standing.watchers ≤ n = fits.watching in
-    let started : length w.runners ≤ n = fits.started in
-    let grown : length (w.runners ++ slot ∷ []) ≡ length w.runners + 1 = count_grows w.runners slot in
-    let entries : length w.entries + finmap.len w.standing.live ≤ n + n = fits.entries in
-    let some = differ task.limit 0 is in
-    let mine : RunnerFits (begin task) = record { limit = limit; failures = omega (arith, some); literals = literals } in
+    let mine : RunnerFits (begin task) = record { limit = limit; failures = omega (arith, differ task.limit 0 is); literals = literals } in
     record {
-      reply = omega (arith, started, room);
+      reply = line_of (and_number id (omega (arith, fits.started, room)) tt);
       next = record {
         sound = sound;
         small = fits.small;
         watchers = fits.watchers;
-        watching = omega (arith, watching);
-        started = omega (arith, started, grown);
+        watching = omega (arith, fits.watching);
+        started = omega (arith, fits.started, count_grows w.runners slot);
         runners = λ other x at. elim (nat_eq id other) as (λ b. nat_eq id other ≡ b → RunnerFits x) [
           | true ↦ λ same. live_fits (begin task) x mine
               (sym (runner_new w.runners slot) ∙ subst (λ m. runner_at m (w.runners ++ slot ∷ []) ≡ Some x) (sym (equal_numbers id other same)) at)
           | false ↦ λ same. fits.runners other x (sym (runner_old w.runners slot other (λ e. differ id other same (sym e))) ∙ at)
         ] refl;
-        entries = omega (arith, entries);
+        entries = omega (arith, fits.entries);
       };
     }
 

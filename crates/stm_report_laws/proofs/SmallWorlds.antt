@@ -16,7 +16,8 @@ use Rattle.stm_world.specs.Sound.{IsSound}
 use Rattle.stm_world.proofs.Sound.{opened_is_sound, step_is_sound}
 use Rattle.stm_world.proofs.Slots.{no_runner}
 use Rattle.stm_world.proofs.Calls.{call_adds}
-use Rattle.stm_report_laws.proofs.SmallReplies.{Few, RepliesFit, AsksFew, EventAsksFew, EventsAskFew, WorldFits, StepFits}
+use Rattle.stm_report_laws.proofs.Plain.{Few}
+use Rattle.stm_report_laws.proofs.SmallReplies.{RepliesFit, AsksFew, EventAsksFew, EventsAskFew, WorldFits, StepFits}
 use Rattle.stm_report_laws.proofs.SmallSteps.{runner_step, start_fits}
 use Rattle.stm_report_laws.proofs.SmallCalls.{Reaches, called_fits, call_fits}
 

@@ -145,8 +145,13 @@ impl SharedWorld {
         Ok((shared, reply))
     }
 
+    /// Whether it shares its store with some world. No contract says so.
+    pub fn shares_store(&self) -> bool {
+        Arc::strong_count(&self.base) > 1
+    }
+
     /// A world that shares this one's store, with the runners of another. It takes no memory.
-    fn with_runners_of(&self, other: SharedWorld) -> Result<SharedWorld, AllocError>
+    pub fn with_runners_of(&self, other: SharedWorld) -> Result<SharedWorld, AllocError>
         requires { IsSound (with_places other.runners self.now) }
         ensures { IfOk result (λ shared. shared ≡ with_places other.runners self.now) }
     {
@@ -269,7 +274,7 @@ impl SharedWorld {
     }
 
     /// Does nothing: each world is sound.
-    fn know_sound(&self)
+    pub fn know_sound(&self)
         ensures { IsSound self.now }
     {
         // (the world's type says so)

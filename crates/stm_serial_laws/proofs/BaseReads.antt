@@ -50,8 +50,7 @@ key_stays before after key r adds within =
 pub counter_grows : (before after : History) → AddsTo before after → now before ≤ now after
 counter_grows before after adds =
     let same : after.opening.number ≡ before.opening.number = ap (λ (o : Opening). o.number) adds.opening in
-    let count : length after.revisions ≡ length adds.added + length before.revisions = ap length adds.revisions ∙ length-append adds.added before.revisions in
-    omega (arith, same, count)
+    omega (arith, same, ap length adds.revisions ∙ length-append adds.added before.revisions)
 
 -- the state at a revision that was reached stays
 pub state_stays : (before after : History) (r : ℕ) → AddsTo before after → r ≤ now before → state_as_of after r ≡ state_as_of before r

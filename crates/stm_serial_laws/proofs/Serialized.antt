@@ -229,8 +229,7 @@ IsWell id r = (is_serializable r.task.level ≡ true) × IsWellRun start r
 ready_after : (e : WorldEvent) (w : World) → AreReady w → ((id : ℕ) (r : Runner) → runner_at id (step e w).next.runners ≡ Some r → IsWell id r) →
     AreReady (step e w).next
 ready_after e w are each =
-    let grows : now w.standing.history ≤ now (step e w).next.standing.history = counter_grows _ _ (event_adds e w are.sound) in
-    record { sound = step_is_sound e w are.sound; counter = omega (arith, are.counter, grows); ready = each }
+    record { sound = step_is_sound e w are.sound; counter = omega (arith, are.counter, counter_grows _ _ (event_adds e w are.sound)); ready = each }
 
 -- after a step after which the runner stands so
 slot_ready : (w : World) (id : ℕ) (r : Runner) (slot : Slot) → AreReady w → runner_at id w.runners ≡ Some r → (step (Step id) w).next.runners ≡ with_slot id slot w.runners →

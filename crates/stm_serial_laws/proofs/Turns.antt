@@ -1,6 +1,7 @@
 -- Serial runs as turns: a program that is run whole on the store, or the others' next event.
 use Rattle.std.proofs.Common.{◌≡◌, ◌≢◌, ℕ, zero, suc, ◌-◌, ◌<◌, ◌≤◌, List, [], ◌∷◌, length, Option, Some, None, true, false, cond, refl, sym, ◌∙◌, ap, subst, arith}
 use Rattle.std.specs.Prelude.{nat_eq, if◌then◌else◌, slice_get, slice_set}
+use Rattle.std.proofs.lemmas.List.{length-set}
 use Rattle.stm_program.specs.Syntax.{ProgramTree}
 use Rattle.stm_txn.specs.Standing.{Standing}
 use Rattle.stm_events.specs.declared.event.WorldEvent.{WorldEvent}
@@ -170,12 +171,6 @@ set_other (e ∷ ends) zero (suc j) end ne = refl
 set_other (e ∷ ends) (suc i) zero end ne = refl
 set_other (e ∷ ends) (suc i) (suc j) end ne = set_other ends i j end (λ same. ne (ap suc same))
 
-set_length : (ends : Ends) (i : ℕ) (end : Option RunnerEnd) → length (slice_set ends i end) ≡ length ends
-set_length [] zero end = refl
-set_length [] (suc i) end = refl
-set_length (e ∷ ends) zero end = refl
-set_length (e ∷ ends) (suc i) end = ap suc (set_length ends i end)
-
 pub end_own : (id : ℕ) (ends : Ends) (end : Option RunnerEnd) → 0 < id → id ≤ length ends → end_at id (slice_set ends (id - 1) end) ≡ end
 end_own id ends end some within = set_own ends (id - 1) end (omega (arith, some, within))
 
@@ -183,19 +178,13 @@ pub end_other : (id j : ℕ) (ends : Ends) (end : Option RunnerEnd) → 0 < id �
 end_other id j ends end some positive ne =
     ap known_at (set_other ends (id - 1) (j - 1) end (λ same. ne (omega (arith, some, positive, same))))
 
-slots_length : (slots : List Slot) (i : ℕ) (slot : Slot) → length (slice_set slots i slot) ≡ length slots
-slots_length [] zero slot = refl
-slots_length [] (suc i) slot = refl
-slots_length (s ∷ slots) zero slot = refl
-slots_length (s ∷ slots) (suc i) slot = ap suc (slots_length slots i slot)
-
 -- what is known of as many ends as there are runners
 abbrev pub AreAsMany : List Slot → Ends → Type 0
 AreAsMany slots ends = length slots ≡ length ends
 
 pub as_many_after : (id : ℕ) (slots : List Slot) (slot : Slot) (ends : Ends) (end : Option RunnerEnd) → AreAsMany slots ends →
     AreAsMany (with_slot id slot slots) (slice_set ends (id - 1) end)
-as_many_after id slots slot ends end many = slots_length slots (id - 1) slot ∙ many ∙ sym (set_length ends (id - 1) end)
+as_many_after id slots slot ends end many = length-set slots (id - 1) slot ∙ many ∙ sym (length-set ends (id - 1) end)
 
 -- one without a turn
 untouched : (ts : List Turn) (os : List WorldEvent) (s : Standing) (slots : List Slot) (ends : Ends) (id : ℕ) → 0 < id → CanBe ts os slots → IsNotIn id ts →

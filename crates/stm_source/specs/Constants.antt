@@ -21,6 +21,7 @@ use Rattle.stm_terms.specs.Scope.{may_give, next_of, with_name}
 use Rattle.stm_terms.specs.Uses.{has_room}
 use Rattle.stm_terms.specs.Values.{value_at}
 use Rattle.stm_source.specs.declared.definitions.Definitions.{Definitions}
+use Rattle.stm_source.specs.Bulk.{constant_left}
 use Rattle.stm_source.specs.Definitions.{free_name_at, no_arguments}
 
 -- what is in sight outside of programs, in a definition whose name begins at a byte
@@ -107,10 +108,16 @@ defined_at scope tokens = value_at MOST_BRACKETS scope tokens >>= λ x. defined_
 abbrev pub defined_as : Definitions → List ℕ → Constant → Definitions
 defined_as definitions name c = record definitions { constants = with_constant definitions.constants name c }
 
+-- the same, where there is room for it. Its name begins at a byte
+abbrev pub defined_in_room : Definitions → ℕ → List ℕ → Constant → Outcome Definitions
+defined_in_room definitions at name c =
+    if nat_eq (constant_left definitions.room c) 0 then bad at cause.TooManyNodes
+    else Ok (record (defined_as definitions name c) { room = constant_left definitions.room c })
+
 -- behind its word
 abbrev pub define_constant_at : Definitions → List Token → Outcome (Definitions × List Token)
 define_constant_at definitions tokens =
     free_name_at definitions.names definitions.constants tokens >>= λ name.
     parameters_by (outside definitions.constants (place tokens)) name.1 (after_symbol symbol.LeftParenthesis name.1) >>= λ scope.
     expect_symbol symbol.Assign scope.1 >>= λ value.
-    defined_at scope.0 value >>= λ c. Ok (defined_as definitions name.0 c.0, c.1)
+    defined_at scope.0 value >>= λ c. defined_in_room definitions (place tokens) name.0 c.0 >>= λ all. Ok (all, c.1)

@@ -27,7 +27,7 @@ use Rattle.stm_terms.specs.Cursor.{place, unexpected, after_symbol, after_name, 
 use Rattle.stm_terms.specs.declared.constants.Constants.{Constants}
 use Rattle.stm_terms.specs.Constants.{text_at}
 use Rattle.stm_source.specs.declared.definitions.Definitions.{Definitions}
-use Rattle.stm_source.specs.Bulk.{program_bulk}
+use Rattle.stm_source.specs.Bulk.{program_bulk, event_left}
 use Rattle.stm_source.specs.Definitions.{ReadProgram, look_of, no_arguments, named_program, definition_named}
 use Rattle.stm_source.specs.Programs.{program_at}
 use Rattle.stm_source.specs.Txns.{number_at, txn_at}
@@ -92,9 +92,17 @@ is_room story more = nat_le more (MOST_EVENTS - length story.events)
 abbrev pub with_events : Story → List WorldEvent → Story
 with_events story events = record story { has_events = true; events = story.events ++ events }
 
+-- an event of the store, where there is room for it, too
+abbrev pub with_event : Story → WorldEvent → Story
+with_event story e = record story { has_events = true; events = story.events ++ e ∷ []; event_room = event_left story.event_room e }
+
+abbrev pub event_added : Story → ℕ → WorldEvent → Outcome Story
+event_added story at e = if nat_eq (event_left story.event_room e) 0 then bad at cause.TooManyNodes else Ok (with_event story e)
+
 -- an event that begins at a byte
 abbrev pub one_event : Story → ℕ → Read WorldEvent → Outcome (Story × List Token)
-one_event story at read = if is_room story 1 then (read >>= λ e. Ok (with_events story (e.0 ∷ []), e.1)) else bad at cause.TooMany
+one_event story at read =
+    if is_room story 1 then (read >>= λ e. event_added story at e.0 >>= λ next. Ok (next, e.1)) else bad at cause.TooMany
 
 -- ---- steps
 

@@ -80,6 +80,7 @@ empty_story = record {
   waits = [];
   rules = [];
   room = MOST_BULK;
+  event_room = MOST_BULK;
 }
 
 abbrev pub as_source : Story → Source

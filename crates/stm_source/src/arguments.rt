@@ -21,7 +21,7 @@ fn some_arguments<'a>(
     let mut given = Sequence::new(alloc);
     let mut rest = tokens;
     for _turn in 0..tokens.len() {
-        let (argument, behind) = literal_argument(alloc, constants, rest)?;
+        let (argument, behind) = literal_argument(constants, rest)?;
         given.push(argument)?;
         let Some(next) = after_symbol(behind, Symbol::Comma) else {
             let rest = expect_symbol(behind, Symbol::RightParenthesis)?;

@@ -1,9 +1,12 @@
-//! How much of a scenario a program takes.
-ghost use Rattle.std.specs.Prelude.{◌≡◌, ◌-◌, map, string_bytes};
+//! How much of a scenario programs and events take, and how much of a source what it defines.
+ghost use Rattle.std.specs.Prelude.{◌≡◌, ◌-◌, ◌+◌, length, map, string_bytes};
 ghost use Rattle.stm_program.specs.BlockView.{block_of};
 ghost use Rattle.stm_source.specs.Bulk as spec;
 
+use stm_events::WorldEvent;
+use stm_outcome::{Compare, Op, Target, Txn};
 use stm_program::{Block, Cond, CondNode, Expr, ExprNode, Program, Stmt, StmtNode};
+use stm_terms::{Constant, LookUp, Other, Valued};
 
 // Each function below answers how much of the room is left behind its argument: none, where that takes all of it or more.
 
@@ -107,4 +110,106 @@ pub(crate) fn program_room(program: &Program, room: usize) -> usize
 {
     let room = keys_room(program.prefetch(), room);
     statements_room(program.statements(), room)
+}
+
+fn other_room(other: &Option<Other>, room: usize) -> usize
+    ensures { result ≡ room - spec.other_bulk other.now }
+{
+    match other {
+        Some(other) => expression_room(&other.value, room),
+        None => room,
+    }
+}
+
+fn others_room(look_ups: &[LookUp], room: usize) -> usize
+    ensures { result ≡ spec.others_left room look_ups.now }
+{
+    let mut left = room;
+    for look_up in look_ups {
+        left = other_room(&look_up.other, left);
+    }
+    left
+}
+
+fn value_room(value: &Valued, room: usize) -> usize
+    ensures { result ≡ spec.value_left room value.now }
+{
+    let room = expression_room(&value.expression, room);
+    others_room(value.look_ups.as_slice(), room)
+}
+
+/// How much of the room is left behind what a name is defined as.
+pub(crate) fn constant_room(constant: &Constant, room: usize) -> usize
+    ensures { result ≡ spec.constant_left room constant.now }
+{
+    match constant {
+        Constant::Alone(_) | Constant::List(_) => room,
+        Constant::Value(defined) => value_room(&defined.value, room),
+    }
+}
+
+fn compare_room(compare: &Compare, room: usize) -> usize
+    ensures { result ≡ room - (1 + length compare.now.key + spec.target_bulk compare.now.target) }
+{
+    let room = room
+        .saturating_sub(1)
+        .saturating_sub(compare.key.as_str().len());
+    match &compare.target {
+        Target::Value(text) => room.saturating_sub(text.as_str().len()),
+        Target::Version(_) | Target::Create(_) | Target::Mod(_) | Target::Lease(_) => room,
+    }
+}
+
+fn compares_room(compares: &[Compare], room: usize) -> usize
+    ensures { result ≡ spec.compares_left room compares.now }
+{
+    let mut left = room;
+    for compare in compares {
+        left = compare_room(compare, left);
+    }
+    left
+}
+
+fn operation_room(operation: &Op, room: usize) -> usize
+    ensures { result ≡ room - spec.op_bulk operation.now }
+{
+    let room = room
+        .saturating_sub(1)
+        .saturating_sub(operation.key().as_str().len());
+    match operation {
+        Op::Put { value, .. } => room.saturating_sub(value.as_str().len()),
+        Op::Get { .. } | Op::Del { .. } => room,
+    }
+}
+
+fn operations_room(operations: &[Op], room: usize) -> usize
+    ensures { result ≡ spec.ops_left room operations.now }
+{
+    let mut left = room;
+    for operation in operations {
+        left = operation_room(operation, left);
+    }
+    left
+}
+
+fn txn_room(txn: &Txn, room: usize) -> usize
+    ensures { result ≡ spec.txn_left room txn.now }
+{
+    let room = compares_room(txn.compares.as_slice(), room);
+    let room = operations_room(txn.success.as_slice(), room);
+    operations_room(txn.failure.as_slice(), room)
+}
+
+/// How much of the room is left behind an event of the store.
+pub(crate) fn event_room(event: &WorldEvent, room: usize) -> usize
+    ensures { result ≡ spec.event_left room event.now }
+{
+    match event {
+        WorldEvent::Txn { txn } => txn_room(txn, room),
+        WorldEvent::WatchKey { key, .. } => room.saturating_sub(key.as_str().len()),
+        WorldEvent::WatchRange { first, end, .. } => room
+            .saturating_sub(first.as_str().len())
+            .saturating_sub(end.as_str().len()),
+        _ => room,
+    }
 }

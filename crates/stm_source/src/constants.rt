@@ -7,6 +7,7 @@ ghost use Rattle.stm_terms.specs.Outcome.{Returns};
 ghost use Rattle.stm_tokens.specs.declared.token.Symbol.TheVariants.{LeftParenthesis};
 ghost use Rattle.stm_source.specs.Constants as spec;
 
+use crate::bulk::constant_room;
 use crate::definitions::{Definitions, free_name, no_arguments};
 use std::alloc::{AllocError, Global};
 use std::mem;
@@ -191,6 +192,27 @@ fn add(
     Ok(())
 }
 
+/// Adds a constant whose name, which begins at a byte, is none of these, where there is room for it.
+fn add_in_room(
+    alloc: Global,
+    definitions: &mut Definitions,
+    at: usize,
+    name: &str,
+    constant: Constant,
+) -> Result<(), SourceError>
+    requires { list_any (bytes_eq name.now) definitions.old.constants.names ≡ false }
+    ensures { Returns (λ _. definitions.new) result (spec.defined_in_room definitions.old at name.now constant) }
+{
+    let room = constant_room(&constant, definitions.room);
+    if room == 0 {
+        drop(constant);
+        return Err(fault(at, SourceCause::TooManyNodes));
+    }
+    add(alloc, &mut definitions.constants, name, constant)?;
+    definitions.room = room;
+    Ok(())
+}
+
 /// Adds what is defined behind its word: a constant, a list, or another value, maybe with parameters.
 pub(crate) fn define_constant<'a>(
     alloc: Global,
@@ -205,6 +227,6 @@ pub(crate) fn define_constant<'a>(
     let rest = expect_symbol(rest, Symbol::Assign)?;
     let (constant, rest) = defined(alloc, &scope, rest)?;
     drop(scope);
-    add(alloc, &mut definitions.constants, name, constant)?;
+    add_in_room(alloc, definitions, place(tokens), name, constant)?;
     Ok(rest)
 }

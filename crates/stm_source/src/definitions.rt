@@ -50,7 +50,7 @@ pub(crate) struct Definitions {
     pub meanings: Sequence<Meaning>,
     /// Its constants and lists.
     pub constants: Shared<Constants>,
-    /// How much more its programs may take.
+    /// How much more its programs and other values may take.
     pub room: usize,
 }
 

@@ -86,7 +86,6 @@ fn from<'a>(constants: &Constants, tokens: &'a [Token]) -> Result<(u64, &'a [Tok
 
 /// A watcher of what begins with a key.
 fn watch_behind<'a>(
-    alloc: Global,
     constants: &Constants,
     first: Text,
     tokens: &'a [Token],
@@ -97,20 +96,19 @@ fn watch_behind<'a>(
         let (from, rest) = from(constants, tokens)?;
         return Ok((WorldEvent::WatchKey { key: first, from }, rest));
     };
-    let (end, rest) = text(alloc, constants, rest)?;
+    let (end, rest) = text(constants, rest)?;
     let (from, rest) = from(constants, rest)?;
     Ok((WorldEvent::WatchRange { first, end, from }, rest))
 }
 
 fn watch<'a>(
-    alloc: Global,
     constants: &Constants,
     tokens: &'a [Token],
 ) -> Result<(WorldEvent, &'a [Token]), SourceError>
     ensures { Returns (λ x. (x.0, x.1.now)) result (spec.watch_at constants.now tokens.now) }
 {
-    let (first, rest) = text(alloc, constants, tokens)?;
-    watch_behind(alloc, constants, first, rest)
+    let (first, rest) = text(constants, tokens)?;
+    watch_behind(constants, first, rest)
 }
 
 fn poll<'a>(
@@ -171,7 +169,7 @@ pub(crate) fn store_event<'a>(
         EventWord::Keep => keep(constants, tokens),
         EventWord::Revoke => revoke(constants, tokens),
         EventWord::Advance => advance(constants, tokens),
-        EventWord::Watch => watch(alloc, constants, tokens),
+        EventWord::Watch => watch(constants, tokens),
         EventWord::Poll => poll(constants, tokens),
         EventWord::Cancel => cancel(constants, tokens),
         EventWord::Compact => compact(constants, tokens),

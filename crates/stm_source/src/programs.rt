@@ -64,14 +64,13 @@ fn new_key(keys: &[String], key: &GivenText) -> Result<(), SourceError>
 
 /// A key of a list, that comes after these: none where a parameter stands that is not known yet.
 fn key<'a>(
-    alloc: Global,
     scope: &Scope,
     keys: &[String],
     tokens: &'a [Token],
 ) -> Result<(Option<Text>, &'a [Token]), SourceError>
     ensures { Returns (λ x. (x.0, x.1.now)) result (spec.key_at scope.now (map string_bytes keys.now) tokens.now) }
 {
-    let (key, rest) = scope.text(alloc, tokens)?;
+    let (key, rest) = scope.text(tokens)?;
     if keys.len() >= MAX_PREFETCH {
         return Err(fault(place(tokens), SourceCause::TooMany));
     }
@@ -110,7 +109,7 @@ fn keys<'a>(
     let mut keys = Vec::new(alloc);
     let mut rest = tokens;
     for _turn in 0..tokens.len() {
-        let (key, behind) = key(alloc, scope, keys.as_slice(), rest)?;
+        let (key, behind) = key(scope, keys.as_slice(), rest)?;
         add_known_key(alloc, &mut keys, key)?;
         let Some(next) = after_symbol(behind, Symbol::Comma) else {
             let rest = expect_symbol(behind, Symbol::RightParenthesis)?;

@@ -5,6 +5,7 @@ ghost use Rattle.stm_terms.specs.Cursor as cursor;
 ghost use Rattle.stm_source.specs.Events as events;
 ghost use Rattle.stm_source.specs.Sources as spec;
 
+use crate::bulk::event_room;
 use crate::constants::define_constant;
 use crate::definitions::{Definitions, define};
 use crate::events::store_event;
@@ -15,6 +16,7 @@ use crate::steps::steps;
 use crate::story::{MOST_BULK, Rule, Story, Wait};
 use crate::words::{EventWord, event_word};
 use std::alloc::{AllocError, Global};
+use stm_events::WorldEvent;
 use stm_history::Sequence;
 use stm_json::MOST_BYTES;
 use stm_terms::{
@@ -78,9 +80,23 @@ fn one_event<'a>(
         return Err(fault(place(tokens), SourceCause::TooMany));
     }
     let (event, behind) = store_event(alloc, constants, word, rest)?;
+    add_event(story, place(tokens), event)?;
+    Ok(behind)
+}
+
+/// Adds an event, where the scenario has room for its texts. It begins at a byte.
+fn add_event(story: &mut Story, at: usize, event: WorldEvent) -> Result<(), SourceError>
+    ensures { Returns (λ _. story.new) result (events.event_added story.old at event) }
+{
+    let room = event_room(&event, story.event_room);
+    if room == 0 {
+        drop(event);
+        return Err(fault(at, SourceCause::TooManyNodes));
+    }
     story.events.push(event)?;
     story.has_events = true;
-    Ok(behind)
+    story.event_room = room;
+    Ok(())
 }
 
 /// Adds what the next item comes to, which is an event.
@@ -172,6 +188,7 @@ pub(crate) fn empty_story(alloc: Global) -> Story
         waits: Sequence::new(alloc),
         rules: Sequence::new(alloc),
         room: MOST_BULK,
+        event_room: MOST_BULK,
     }
 }
 

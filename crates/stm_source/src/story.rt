@@ -5,7 +5,7 @@ use stm_program::{Level, Program};
 use stm_terms::Names;
 use stm_texts::Opening;
 
-/// How much all programs of a source may take together: a scenario in JSON has at most so many bytes.
+/// How much all programs of a source may take together, and all events of the store: a scenario in JSON has at most so many bytes.
 pub(crate) const MOST_BULK: usize = 16777216;
 
 /// A program that is asked of states: at every place of every schedule, or, a final, where nothing is left to do.
@@ -53,4 +53,6 @@ pub(crate) struct Story {
     pub rules: Sequence<Rule>,
     /// How much more its programs may take.
     pub room: usize,
+    /// How much more its events of the store may take.
+    pub event_room: usize,
 }

@@ -29,19 +29,17 @@ pub(crate) fn number<'a>(
 
 /// A text of a transaction or of an event, of any length.
 pub(crate) fn text<'a>(
-    alloc: Global,
     constants: &Constants,
     tokens: &'a [Token],
 ) -> Result<(Text, &'a [Token]), SourceError>
     ensures { Returns (λ x. (x.0, x.1.now)) result (text_at constants.now tokens.now) }
 {
-    let (text, rest) = constants.text(alloc, tokens)?;
+    let (text, rest) = constants.text(tokens)?;
     Ok((text, rest))
 }
 
 /// What a compare looks at, with the compare's side.
 fn target<'a>(
-    alloc: Global,
     constants: &Constants,
     word: TargetWord,
     tokens: &'a [Token],
@@ -49,7 +47,7 @@ fn target<'a>(
     ensures { Returns (λ x. (x.0, x.1.now)) result (spec.side_at constants.now word tokens.now) }
 {
     if let TargetWord::Value = word {
-        let (text, rest) = text(alloc, constants, tokens)?;
+        let (text, rest) = text(constants, tokens)?;
         return Ok((Target::Value(text), rest));
     }
     let (number, rest) = number(constants, tokens)?;
@@ -64,7 +62,6 @@ fn target<'a>(
 
 /// A compare, behind its word.
 fn compare_behind<'a>(
-    alloc: Global,
     constants: &Constants,
     word: TargetWord,
     tokens: &'a [Token],
@@ -72,18 +69,17 @@ fn compare_behind<'a>(
     ensures { Returns (λ x. (x.0, x.1.now)) result (spec.compare_behind constants.now word tokens.now) }
 {
     let rest = expect_symbol(tokens, Symbol::LeftParenthesis)?;
-    let (key, rest) = text(alloc, constants, rest)?;
+    let (key, rest) = text(constants, rest)?;
     let rest = expect_symbol(rest, Symbol::RightParenthesis)?;
     let Some((order, behind)) = next_order(rest) else {
         return Err(unexpected(rest));
     };
-    let (target, rest) = target(alloc, constants, word, behind)?;
+    let (target, rest) = target(constants, word, behind)?;
     Ok((Compare { key, target, order }, rest))
 }
 
 /// A compare.
 fn compare<'a>(
-    alloc: Global,
     constants: &Constants,
     tokens: &'a [Token],
 ) -> Result<(Compare, &'a [Token]), SourceError>
@@ -93,7 +89,7 @@ fn compare<'a>(
         return Err(unexpected(tokens));
     };
     match target_word(name) {
-        Some(word) => compare_behind(alloc, constants, word, rest),
+        Some(word) => compare_behind(constants, word, rest),
         None => Err(unexpected(tokens)),
     }
 }
@@ -109,7 +105,7 @@ fn compares<'a>(
     let mut compares = Vec::new(alloc);
     let mut rest = tokens;
     for _turn in 0..tokens.len() {
-        let (compare, behind) = compare(alloc, constants, rest)?;
+        let (compare, behind) = compare(constants, rest)?;
         compares.push(compare)?;
         let Some(next) = after_symbol(behind, Symbol::And) else {
             return Ok((compares, behind));
@@ -132,65 +128,52 @@ fn number_behind_comma<'a>(
     }
 }
 
-fn put<'a>(
-    alloc: Global,
-    constants: &Constants,
-    tokens: &'a [Token],
-) -> Result<(Op, &'a [Token]), SourceError>
+fn put<'a>(constants: &Constants, tokens: &'a [Token]) -> Result<(Op, &'a [Token]), SourceError>
     ensures { Returns (λ x. (x.0, x.1.now)) result (spec.put_behind constants.now tokens.now) }
 {
     let rest = expect_symbol(tokens, Symbol::LeftParenthesis)?;
-    let (key, rest) = text(alloc, constants, rest)?;
+    let (key, rest) = text(constants, rest)?;
     let rest = expect_symbol(rest, Symbol::Comma)?;
-    let (value, rest) = text(alloc, constants, rest)?;
+    let (value, rest) = text(constants, rest)?;
     let (lease, rest) = number_behind_comma(constants, rest)?;
     let rest = expect_symbol(rest, Symbol::RightParenthesis)?;
     Ok((Op::Put { key, value, lease }, rest))
 }
 
-fn get<'a>(
-    alloc: Global,
-    constants: &Constants,
-    tokens: &'a [Token],
-) -> Result<(Op, &'a [Token]), SourceError>
+fn get<'a>(constants: &Constants, tokens: &'a [Token]) -> Result<(Op, &'a [Token]), SourceError>
     ensures { Returns (λ x. (x.0, x.1.now)) result (spec.get_behind constants.now tokens.now) }
 {
     let rest = expect_symbol(tokens, Symbol::LeftParenthesis)?;
-    let (key, rest) = text(alloc, constants, rest)?;
+    let (key, rest) = text(constants, rest)?;
     let (rev, rest) = number_behind_comma(constants, rest)?;
     let rest = expect_symbol(rest, Symbol::RightParenthesis)?;
     Ok((Op::Get { key, rev }, rest))
 }
 
-fn del<'a>(
-    alloc: Global,
-    constants: &Constants,
-    tokens: &'a [Token],
-) -> Result<(Op, &'a [Token]), SourceError>
+fn del<'a>(constants: &Constants, tokens: &'a [Token]) -> Result<(Op, &'a [Token]), SourceError>
     ensures { Returns (λ x. (x.0, x.1.now)) result (spec.del_behind constants.now tokens.now) }
 {
     let rest = expect_symbol(tokens, Symbol::LeftParenthesis)?;
-    let (key, rest) = text(alloc, constants, rest)?;
+    let (key, rest) = text(constants, rest)?;
     let rest = expect_symbol(rest, Symbol::RightParenthesis)?;
     Ok((Op::Del { key }, rest))
 }
 
 /// An operation.
 fn operation<'a>(
-    alloc: Global,
     constants: &Constants,
     tokens: &'a [Token],
 ) -> Result<(Op, &'a [Token]), SourceError>
     ensures { Returns (λ x. (x.0, x.1.now)) result (spec.operation_at constants.now tokens.now) }
 {
     if let Some(rest) = after_word(tokens, Word::Put) {
-        return put(alloc, constants, rest);
+        return put(constants, rest);
     }
     if let Some(rest) = after_word(tokens, Word::Get) {
-        return get(alloc, constants, rest);
+        return get(constants, rest);
     }
     if let Some(rest) = after_word(tokens, Word::Del) {
-        return del(alloc, constants, rest);
+        return del(constants, rest);
     }
     Err(unexpected(tokens))
 }
@@ -209,7 +192,7 @@ fn operations<'a>(
         if let Some(behind) = after_symbol(rest, Symbol::RightBrace) {
             return Ok((operations, behind));
         }
-        let (operation, behind) = operation(alloc, constants, rest)?;
+        let (operation, behind) = operation(constants, rest)?;
         operations.push(operation)?;
         rest = skip_semicolon(behind);
     }

@@ -43,7 +43,7 @@ fn joined(alloc: Global, front: &str, back: &str) -> Result<Text, AllocError>
 {
     let mut text = String::from_str(alloc, front)?;
     text.push_str(back)?;
-    Ok(Text::new(text))
+    Text::shared(alloc, text)
 }
 
 /// Two texts, one after the other. `Kind` is answered where one of them is a number, `TextTooLong` where there

@@ -3,6 +3,7 @@ ghost use Rattle.std.specs.Prelude.{◌≡◌, ℕ};
 ghost use Rattle.stm_storing.specs.Faults.{opening_fault, keeping_fault, IsOfOpening, IsOfRewriting};
 
 use std::alloc::AllocError;
+use std::error::Error;
 use std::fmt;
 use stm_devices::DeviceFault;
 use stm_lasting::{KeepFault, KeptFault};
@@ -119,3 +120,5 @@ impl fmt::Display for StoreFault {
         }
     }
 }
+
+impl Error for StoreFault {}

@@ -10,15 +10,19 @@ use stm_json::BadInput;
 use stm_program::Program;
 use stm_program_texts::read_program_text;
 use stm_report::{ReadError, Scenario, read_scenario};
+use thiserror::Error;
 
 /// Why a scenario or a program was not read.
-#[derive(Debug, Drop)]
+#[derive(Debug, Drop, Error)]
 pub enum InputFault {
     /// An allocation failed.
+    #[error("out of memory")]
     OutOfMemory,
     /// The source failed.
+    #[error("device fault")]
     Device,
     /// The text is none: its first fault.
+    #[error(transparent)]
     Bad(BadInput),
 }
 

@@ -207,11 +207,7 @@ impl Constants {
 
     /// A text of any length, for which a name may stand.
     #[tactic(auto, unfolding(crate::specs::Constants::text_at))]
-    pub fn text<'a>(
-        &self,
-        alloc: Global,
-        tokens: &'a [Token],
-    ) -> Result<(Text, &'a [Token]), SourceError>
+    pub fn text<'a>(&self, tokens: &'a [Token]) -> Result<(Text, &'a [Token]), SourceError>
         ensures { Returns (λ x. (x.0, x.1.now)) result (spec.text_at self.now tokens.now) }
     {
         let Some((text, rest)) = next_text(tokens) else {
@@ -220,7 +216,7 @@ impl Constants {
             };
             return self.text_named(name, tokens, rest);
         };
-        let text = Text::copy_of(alloc, text)?;
+        let text = text.clone()?;
         Ok((text, rest))
     }
 }

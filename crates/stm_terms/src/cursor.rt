@@ -5,6 +5,7 @@ ghost use Rattle.stm_terms.specs.Outcome.{Returns};
 ghost use Rattle.stm_terms.specs.declared.faults.SourceError.TheVariants.{Bad};
 
 use crate::faults::{SourceCause, SourceError, fault};
+use stm_history::Text;
 use stm_tokens::{Symbol, Token, TokenKind, Word};
 
 /// Where the next token begins.
@@ -136,12 +137,12 @@ pub fn next_name(tokens: &[Token]) -> Option<(&str, &[Token])>
 }
 
 /// The text that is the next token, and what is behind it.
-pub fn next_text(tokens: &[Token]) -> Option<(&str, &[Token])>
+pub fn next_text(tokens: &[Token]) -> Option<(&Text, &[Token])>
     ensures { option_map (λ p. (p.0.now, p.1.now)) result ≡ spec.next_text tokens.now }
 {
     let (first, rest) = tokens.split_first()?;
     match &first.kind {
-        TokenKind::Text(text) => Some((text.as_str(), rest)),
+        TokenKind::Text(text) => Some((text, rest)),
         _ => None,
     }
 }

@@ -135,7 +135,7 @@ fn literal_item<'a>(
 ) -> Result<(Sequence<Item>, &'a [Token]), SourceError>
     ensures { Returns (λ x. (x.0, x.1.now)) result (spec.literal_item scope.now tokens.now) }
 {
-    let (given, rest) = literal_argument(alloc, scope.constants.get(), tokens)?;
+    let (given, rest) = literal_argument(scope.constants.get(), tokens)?;
     fits(&given)?;
     let Given { argument, .. } = given;
     let items = one(alloc, argument, None)?;

@@ -11,8 +11,6 @@ use crate::constants::Constants;
 use crate::cursor::{after_symbol, next_name, next_number, next_text, place, unexpected};
 use crate::faults::{SourceCause, SourceError, fault};
 use crate::scope::Scope;
-use std::alloc::Global;
-use stm_history::Text;
 use stm_program::Operator;
 use stm_tokens::{Symbol, Token};
 
@@ -79,7 +77,6 @@ fn constant<'a>(
 
 /// A text or a number, or a name that stands for one above.
 pub fn literal_argument<'a>(
-    alloc: Global,
     constants: &Constants,
     tokens: &'a [Token],
 ) -> Result<(Given, &'a [Token]), SourceError>
@@ -87,7 +84,7 @@ pub fn literal_argument<'a>(
 {
     let at = place(tokens);
     if let Some((text, rest)) = next_text(tokens) {
-        let argument = Argument::Text(Text::copy_of(alloc, text)?);
+        let argument = Argument::Text(text.clone()?);
         return Ok((Given { argument, at }, rest));
     }
     if let Some((number, rest)) = next_number(tokens) {
@@ -164,11 +161,7 @@ impl Scope {
 
     /// A text, for which a name may stand.
     #[tactic(auto, unfolding(crate::specs::Literals::text_given))]
-    pub fn text<'a>(
-        &self,
-        alloc: Global,
-        tokens: &'a [Token],
-    ) -> Result<(GivenText, &'a [Token]), SourceError>
+    pub fn text<'a>(&self, tokens: &'a [Token]) -> Result<(GivenText, &'a [Token]), SourceError>
         ensures { Returns (λ x. (x.0, x.1.now)) result (spec.text_given self.now tokens.now) }
     {
         let Some((text, rest)) = next_text(tokens) else {
@@ -177,7 +170,7 @@ impl Scope {
             };
             return self.text_named(name, tokens, rest);
         };
-        let text = Some(Text::copy_of(alloc, text)?);
+        let text = Some(text.clone()?);
         let at = place(tokens);
         Ok((GivenText { text, at }, rest))
     }

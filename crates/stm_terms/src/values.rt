@@ -34,13 +34,13 @@ fn literal<'a>(
     alloc: Global,
     scope: &Scope,
     at: usize,
-    text: &str,
+    text: &Text,
     rest: &'a [Token],
 ) -> Result<(Valued, &'a [Token]), SourceError>
     ensures { Returns (λ x. (x.0, x.1.now)) result (spec.literal scope.now at text.now rest.now) }
 {
-    if text.len() <= MAX_TEXT {
-        let text = Text::copy_of(alloc, text)?;
+    if text.as_str().len() <= MAX_TEXT {
+        let text = text.clone()?;
         let node = ExprNode::Text(text);
         Ok((scope.valued(alloc, Expr { node }, Kind::Text), rest))
     } else {
@@ -129,7 +129,7 @@ fn argument_value<'a>(
             let value = unknown(alloc, scope)?;
             Ok((value, rest))
         }
-        Argument::Text(text) => literal(alloc, scope, at, text.as_str(), rest),
+        Argument::Text(text) => literal(alloc, scope, at, text, rest),
         Argument::Number(number) => Ok((number_of(alloc, scope, *number), rest)),
     }
 }
@@ -350,7 +350,7 @@ fn operand<'a>(
         return Err(unexpected(tokens));
     };
     match &first.kind {
-        TokenKind::Text(text) => literal(alloc, scope, first.at, text.as_str(), rest),
+        TokenKind::Text(text) => literal(alloc, scope, first.at, text, rest),
         TokenKind::Number(number) => positive(alloc, scope, first.at, *number, rest),
         TokenKind::Name(name) => {
             named_operand(alloc, scope, levels, first.at, name.as_str(), rest)

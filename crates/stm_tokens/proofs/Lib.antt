@@ -1,3 +1,4 @@
 pub mod NameLemmas
+pub mod PlainLemmas
 pub mod QuotedLemmas
 pub mod TokenLemmas

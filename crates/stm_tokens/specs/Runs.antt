@@ -1,7 +1,7 @@
 -- How far bytes of one kind reach.
 use Rattle.std.specs.Prelude.{ℕ, suc, List, [], ◌∷◌, Bool, not, ◌||◌, ◌&&◌, nat_eq, nat_le, if◌then◌else◌}
 use Rattle.stm_tokens.specs.declared.runs.Run.{Run}
-use Rattle.stm_tokens.specs.declared.runs.Run.TheVariants.{Blank, Comment, Name, Digits}
+use Rattle.stm_tokens.specs.declared.runs.Run.TheVariants.{Blank, Comment, Name, Digits, Plain}
 
 -- letters of ASCII, and '_'
 abbrev pub begins_name : ℕ → Bool
@@ -19,6 +19,7 @@ is_in Blank b = is_blank b
 is_in Comment b = not (nat_eq b 10)
 is_in Name b = begins_name b || is_digit b
 is_in Digits b = is_digit b
+is_in Plain b = not (nat_eq b 34) && not (nat_eq b 92) && nat_le 32 b
 
 -- how many bytes at the start are of a kind
 abbrev pub run : Run → List ℕ → ℕ

@@ -1,7 +1,10 @@
 //! Texts in quotes.
-ghost use Rattle.std.specs.Prelude.{◌≡◌, ◌≤◌, length, false, not, ◌&&◌, nat_eq, IfOk, IfSome};
+ghost use Rattle.std.specs.Prelude.{◌≡◌, ◌≤◌, ◌+◌, length, false, not, ◌&&◌, nat_eq, Some, IfOk, IfSome};
 ghost use Rattle.stm_tokens.specs.Quoted.{closing, text_in};
+ghost use Rattle.stm_tokens.specs.Tokens.{text_piece};
+ghost use Rattle.stm_tokens.specs.declared.token.TokenKind.TheVariants as kind;
 
+use crate::runs::{Run, run_length};
 use serde_json::Value;
 use std::alloc::{AllocError, Global};
 use stm_history::Text;
@@ -27,6 +30,22 @@ pub(crate) fn closing_quote(bytes: &[u8]) -> Option<usize>
         escaped = escapes(escaped, *byte);
     }
     None
+}
+
+/// The text at the start, where each of its bytes stands for itself.
+pub(crate) fn plain_text(bytes: &[u8]) -> Option<&str>
+    ensures is { IfSome result (λ text. text_piece bytes.now ≡ Some (kind.Text text.now, length text.now + 2)) }
+    ensures within { IfSome result (λ text. length text.now + 2 ≤ length bytes.now) }
+{
+    let (first, inner) = bytes.split_first()?;
+    let length = run_length(Run::Plain, inner);
+    if *first != b'"' || length >= inner.len() || inner[length] != b'"' {
+        return None;
+    }
+    match str::from_utf8(&inner[..length]) {
+        Ok(text) => Some(text),
+        Err(_) => None,
+    }
 }
 
 /// The text that bytes with their quotes are a JSON string of, if they are one.

@@ -13,6 +13,8 @@ pub(crate) enum Run {
     Name,
     /// Digits.
     Digits,
+    /// Bytes of a text in quotes that stand for themselves: no quote, no backslash and no control character.
+    Plain,
 }
 
 /// Whether a byte is a letter or `_`, with which a name begins.
@@ -38,6 +40,7 @@ fn is_of(kind: Run, byte: u8) -> bool
         Run::Comment => byte != b'\n',
         Run::Name => begins_name(byte) || is_digit(byte),
         Run::Digits => is_digit(byte),
+        Run::Plain => byte != b'"' && byte != b'\\' && byte >= b' ',
     }
 }
 

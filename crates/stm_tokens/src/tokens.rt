@@ -5,11 +5,12 @@ ghost use Rattle.stm_tokens.specs.Tokens.{tokens_in};
 
 use crate::names::name_token;
 use crate::numbers::{number_length, number_of};
-use crate::quoted::{closing_quote, quoted_text};
+use crate::quoted::{closing_quote, plain_text, quoted_text};
 use crate::runs::{Run, begins_name, is_digit, run_length};
 use crate::symbols::symbol_of;
 use crate::token::{Token, TokenKind};
 use std::alloc::{AllocError, Global};
+use stm_history::Text;
 
 /// What stands next in a source.
 #[derive(Debug, Drop)]
@@ -58,8 +59,8 @@ fn number_at(bytes: &[u8]) -> Option<(TokenKind, usize)>
     Some((TokenKind::Number(value), length))
 }
 
-/// The text at the start, and its length with its quotes.
-fn text_at(alloc: Global, bytes: &[u8]) -> Result<Option<(TokenKind, usize)>, AllocError>
+/// The text at the start, which may have escapes, and its length with its quotes.
+fn escaped_text(alloc: Global, bytes: &[u8]) -> Result<Option<(TokenKind, usize)>, AllocError>
     ensures is { IfOk result (λ piece. piece ≡ text_piece bytes.now) }
     ensures within { IfOk result (λ piece. IfSome piece (λ p. p.1 ≤ length bytes.now)) }
 {
@@ -74,6 +75,19 @@ fn text_at(alloc: Global, bytes: &[u8]) -> Result<Option<(TokenKind, usize)>, Al
         Some(text) => Ok(Some((TokenKind::Text(text), length))),
         None => Ok(None),
     }
+}
+
+/// The text at the start, and its length with its quotes.
+fn text_at(alloc: Global, bytes: &[u8]) -> Result<Option<(TokenKind, usize)>, AllocError>
+    ensures is { IfOk result (λ piece. piece ≡ text_piece bytes.now) }
+    ensures within { IfOk result (λ piece. IfSome piece (λ p. p.1 ≤ length bytes.now)) }
+{
+    let Some(text) = plain_text(bytes) else {
+        return escaped_text(alloc, bytes);
+    };
+    let length = text.len() + 2;
+    let text = Text::copy_of(alloc, text)?;
+    Ok(Some((TokenKind::Text(text), length)))
 }
 
 /// The symbol at the start, and its length.

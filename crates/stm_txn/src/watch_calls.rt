@@ -1,5 +1,5 @@
 //! The calls of a store about its watchers.
-ghost use Rattle.std.specs.Prelude.{◌≡◌, IfOk, OnErr, is_some};
+ghost use Rattle.std.specs.Prelude.{◌≡◌, IfOk, OnErr, is_some, length};
 ghost use Rattle.std.specs.List.{list_any};
 ghost use Rattle.stm_txn.specs.WatchReported.{watch_reported, poll_reported};
 
@@ -92,6 +92,13 @@ impl Store {
         ensures { result ≡ list_any is_some self.now.standing.watchers }
     {
         self.watchers.has_any()
+    }
+
+    /// How many watchers there were, those that were cancelled among them. It takes no memory.
+    pub fn watcher_count(&self) -> usize
+        ensures { result ≡ length self.now.standing.watchers }
+    {
+        self.watchers.count()
     }
 
     /// A poll, without the bounds of its numbers.

@@ -1,7 +1,7 @@
 -- What each step of the search shows.
 use Rattle.std.proofs.Common.{◌≡◌, ℕ, zero, suc, ◌+◌, ◌<◌, ◌≤◌, Bool, true, false, ◌||◌, cond, List, [], ◌∷◌, ◌++◌, length, get_or, map, take, drop, Contains, Option, Some, None, is_some, inl, inr, ◌⊎◌}
 use Rattle.std.proofs.Common.{option_map, flat_map, refl, sym, ◌∙◌, ap, subst, arith, append_assoc}
-use Rattle.std.proofs.Math.Seq.{take-suc, drop-cons}
+use Rattle.std.proofs.Math.Seq.{drop-cons}
 use Rattle.std.proofs.lemmas.List.{get_or_default}
 use Rattle.std.specs.Prelude.{not, ◌==◌}
 use Rattle.std.specs.Cmp.{unsigned_Decides}

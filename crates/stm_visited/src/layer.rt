@@ -6,7 +6,7 @@ ghost use Rattle.stm_visited.specs.declared.halt.Halt.TheVariants.{Spent};
 
 use crate::budget::{Budget, Observer};
 use crate::halt::Halt;
-use crate::reached::{Reached, reach};
+use crate::reached::{Reached, reach, share};
 use crate::seen::Seen;
 use crate::system::System;
 use std::alloc::{AllocError, Global};
@@ -51,6 +51,41 @@ fn is_seen<S: System>(
     }
 }
 
+/// A place that shares what it holds with the one that may stand at an index.
+fn sharing_with<S: System>(
+    system: &S,
+    next: &[Reached<S::Place, S::Move>],
+    r: Reached<S::Place, S::Move>,
+    index: usize,
+) -> Result<Reached<S::Place, S::Move>, AllocError>
+    ensures { IfOk result (λ shared. shared ≡ r) }
+{
+    if index < next.len() {
+        let it = &next[index];
+        return share(system, r, it);
+    }
+    Ok(r)
+}
+
+/// A place that shares what it holds with the first of these that holds the same. If there is none, it is going to be the first one.
+fn sharing_one<S: System>(
+    system: &S,
+    seen: &mut Seen,
+    next: &[Reached<S::Place, S::Move>],
+    r: Reached<S::Place, S::Move>,
+) -> Result<Reached<S::Place, S::Move>, AllocError>
+    ensures { IfOk result (λ shared. shared ≡ r) }
+{
+    let hint = system.held_hint(&r.place);
+    match seen.find_holder(hint) {
+        Some(index) => sharing_with(system, next, r, index),
+        None => {
+            seen.note_holder(hint, next.len())?;
+            Ok(r)
+        }
+    }
+}
+
 /// Adds a place to a layer, unless one that is alike stands there.
 fn add<S: System>(
     system: &S,
@@ -66,7 +101,8 @@ fn add<S: System>(
         return Ok(());
     }
     let index = next.len();
-    next.push(r)?;
+    let shared = sharing_one(system, seen, next.as_slice(), r)?;
+    next.push(shared)?;
     seen.note(hint, index)?;
     Ok(())
 }

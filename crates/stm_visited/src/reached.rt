@@ -74,3 +74,16 @@ pub(crate) fn reach<S: System>(
     let place = system.moved(&from.place, chosen)?;
     Ok(Reached { place, path })
 }
+
+/// The same, where the place shares what it holds with another one that holds the same.
+pub(crate) fn share<S: System>(
+    system: &S,
+    r: Reached<S::Place, S::Move>,
+    other: &Reached<S::Place, S::Move>,
+) -> Result<Reached<S::Place, S::Move>, AllocError>
+    ensures { IfOk result (λ shared. shared ≡ r) }
+{
+    let Reached { place, path } = r;
+    let place = system.sharing(place, &other.place)?;
+    Ok(Reached { place, path })
+}

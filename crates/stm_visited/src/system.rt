@@ -49,5 +49,17 @@ pub trait System {
     /// have different numbers, each is gone on from.
     fn hint(&self, place: &Self::Place) -> u64;
 
+    /// A number that places have in common which hold the same in part: one that was come to later may share that with the first. No contract says so.
+    fn held_hint(&self, _place: &Self::Place) -> u64 {
+        0
+    }
+
+    /// The place, which from now on shares with another one what both hold, where the two do not share it yet. It is the same place, and takes less memory.
+    fn sharing(&self, place: Self::Place, _other: &Self::Place) -> Result<Self::Place, AllocError>
+        ensures { IfOk result (λ shared. shared ≡ place) }
+    {
+        Ok(place)
+    }
+
     ghost respects: { (s : Self) (rule : ℕ) → Respects Self.Place Self.Move Self.Shown (steps s rule) (Alike s) };
 }

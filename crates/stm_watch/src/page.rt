@@ -23,8 +23,6 @@ pub(crate) struct RangeEntry {
 }
 
 impl RangeEntry {
-    ghost use Rattle.stm_watch.specs.declared.watched.Watched.TheVariants.{Range};
-
     /// The entry of the watcher at a place.
     pub(crate) fn of(first: &Text, end: &Text, place: usize) -> Result<RangeEntry, AllocError>
         ensures { IfOk result (λ entry. entry ≡ entry_of first.now end.now place) }
@@ -34,13 +32,6 @@ impl RangeEntry {
             end: end.clone()?,
             place,
         })
-    }
-
-    /// Whether a key is in the range.
-    pub(crate) fn has(&self, key: &Text) -> bool
-        ensures { result ≡ is_watched (Range self.now.first self.now.end) key.now }
-    {
-        self.first.cmp(key).is_le() && key.cmp(&self.end).is_lt()
     }
 
     /// Whether the entry is the one with this first key and place, or stands before it. Entries stand in the order of

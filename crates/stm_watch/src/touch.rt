@@ -58,15 +58,14 @@ fn touch_its_own(slots: &mut Slots, index: &mut Index, revision: u64, key: &Text
     }
 }
 
-/// Notes it for a watcher of a range, where the range has that key.
+/// Notes it for a watcher of a range, where the range has that key. No text is compared for one that is ready, or is yet to start: the
+/// watcher says so before its range is looked at.
 fn touch_range(slots: &mut Slots, index: &mut Index, entry: &RangeEntry, revision: u64, key: &Text)
     requires { Covers index.old slots.old }
     ensures slots { IsTouched revision key.now (λ i. Reaches key.now i entry.now) slots.old slots.new }
     ensures covers { Covers index.new slots.new }
 {
-    if entry.has(key) {
-        touch_one(slots, index, entry.place, revision, key);
-    }
+    touch_one(slots, index, entry.place, revision, key);
 }
 
 /// Notes it for those of these watchers of ranges whose range has that key.

@@ -221,6 +221,13 @@ impl Watchers {
         self.table.has_any()
     }
 
+    /// How many watchers there were, those that were cancelled among them. It takes no memory.
+    pub fn count(&self) -> usize
+        ensures { result ≡ length self.now.places }
+    {
+        self.table.len()
+    }
+
     /// Whether the watcher at a place is lost.
     fn is_lost(&self, place: usize) -> bool
         requires { IsSome (slice_index_or self.now.places place None) }

@@ -27,6 +27,7 @@ use Rattle.stm_world.specs.World.{World, opened, replies_to, step}
 use Rattle.stm_world.specs.Doomed.{FailedCommit, failed_commit, IsRealFailure, is_of_runner, since, failed_commits, FailuresMoveOn}
 use Rattle.stm_world.proofs.Slots.{equal_numbers, same_number}
 use Rattle.std.proofs.lemmas.List.{length-append}
+use Rattle.std.proofs.lemmas.Option.{same_Some}
 use Rattle.stm_events.specs.Replies.{runner_named}
 use Rattle.stm_world.proofs.Untouched.{Untouched, IsFresh, by_reply, same_running, same_reported}
 use Rattle.stm_world.proofs.Following.{FollowsStep, with_line}
@@ -71,10 +72,9 @@ others_move_on : (start : Setup) (log : List Line) (line : Line) (id : ℕ) → 
     HasMovedOn start (line ∷ log) id
 others_move_on start log line id grows o m = record {
   counter = λ task is.
-      let same : least start (line ∷ log) id ≡ least start log id = same_least start log line id o in
       let before : least start log id ≤ now (store start log).history = m.counter task (sym (same_begun id line log o.untouched) ∙ is) in
       let grown = grows.grown in
-      omega (arith, same);
+      omega (arith, same_least start log line id o);
   known = λ task runs.
       subst (λ n. KnowsFrom n (known_after_log start id task (line ∷ log))) (sym (same_least start log line id o))
       (subst (KnowsFrom (least start log id)) (sym (same_reported start id task line log o.untouched)) (m.known task (sym (same_running id line log o.untouched) ∙ runs)));
@@ -109,18 +109,14 @@ started_moves_on : (start : Setup) (log : List Line) (task : Task) (id : ℕ) �
     HasMovedOn start (with_line (Start task.program task.level task.limit) (Ok (Started id)) log) id
 started_moves_on start log task id fresh grows =
     let line : Line = record { event = Start task.program task.level task.limit; reply = Ok (Started id) } in
-    let none : failed_commits id log ≡ 0 = none_failed id log fresh.not_over ∙ fresh.no_failures in
     let here : since start id (line ∷ log) ≡ now (store start log).history =
     ap (λ b. cond b (now (store start log).history) (since start id log)) (same_number id) in
     record {
-      counter = λ other is. let grown = grows.grown in omega (arith, none, here);
+      counter = λ other is. let grown = grows.grown in omega (arith, none_failed id log fresh.not_over ∙ fresh.no_failures, here);
       known = λ other runs. subst (KnowsFrom (least start (line ∷ log) id)) (sym (fresh.nothing other)) (tt, tt);
     }
 
 -- ---- a step of the runner ----
-
-some_is_same : (one other : Task) → Some one ≡ Some other → one ≡ other
-some_is_same one other same = cc
 
 is_begun : (over : Bool) (o : Option Task) (task : Task) → cond over None o ≡ Some task → o ≡ Some task
 is_begun true o task is = absurd (cc)
@@ -137,7 +133,7 @@ fetched_moves_on start log id task key mod_rev of_rev revision runs fetch grows 
     record {
       counter = λ other is. before;
       known = λ other runs_as.
-          let is : task ≡ other = some_is_same task other (sym runs ∙ runs_as) in
+          let is : task ≡ other = same_Some task other (sym runs ∙ runs_as) in
           subst (λ (t : Task). KnowsFrom (least start log id) (known_after_log start id t (line ∷ log))) is
           (subst (KnowsFrom (least start log id))
           (sym (ap (λ b. cond b (after_fetch task (answer_at h key of_rev) (known_after_log start id task log)) (known_after_log start id task log)) (same_number id)))
@@ -154,7 +150,7 @@ prefetched_moves_on start log id task revision reads runs grows m =
     record {
       counter = λ other is. before;
       known = λ other runs_as.
-          let is : task ≡ other = some_is_same task other (sym runs ∙ runs_as) in
+          let is : task ≡ other = same_Some task other (sym runs ∙ runs_as) in
           subst (λ (t : Task). KnowsFrom (least start log id) (known_after_log start id t (line ∷ log))) is
           (subst (KnowsFrom (least start log id))
           (sym (ap (λ b. cond b (after_list task h (known_after_log start id task log)) (known_after_log start id task log)) (same_number id)))
@@ -167,7 +163,7 @@ failure_moves_on : (start : Setup) (log : List Line) (id : ℕ) (task : Task) (f
     least start log id + 1 ≤ now (store start log).history
 failure_moves_on start log id task failed same runs real low m =
     let at : running failed.runner log ≡ Some task = subst (λ n. running n log ≡ Some task) (sym same) runs in
-    let is : real.task ≡ task = some_is_same real.task task (sym real.runs ∙ at) in
+    let is : real.task ≡ task = same_Some real.task task (sym real.runs ∙ at) in
     let reached : least start log id ≤ now (store start log).history = m.counter task (is_begun (is_over id log) (begun id log) task runs) in
     let knows : KnowsFrom (least start log id) (known_after_log start failed.runner real.task log) =
     subst (λ n. KnowsFrom (least start log id) (known_after_log start n real.task log)) (sym same)

@@ -1,6 +1,7 @@
 -- Each watcher is notified of all: line by line, what it was notified of and what is pending make up the whole.
-use Rattle.std.proofs.Common.{◌≡◌, ◌≢◌, ◌⊎◌, inl, inr, ℕ, ◌+◌, ◌-◌, ◌<◌, ◌≤◌, zero, suc, List, [], ◌∷◌, ◌++◌, length, Option, Some, None, Ok, Err}
+use Rattle.std.proofs.Common.{◌≡◌, ◌≢◌, inl, inr, ℕ, ◌+◌, ◌-◌, ◌<◌, ◌≤◌, zero, suc, List, [], ◌∷◌, ◌++◌, length, Option, Some, None, Ok, Err}
 use Rattle.std.proofs.Common.{Bool, true, false, cond, refl, sym, ◌∙◌, ap, subst, arith, append-nil, slice_index_or, slice_set}
+use Rattle.std.proofs.lemmas.Bool.{or_cases}
 use Rattle.std.proofs.lemmas.List.{length-set, length-append, length-map, get_or-set_same, get_or-set_other}
 use Rattle.std.specs.Prelude.{nat_eq, nat_lt, nat_le, option_map, Result, ◌||◌}
 use Rattle.stm_history.specs.History.{History, now}
@@ -20,7 +21,6 @@ use Rattle.stm_outcome.specs.declared.refusal.Refusal.{Refusal as StoreRefusal}
 use Rattle.stm_outcome.specs.declared.refusal.Refusal.TheVariants.{Compacted as CompactedRefusal, FutureRevision}
 use Rattle.stm_txn.specs.Standing.{Standing, Step as StoreStep, with_watchers, watch_step, poll_step, cancel_step, with_floor, floor_step, IsKeptFor, Setup}
 use Rattle.stm_events.specs.declared.event.WorldEvent.{WorldEvent}
-use Rattle.stm_events.specs.declared.event.WorldEvent.TheVariants.{Start, Step, Txn, Grant, Keep, Revoke, Advance}
 use Rattle.stm_events.specs.declared.event.WorldEvent.TheVariants.{WatchKey, WatchRange, Poll, Cancel, Compact}
 use Rattle.stm_events.specs.declared.reply.Reply.{Reply}
 use Rattle.stm_events.specs.declared.reply.CommittedRead.{CommittedRead}
@@ -28,7 +28,7 @@ use Rattle.stm_events.specs.declared.reply.Reply.TheVariants.{Committed, Watchin
 use Rattle.stm_events.specs.declared.refusal.Denied.{Denied}
 use Rattle.stm_events.specs.Replies.{reply_to, batch_reply, poll_reply, store_after_call, store_after_poll}
 use Rattle.stm_world.specs.Task.{Task}
-use Rattle.stm_world.specs.Log.{Line, is_id, begun, with_commit, store_after_step, store}
+use Rattle.stm_world.specs.Log.{Line, is_id, begun, with_commit, store_after_step, store_after_asked, store}
 use Rattle.stm_world.specs.Right.{IsRight, AreRight}
 use Rattle.stm_world.specs.Headline.{Headline}
 use Rattle.stm_world_laws.specs.Notifying.{made, made_by, or_earlier, begun_watching, events_in, reported_by, events_to, watcher_given_up, gives_up, is_given_up, watching}
@@ -39,7 +39,7 @@ use Rattle.stm_world.proofs.EventKeeps.{event_goes_on, store_kept}
 use Rattle.stm_world.proofs.KeptFor.{kept_at}
 use Rattle.stm_world.proofs.Slots.{equal_numbers, same_number, other_number, differ}
 use Rattle.stm_events.specs.Called as call
-use Rattle.stm_events.specs.Called.{Call}
+use Rattle.stm_events.specs.Called.{Asked, Starts, Steps, Calls, asked}
 use Rattle.stm_events.proofs.StoreKeeps.{StoreKeeps, store_keeps}
 
 -- ---- the watchers stay at an event that is about no watcher
@@ -67,8 +67,16 @@ watchers_kept = record {
   raised = λ s revision of above reached. absurd (cc);
 }
 
-watchers_stay : (s : Standing) (c : Call) → call.is_entered c ≡ true → (call.called s c).next.watchers ≡ s.watchers
-watchers_stay s c of = store_keeps (λ x. call.is_entered x ≡ true) (λ s next. next.watchers ≡ s.watchers) watchers_kept s c of
+-- a start, a step or a call that is entered
+abbrev is_about_none : Asked → Bool
+is_about_none (Calls c) = call.is_entered c
+is_about_none other = true
+
+watchers_stay : (task_of : ℕ → Option Task) (s : Standing) (reply : Result Reply Denied) (a : Asked) → is_about_none a ≡ true →
+    (store_after_asked task_of a reply s).watchers ≡ s.watchers
+watchers_stay task_of s reply (Starts program level limit) of = refl
+watchers_stay task_of s reply (Steps id) of = step_stays task_of s reply
+watchers_stay task_of s reply (Calls c) of = store_keeps (λ x. call.is_entered x ≡ true) (λ s next. next.watchers ≡ s.watchers) watchers_kept s c of
 
 -- ---- line by line
 
@@ -446,10 +454,6 @@ polled_by start log reply id most (Some w) are found right leaves = poll_by star
 
 -- ---- a compaction
 
-lost_by : (P : Type 0) (was by_it : Bool) → (was || by_it) ≡ true → (was ≡ true → P) → (by_it ≡ true → P) → P
-lost_by P true by_it lost earlier here = earlier refl
-lost_by P false by_it lost earlier here = here lost
-
 -- a watcher may be lost by it, but what it was notified of and what is pending stay
 compacted_reported : (start : Setup) (log : List Line) (id : ℕ) (h : History) (floor : ℕ) (o : Option Watching) → (store start log).history ≡ h →
     (store start log).floor ≡ floor → IsReported start log id o → IsReported start log id (option_map (compacted_one h floor) o)
@@ -460,9 +464,10 @@ compacted_reported start log id h floor (Some w) history floor_is is =
       begun = is.begun;
       is_begun = is.is_begun;
       reports = record { same = is.reports.same; since = is.reports.since; reached = is.reports.reached; all = is.reports.all };
-      because = λ lost. lost_by ((is.begun.lost ≡ true) ⊎ (is_lost s.floor (first_pending s.history w) ≡ true)) w.lost (is_lost floor (first_pending h w))
-          lost is.because
-          (λ below. inr (ap (λ n. is_lost n (first_pending s.history w)) floor_is ∙ ap (λ (g : History). is_lost floor (first_pending g w)) history ∙ below));
+      because = λ lost. elim (or_cases w.lost (is_lost floor (first_pending h w)) lost) [
+        | inl earlier ↦ is.because earlier
+        | inr below ↦ inr (ap (λ n. is_lost n (first_pending s.history w)) floor_is ∙ ap (λ (g : History). is_lost floor (first_pending g w)) history ∙ below)
+      ];
     }
 
 place_compacted : (h : History) (floor : ℕ) (ws : List (Option Watching)) (i : ℕ) →
@@ -512,21 +517,6 @@ compact_by start log reply revision false false are leaves =
 
 reported_more : (start : Setup) (log : List Line) (event : WorldEvent) (reply : Result Reply Denied) → IsRight start log event reply → AreReported start log →
     AreReported start (with_line event reply log)
-reported_more start log (Start program level limit) reply right are =
-    quiet start log (Start program level limit) reply are (λ id. record { reported = refl; made = refl; kept = refl }) refl
-reported_more start log (Step runner) reply right are =
-    quiet start log (Step runner) reply are (λ id. record { reported = refl; made = refl; kept = refl })
-    (step_stays (λ n. begun n log) (store start log) reply)
-reported_more start log (Txn txn) reply right are =
-    quiet start log (Txn txn) reply are (λ id. record { reported = refl; made = refl; kept = refl }) (watchers_stay (store start log) (call.Txn txn) refl)
-reported_more start log (Grant lease ttl) reply right are =
-    quiet start log (Grant lease ttl) reply are (λ id. record { reported = refl; made = refl; kept = refl }) (watchers_stay (store start log) (call.Grant lease ttl) refl)
-reported_more start log (Keep lease) reply right are =
-    quiet start log (Keep lease) reply are (λ id. record { reported = refl; made = refl; kept = refl }) (watchers_stay (store start log) (call.Keep lease) refl)
-reported_more start log (Revoke lease) reply right are =
-    quiet start log (Revoke lease) reply are (λ id. record { reported = refl; made = refl; kept = refl }) (watchers_stay (store start log) (call.Revoke lease) refl)
-reported_more start log (Advance moment) reply right are =
-    quiet start log (Advance moment) reply are (λ id. record { reported = refl; made = refl; kept = refl }) (watchers_stay (store start log) (call.Advance moment) refl)
 reported_more start log (WatchKey key from) reply right are =
     watch_by start log (WatchKey key from) reply (Key key) from (nat_eq (length (first_key (Key key))) 0) are (λ id. refl) (λ id. refl)
     (λ id. refl) right refl
@@ -540,6 +530,9 @@ reported_more start log (Cancel watcher) reply right are =
 reported_more start log (Compact revision) reply right are =
     let s : Standing = store start log in
     compact_by start log reply revision (nat_le revision s.floor) (nat_lt (now s.history) revision) are refl
+reported_more start log event reply right are =
+    quiet start log event reply are (λ id. record { reported = refl; made = refl; kept = refl })
+    (watchers_stay (λ n. begun n log) (store start log) reply (asked event) refl)
 
 none_there : (id : ℕ) → watcher_at id [] ≡ (let o : Option Watching = None in o)
 none_there id = elim (nat_eq id 0) as (λ b. cond b None (slice_index_or [] (id - 1) None) ≡ (let o : Option Watching = None in o)) [

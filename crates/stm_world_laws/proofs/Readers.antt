@@ -53,10 +53,9 @@ held_is_read : (h : History) (entries : List StateEntry) (queue : List ℕ) (ite
 held_is_read h entries queue items state held =
     let head : ℕ = held.head in
     let tail : ℕ = held.tail in
-    let count : head + length items ≡ tail = held.count in
     let top : tail < 2 ^ 63 = held.in_range in
-    let left : tail - head ≡ length items = omega (arith, count) in
-    let low : head ≤ tail = omega (arith, count) in
+    let left : tail - head ≡ length items = omega (arith, held.count) in
+    let low : head ≤ tail = omega (arith, held.count) in
     ap (λ (o : Option ℕ). items_between entries queue o (mark_of (find_entry (tail_key queue) entries)))
     (mark_read h entries (head_key queue) head state (omega (arith, top, low)) held.is_head)
     ∙ ap (items_between entries queue (Some head)) (mark_read h entries (tail_key queue) tail state top held.is_tail)
@@ -111,16 +110,14 @@ read_is_held h entries queue items state head tail found =
     (mark_read h entries (head_key queue) from state head.in_range head.is)
     ∙ ap (items_between entries queue (Some from)) (mark_read h entries (tail_key queue) to state tail.in_range tail.is)) ∙ found in
     let parts = in_order_by (nat_le from to) from to (items_from entries queue from (to - from)) items refl marked in
-    let low : from ≤ to = parts.0 in
     let held : AreItems h queue from items × (length items ≡ to - from) = items_held h entries queue from (to - from) items state parts.1 in
-    let count : length items ≡ to - from = held.1 in
     record {
       head = from;
       tail = to;
       is_head = head.is;
       is_tail = tail.is;
       in_range = tail.in_range;
-      count = omega (arith, low, count);
+      count = omega (arith, parts.0, held.1);
       each = held.0;
     }
 

@@ -4,6 +4,7 @@ use Rattle.std.proofs.Common.{◌∙◌, ap, arith, codes}
 use Rattle.std.specs.Prelude.{ℤ, pos, ◌+ℤ◌, int_lt, not, bytes_eq, is_some, slice_get}
 use Rattle.std.proofs.lemmas.List.{length-append}
 use Rattle.std.proofs.lemmas.Option.{same_Some}
+use Rattle.std.proofs.lemmas.Bool.{not-false}
 use Rattle.stm_history.specs.declared.key_state.KeyState.{KeyState}
 use Rattle.stm_history.specs.History.{History, key_now, value_of as value_now}
 use Rattle.stm_history.specs.declared.change.Change.TheVariants.{Del}
@@ -36,10 +37,6 @@ use Rattle.stm_world_laws.proofs.SlotLemmas.{reservations_take_free_slots, held_
 
 -- ---- accounts
 
-is_short : (short : Bool) → not short ≡ false → short ≡ true
-is_short true e = refl
-is_short false e = absurd (cc)
-
 -- a transfer that is done could be paid
 cannot_pay : (o : Option ℤ) (account : Option KeyState) (from to : List ℕ) (amount : ℕ) (values : List ℕ → List ℕ) (run : Run) → number_of account ≡ o →
     can_pay o amount ≡ false → run.end ≡ DoneEnd → deed_of run ≡ moved_or_refused from to amount values (written_number (value_now account)) → ⊥
@@ -51,7 +48,7 @@ cannot_pay (Some balance) account from to amount values run is short ended deed 
     let enough : int_lt balance (pos amount) ≡ false =
     (enough_by (int_lt balance (pos amount)) from to amount values balance run ended
     (deed ∙ ap (moved_or_refused from to amount values) (number_is account balance is))).0 in
-    let lacks : int_lt balance (pos amount) ≡ true = is_short (int_lt balance (pos amount)) short in
+    let lacks : int_lt balance (pos amount) ≡ true = not-false (int_lt balance (pos amount)) short in
     absurd (cc)
 
 pub wrong_transfers : WrongTransfers

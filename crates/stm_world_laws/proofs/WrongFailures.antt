@@ -1,9 +1,10 @@
 -- Wrong failures, ends and runs are rejected.
 use Rattle.std.proofs.Common.{◌≡◌, ◌≢◌, ◌⊎◌, inl, inr, ℕ, ◌+◌, ◌<◌, ◌≤◌, zero, suc, List, [], ◌∷◌, ◌++◌, length, map, Option, Some, None, Ok}
 use Rattle.std.proofs.Common.{Bool, true, false, cond, refl, sym, ◌∙◌, ap, subst, arith}
-use Rattle.std.specs.Prelude.{nat_eq, nat_lt, nat_le, bytes_eq, is_some, ◌&&◌, ◌||◌, slice_get, Result}
+use Rattle.std.specs.Prelude.{nat_eq, nat_lt, bytes_eq, is_some, ◌&&◌, ◌||◌, slice_get, Result}
 use Rattle.std.specs.List.{AllByRecursion}
-use Rattle.std.proofs.lemmas.Bool.{ltb-true, leb-true}
+use Rattle.std.proofs.lemmas.Bool.Decides.{nat_tests}
+use Rattle.std.proofs.lemmas.Bool.{ltb-true}
 use Rattle.std.proofs.lemmas.List.{append-nil, append_cancel_left, length-append}
 use Rattle.std.proofs.lemmas.Option.{same_Some}
 use Rattle.stm_history.specs.declared.change.Change.{Change}
@@ -60,20 +61,9 @@ IsSmall a = mod_of a.kv ≤ a.of_rev
 -- where a history opens without a key
 small_up_to : (number r : ℕ) (key : List ℕ) (revisions : List (List Change)) →
     mod_of (key_after (opening_at number) key (revisions_up_to (opening_at number) r revisions)) ≤ r
-small_up_to number r key [] =
-    let none : mod_of (key_after (opening_at number) key []) ≡ 0 = refl in omega (arith, none)
+small_up_to number r key [] = omega arith
 small_up_to number r key (changes ∷ older) =
-    by (nat_le (number_of_last (opening_at number) (changes ∷ older)) r) refl (small_up_to number r key older)
-  where
-    by : (within : Bool) → nat_le (number_of_last (opening_at number) (changes ∷ older)) r ≡ within →
-        mod_of (key_after (opening_at number) key (revisions_up_to (opening_at number) r older)) ≤ r →
-        mod_of (key_after (opening_at number) key (cond within (changes ∷ older) (revisions_up_to (opening_at number) r older))) ≤ r
-    by true is deeper =
-        let last : number_of_last (opening_at number) (changes ∷ older) ≤ r = leb-true (number_of_last (opening_at number) (changes ∷ older)) r is in
-        let reached : mod_of (key_after (opening_at number) key (changes ∷ older)) ≤ number_of_last (opening_at number) (changes ∷ older) =
-        mod_is_reached (opening_at number) key (changes ∷ older) in
-        omega (arith, last, reached)
-    by false is deeper = deeper
+    grind (arith, nat_tests, mod_is_reached (opening_at number) key (changes ∷ older), small_up_to number r key older)
 
 answer_small : (number : ℕ) (h : History) (key : List ℕ) (r : ℕ) → h.opening ≡ opening_at number → IsSmall (answer_at h key r)
 answer_small number h key r opens =
@@ -134,19 +124,12 @@ seen_small reads writes all =
 
 -- ---- a key that is present, and was changed above a revision, was modified above it ----
 
-deeper_by : (above deeper : Bool) → ((above && false) || deeper) ≡ true → deeper ≡ true
-deeper_by true deeper changed = changed
-deeper_by false deeper changed = changed
-
-put_above : (r number lease : ℕ) (value : List ℕ) (key : List ℕ) (s : Option KeyState) → r < number → r < mod_of (after_change number (Some (Put key value lease)) s)
-put_above r number lease value key None above = above
-put_above r number lease value key (Some s) above = above
-
 changed_above : (r number : ℕ) (change : Option Change) (s : Option KeyState) (deeper : Bool) → r < number →
     ((nat_lt r number && is_some change) || deeper) ≡ true → (deeper ≡ true → 0 < mod_of s → r < mod_of s) → 0 < mod_of (after_change number change s) →
     r < mod_of (after_change number change s)
-changed_above r number None s deeper above changed later present = later (deeper_by (nat_lt r number) deeper changed) present
-changed_above r number (Some (Put key value lease)) s deeper above changed later present = put_above r number lease value key s above
+changed_above r number None s deeper above changed later present = grind (arith, later)
+changed_above r number (Some (Put key value lease)) None deeper above changed later present = above
+changed_above r number (Some (Put key value lease)) (Some s) deeper above changed later present = above
 changed_above r number (Some (Del key)) s deeper above changed later present = absurd (omega (arith, present))
 
 modified_above : (opening : Opening) (r : ℕ) (key : List ℕ) (revisions : List (List Change)) → changes_above opening r key revisions ≡ true →
@@ -173,10 +156,6 @@ record IsOfWrite (h : History) (writes : List Change) (seen : Seen) : Type 0 whe
   was_written : is_written seen.key writes ≡ true
   differs : mod_of (key_now h seen.key) ≢ seen.mod_rev
 
-some_answer : (b : Bool) (a : ReadAnswer) (rest : Option ReadAnswer) → is_some rest ≡ true → is_some (cond b (Some a) rest) ≡ true
-some_answer true a rest some = refl
-some_answer false a rest some = some
-
 read_differs : (h : History) (a : ReadAnswer) → holds (is_as_read a) (key_now h a.key) ≡ false → mod_of (key_now h a.key) ≢ mod_of a.kv
 read_differs h a fails same =
     let held : holds (is_as_read a) (key_now h a.key) ≡ true = (mod_compares.equal a.key (mod_of a.kv) (key_now h a.key)).1 same in
@@ -193,7 +172,7 @@ of_first h a reads c seen compares about fails =
 
 of_later : (h : History) (a : ReadAnswer) (reads : List ReadAnswer) (seen : Seen) → IsOfRead h reads seen → IsOfRead h (a ∷ reads) seen
 of_later h a reads seen of =
-    record { was_read = some_answer (bytes_eq a.key seen.key) a (answer_in seen.key reads) of.was_read; differs = of.differs }
+    record { was_read = grind (arith, of.was_read); differs = of.differs }
 
 of_read : (h : History) (reads : List ReadAnswer) (more : List Seen) (i : ℕ) (c : Compare) (seen : Seen) → slice_get (map is_as_read reads) i ≡ Some c →
     holds c (key_now h c.key) ≡ false → slice_get (map seen_of_read reads ++ more) i ≡ Some seen → IsOfRead h reads seen
@@ -208,14 +187,6 @@ written_by : (w : Change) (ws : List Change) (key : List ℕ) →
 written_by w ws key =
     ap is_some (last_write-append key (w ∷ []) ws ∙ ap (λ (o : Option Change). or_else (last_write key ws) o) (last_write-one key w))
 
-some_write : (later : Option Change) (w : Change) → is_some (or_else later (Some w)) ≡ true
-some_write None w = refl
-some_write (Some x) w = refl
-
-later_write : (later first : Option Change) → is_some later ≡ true → is_some (or_else later first) ≡ true
-later_write None first some = absurd (cc)
-later_write (Some x) first some = refl
-
 write_differs : (h : History) (first : ℕ) (w : Change) → holds (is_unmodified first w) (key_now h (key_of w)) ≡ false → mod_of (key_now h (key_of w)) ≢ first
 write_differs h first w fails same =
     let held : holds (is_unmodified first w) (key_now h (key_of w)) ≡ true =
@@ -228,14 +199,13 @@ of_first_write h first w ws c seen compares about fails =
     subst (IsOfWrite h (w ∷ ws)) (sym about)
     (record {
       was_written = written_by w ws (key_of w)
-          ∙ ap (λ b. is_some (or_else (last_write (key_of w) ws) (cond b (Some w) None))) (bytes_eq-self (key_of w))
-          ∙ some_write (last_write (key_of w) ws) w;
+          ∙ grind (arith, bytes_eq-self (key_of w));
       differs = write_differs h first w (subst (λ (d : Compare). holds d (key_now h d.key) ≡ false) compares fails);
     })
 
 of_later_write : (h : History) (w : Change) (ws : List Change) (seen : Seen) → IsOfWrite h ws seen → IsOfWrite h (w ∷ ws) seen
 of_later_write h w ws seen of = record {
-  was_written = written_by w ws seen.key ∙ later_write (last_write seen.key ws) (cond (bytes_eq (key_of w) seen.key) (Some w) None) of.was_written;
+  was_written = written_by w ws seen.key ∙ grind (arith, of.was_written);
   differs = of.differs;
 }
 
@@ -391,8 +361,7 @@ wrong_failures moves_on = record {
       let is : failed.now_modified ≡ mod_of (key_now h seen.key) = c.is ∙ c.conflict.reported in
       let above : seen.at < mod_of (key_now h seen.key) =
       modified_above h.opening seen.at seen.key h.revisions c.conflict.changed (subst (λ n. 0 < n) is present) in
-      let was : failed.seen ≡ seen.mod_rev = c.was in
-      omega (arith, small, above, is, was, below);
+      omega (arith, small, above, is, c.was, below);
   more_failures_than_growth = λ start events log id task low begins below is.
       let run = moves_on start events in
       let same : run.0 ≡ log = one_log events (replies_to events (opened start)) run.0 log run.1 is in

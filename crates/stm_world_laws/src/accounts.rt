@@ -8,18 +8,21 @@ ghost use Rattle.stm_world_laws.specs.WrongEntries.{WrongTransfers};
 ///
 /// Any other write of an account (at ReadCommitted, by another program, or another client's put or delete) can break this: the law asks
 /// that there is none.
+#[tactic(auto, using(crate::proofs::AccountLemmas::totals_grow_by_deposits))]
 pub fn totals_grow_by_deposits()
     ensures { TotalsGrowByDeposits }
 {}
 
 /// What accounts have in all grows by the deposits, too, where an absent account, or one with an empty value, counts as 0, as it does for a
 /// deposit: so it is said also of accounts that the deposits make. Where each account has a number, this is the total.
+#[tactic(auto, using(crate::proofs::AccountLemmas::counted_totals))]
 pub fn counted_totals_grow_by_deposits()
     ensures { CountedTotals }
 {}
 
 /// These wrong entries of accounts are rejected: a transfer of more than the paying account has, or from one that has no number; and a
 /// total that has grown by another amount than the deposits.
+#[tactic(auto, using(crate::proofs::WrongEntries::wrong_transfers))]
 pub fn wrong_transfers_are_none()
     ensures { WrongTransfers }
 {}

@@ -3,6 +3,7 @@ ghost use Rattle.stm_world_laws.specs.Reasons.{RepliesTellRevisions, CausesAreFi
 
 /// Over every list of events, from every world, the revisions that the replies tell are those of the world's store, before the first event and after
 /// each. So the event that is named as having made a revision has made it: it is the one before which the store had not come to it, and after which it has.
+#[tactic(auto, using(crate::proofs::Counting::replies_tell_revisions))]
 pub fn replies_tell_revisions()
     ensures { RepliesTellRevisions }
 {}

@@ -13,17 +13,20 @@ pub fn reservations_take_free_slots()
 ///
 /// Any other write of the slot (at ReadCommitted, by another program, or another client's put or delete) can break this: the law asks that
 /// between the two there is none.
+#[tactic(auto, using(crate::proofs::SlotLemmas::slots_are_freed_between))]
 pub fn slots_are_freed_between()
     ensures { SlotsAreFreedBetween }
 {}
 
 /// Who `stm_recipes::held` names for a state holds the slot, on some lease; and the slot is held exactly where it names somebody.
+#[tactic(auto, using(crate::proofs::Readers::holders_are_read))]
 pub fn holders_are_read()
     ensures { HoldersAreRead }
 {}
 
 /// These wrong entries of slots are rejected: a reservation of a slot that is held; a second one, where nothing has changed the slot since the
 /// first; and a release by another than the one who holds it.
+#[tactic(auto, using(crate::proofs::WrongEntries::wrong_reservations))]
 pub fn wrong_reservations_are_none()
     ensures { WrongReservations }
 {}

@@ -6,6 +6,7 @@ ghost use Rattle.stm_world_laws.specs.Worlds.{RecipesInWorlds};
 /// and then those that it holds, are those that were added, in order; and between two reservations of a slot it is freed.
 ///
 /// Each holds under the conditions of its own law, on the entries of that world.
+#[tactic(auto, using(crate::proofs::WorldLemmas::recipes_in_worlds))]
 pub fn recipes_keep_their_laws()
     ensures { RecipesInWorlds }
 {}

@@ -4,7 +4,7 @@ ghost use Rattle.std.specs.Prelude.{◌≡◌, false};
 use crate::files::{Opened, open};
 use crate::naming::RUNNERS;
 use crate::noting::Noting;
-use crate::sources::{Given, JsonFile, say_of_runs};
+use crate::sources::{Given, JsonFile, say_ended};
 use std::io;
 use std::io::{Input, Write};
 use std::rt::Files;
@@ -109,9 +109,7 @@ pub(crate) fn run_script(
     let said: Vec<u8> = Vec::new(rt.alloc());
     let mut err = Std::new(said);
     let status = script_on(rt, &given.scenario, format, labels, explain, &mut err);
-    let said = str::from_utf8(err.device.as_slice()).unwrap_or("");
-    say_of_runs(rt, given, RUNNERS, said);
-    status
+    say_ended(rt, given, RUNNERS, status, &err)
 }
 
 /// Checks the report of a path beside a scenario: each line, where it is to be whole.

@@ -4,7 +4,7 @@ ghost use Rattle.std.specs.Prelude.{◌≡◌, false};
 use crate::explaining::{kept_json, name_of, say_unread, say_unwritten};
 use crate::files::is_missing;
 use crate::found::{Form, only_level, print_found, run_rules_in, runners_of};
-use crate::noting::Noting;
+use crate::noting::{Kept, Noting};
 use crate::rules::{is_json, named_in, rules_named, rules_of, unnamed_rule};
 use crate::ruling::Question;
 use crate::sources::{
@@ -145,14 +145,14 @@ fn run_outcomes_in(rt: &HostRuntime, search: &Search<'_, '_>, scenario: &JsonFil
         let mut out = Std::new(Noting::new(rt.stdout()));
         return run_outcomes(rt, search, scenario, &mut out);
     }
-    let mut out = Std::new(Noting::new(Vec::new(rt.alloc())));
+    let mut out = Std::new(Noting::new(Kept::new(rt.alloc())));
     let status = run_outcomes(rt, search, scenario, &mut out);
-    let printed = out.device.into_device();
+    let printed = out.device.into_device().into_bytes();
     print_found(
         rt,
         search.form,
         search.levels,
-        printed.as_slice(),
+        printed,
         status,
         search.explain,
     )
@@ -377,7 +377,7 @@ pub(crate) fn run_search(
         beside,
         text,
     } = source_at(rt, words.scenario, explain)?;
-    let source = source_text(rt, text, &beside);
+    let source = source_text(rt, text, &beside)?;
     let search = Search {
         path: words.scenario,
         keeps: words.keeps.as_slice(),

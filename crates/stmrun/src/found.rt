@@ -1,10 +1,10 @@
 //! What a search prints, in the form that is asked for.
 
 use crate::explaining::say_unwritten;
-use crate::noting::Noting;
+use crate::noting::{Kept, Noting};
 use crate::resuming::resumed;
 use crate::ruling::{Question, run_rules, search_silently};
-use crate::sources::SourceText;
+use crate::sources::{SourceText, out_of_memory};
 use std::alloc::{AllocError, Global};
 use stm_answers::{NamedRunner, in_words};
 use stm_arguments::{Level, Levels};
@@ -29,13 +29,13 @@ const SCENARIO: &str = "[[";
 /// With this begins the line of a broken rule.
 const BROKEN: &str = "[\"broken\"";
 
-/// The table of a run of a scenario, behind an empty line; none, where an allocation fails for it.
+/// The table of a run of a scenario, behind an empty line. It fails only when out of memory.
 fn table_of(
     alloc: Global,
     source: Option<&SourceText>,
     width: Option<u32>,
     line: &str,
-) -> Option<String> {
+) -> Result<String, AllocError> {
     let labels = match source {
         Some(source) => source.labels.as_slice(),
         None => &[],
@@ -48,10 +48,10 @@ fn table_of(
     let format = Format::Text { width };
     let status = script_as_to(alloc, format, labels, false, &mut input, &mut out, &mut err);
     if status != 0 {
-        return None;
+        return Err(AllocError);
     }
-    let table = String::from_utf8(out.device).ok()?;
-    format!(in alloc; "\n{table}").ok()
+    let table = str::from_utf8(out.device.as_slice()).unwrap_or("");
+    format!(in alloc; "\n{table}")
 }
 
 /// A scenario with a schedule, of whose starts this is the level, in a form; none, where it stays a line.
@@ -64,7 +64,10 @@ fn schedule_in(
     match form {
         Form::Lines => Ok(None),
         Form::Source(source) => resumed(alloc, source, level, line),
-        Form::Text(source, width) => Ok(table_of(alloc, source, width, line)),
+        Form::Text(source, width) => {
+            let table = table_of(alloc, source, width, line)?;
+            Ok(Some(table))
+        }
     }
 }
 
@@ -76,17 +79,18 @@ pub(crate) fn runners_of(source: Option<&SourceText>) -> &[NamedRunner] {
     }
 }
 
-/// Adds a line that a search printed, with a line feed: in words, where it is an answer of a search at these levels and that is the form.
+/// Adds a line of what a search printed, with a line feed: in words, where it is an answer of a search at these levels and that is the form.
 fn push_answer(
     alloc: Global,
     out: &mut String,
     form: Form<'_>,
     levels: Levels,
+    printed: &str,
     line: &str,
 ) -> Result<(), AllocError> {
     let has_level = matches!(levels, Levels::All);
     let words = match form {
-        Form::Text(source, _) => in_words(alloc, line, has_level, runners_of(source))?,
+        Form::Text(source, _) => in_words(alloc, line, printed, has_level, runners_of(source))?,
         Form::Lines | Form::Source(_) => None,
     };
     match words {
@@ -96,12 +100,13 @@ fn push_answer(
     out.push('\n')
 }
 
-/// Adds a line that a search at these levels printed, in this form, and answers whether that is a table.
+/// Adds a line of what a search at these levels printed, in this form, and answers whether that is a table.
 fn push_found(
     alloc: Global,
     out: &mut String,
     form: Form<'_>,
     levels: Levels,
+    printed: &str,
     line: &str,
 ) -> Result<bool, AllocError> {
     if line.starts_with(SCENARIO) {
@@ -110,7 +115,7 @@ fn push_found(
             return Ok(matches!(form, Form::Text(_, _)));
         }
     }
-    push_answer(alloc, out, form, levels, line)?;
+    push_answer(alloc, out, form, levels, printed, line)?;
     Ok(false)
 }
 
@@ -127,7 +132,7 @@ fn found_in(
         if is_behind_table {
             out.push('\n')?;
         }
-        is_behind_table = push_found(alloc, &mut out, form, levels, line)?;
+        is_behind_table = push_found(alloc, &mut out, form, levels, printed, line)?;
     }
     Ok(out)
 }
@@ -147,19 +152,22 @@ fn print(rt: &HostRuntime, bytes: &[u8], status: u8, explain: bool) -> u8 {
     }
 }
 
-/// Prints what a search at these levels printed, in this form, or as it is where an allocation fails for that; and gives its status.
+/// Prints what a search at these levels printed, in this form, and gives its status; nothing of it, where memory ran out.
 pub(crate) fn print_found(
     rt: &HostRuntime,
     form: Form<'_>,
     levels: Levels,
-    printed: &[u8],
+    printed: Result<Vec<u8>, AllocError>,
     status: u8,
     explain: bool,
 ) -> u8 {
-    let text = str::from_utf8(printed).unwrap_or("");
+    let Ok(printed) = printed else {
+        return out_of_memory(rt);
+    };
+    let text = str::from_utf8(printed.as_slice()).unwrap_or("");
     match found_in(rt.alloc(), form, levels, text) {
         Ok(found) => print(rt, found.as_str().as_bytes(), status, explain),
-        Err(_) => print(rt, printed, status, explain),
+        Err(_) => out_of_memory(rt),
     }
 }
 
@@ -182,20 +190,48 @@ fn broken_level(printed: &str) -> Option<Level> {
 }
 
 /// Adds the scenario that breaks a rule at the weakest level at which one is broken.
-fn push_worst(rt: &HostRuntime, question: &Question<'_>, printed: &mut Vec<u8>) {
+fn push_worst(
+    rt: &HostRuntime,
+    question: &Question<'_>,
+    printed: &mut Vec<u8>,
+) -> Result<(), AllocError> {
     let text = str::from_utf8(printed.as_slice()).unwrap_or("");
     let Some(level) = broken_level(text) else {
-        return;
+        return Ok(());
     };
-    let mut out = Std::new(Noting::new(Vec::new(rt.alloc())));
-    if search_silently(rt, question, level, &mut out) != 1 {
-        return;
+    let mut out = Std::new(Noting::new(Kept::new(rt.alloc())));
+    let status = search_silently(rt, question, level, &mut out);
+    let again = out.device.into_device().into_bytes()?;
+    match status {
+        1 => push_scenario(printed, again.as_slice()),
+        3 => Err(AllocError),
+        _ => Ok(()),
     }
-    let again = out.device.into_device();
-    let again = str::from_utf8(again.as_slice()).unwrap_or("");
-    if let Some(line) = again.lines().find(|line| line.starts_with(SCENARIO)) {
-        let _ = printed.extend_from_slice(line.as_bytes());
+}
+
+/// Adds the first scenario among the lines that a search printed.
+fn push_scenario(printed: &mut Vec<u8>, lines: &[u8]) -> Result<(), AllocError> {
+    let lines = str::from_utf8(lines).unwrap_or("");
+    match lines.lines().find(|line| line.starts_with(SCENARIO)) {
+        Some(line) => printed.extend_from_slice(line.as_bytes()),
+        None => Ok(()),
     }
+}
+
+/// All that a search for rules printed, which gave this status: where a table is asked of a search at all levels, with a scenario for that.
+fn printed_in(
+    rt: &HostRuntime,
+    question: &Question<'_>,
+    levels: Levels,
+    form: Form<'_>,
+    status: u8,
+    kept: Kept,
+) -> Result<Vec<u8>, AllocError> {
+    let mut printed = kept.into_bytes()?;
+    if let (Form::Text(_, _), Levels::All, 1) = (form, levels, status) {
+        push_worst(rt, question, &mut printed)?;
+    }
+    Ok(printed)
 }
 
 /// The level at which all starts are taken, where they are taken at one.
@@ -218,11 +254,9 @@ pub(crate) fn run_rules_in(
         let mut out = Std::new(Noting::new(rt.stdout()));
         return run_rules(rt, question, levels, explain, &mut out);
     }
-    let mut out = Std::new(Noting::new(Vec::new(rt.alloc())));
+    let mut out = Std::new(Noting::new(Kept::new(rt.alloc())));
     let status = run_rules(rt, question, levels, explain, &mut out);
-    let mut printed = out.device.into_device();
-    if let (Form::Text(_, _), Levels::All, 1) = (form, levels, status) {
-        push_worst(rt, question, &mut printed);
-    }
-    print_found(rt, form, levels, printed.as_slice(), status, explain)
+    let kept = out.device.into_device();
+    let printed = printed_in(rt, question, levels, form, status, kept);
+    print_found(rt, form, levels, printed, status, explain)
 }

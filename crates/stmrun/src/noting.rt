@@ -1,6 +1,6 @@
 //! Why the system refused what was asked of a reader or a writer.
 
-use std::alloc::Global;
+use std::alloc::{AllocError, Global};
 use std::io::{self, Read, Write};
 
 /// A reader or a writer that notes why it failed last.
@@ -59,6 +59,44 @@ impl<W: Write> Write for Noting<W> {
                 Err(error)
             }
         }
+    }
+}
+
+/// A writer that takes all that is written to it, and keeps it, unless an allocation fails for that.
+#[derive(Drop)]
+pub(crate) struct Kept {
+    /// What was written.
+    bytes: Vec<u8>,
+    /// Whether an allocation failed for some of it.
+    is_cut: bool,
+}
+
+impl Kept {
+    /// A writer to which nothing has been written.
+    pub(crate) fn new(alloc: Global) -> Kept {
+        Kept {
+            bytes: Vec::new(alloc),
+            is_cut: false,
+        }
+    }
+
+    /// All that was written.
+    pub(crate) fn into_bytes(self) -> Result<Vec<u8>, AllocError> {
+        let Kept { bytes, is_cut } = self;
+        if is_cut { Err(AllocError) } else { Ok(bytes) }
+    }
+}
+
+impl Write for Kept {
+    fn write(&mut self, bytes: &[u8]) -> io::Result<usize> {
+        if !self.is_cut && self.bytes.extend_from_slice(bytes).is_err() {
+            self.is_cut = true;
+        }
+        Ok(bytes.len())
+    }
+
+    fn flush(&mut self) -> io::Result<()> {
+        Ok(())
     }
 }
 

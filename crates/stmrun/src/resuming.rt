@@ -5,7 +5,7 @@ use crate::sources::SourceText;
 use std::alloc::{AllocError, Global};
 use stm_arguments::Level;
 use stm_compiling::{NamedRunner, kept_text, name_of_runner, spells};
-use stm_report::{Scenario, Sequence, WorldEvent, read_scenario};
+use stm_report::{ReadError, Scenario, Sequence, WorldEvent, read_scenario};
 use stm_show::scenario_source;
 
 /// What stands before the steps of a line.
@@ -79,8 +79,10 @@ pub(crate) fn resumed(
     level: Option<Level>,
     line: &str,
 ) -> Result<Option<String>, AllocError> {
-    let Ok(scenario) = read_scenario(alloc, line.as_bytes()) else {
-        return Ok(None);
+    let scenario = match read_scenario(alloc, line.as_bytes()) {
+        Ok(scenario) => scenario,
+        Err(ReadError::OutOfMemory) => return Err(AllocError),
+        Err(ReadError::Bad(_)) => return Ok(None),
     };
     let others = behind_starts(scenario)?;
     let events = scenario_source(alloc, &others)?;

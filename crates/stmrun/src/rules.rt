@@ -5,7 +5,7 @@ use crate::files::open;
 use crate::sources::{JsonFile, is_source, out_of_memory, program_at, rules_at};
 use stm_commands::Std;
 use stm_compiling::{Rule as SourceRule, unknown_in};
-use stm_devices::read_all;
+use stm_devices::{ReadFault, read_all};
 use stm_exploring::{Level, Rule, When, read_rule_to};
 use stm_history::{Sequence, Text};
 use stm_storing::Program;
@@ -110,8 +110,10 @@ fn refuse_unknown(rt: &HostRuntime, path: &str, name: &str) -> Result<(), u8> {
         return Ok(());
     }
     let mut input = Std::new(open(rt, path));
-    let Ok(bytes) = read_all(rt.alloc(), &mut input) else {
-        return Ok(());
+    let bytes = match read_all(rt.alloc(), &mut input) {
+        Ok(bytes) => bytes,
+        Err(ReadFault::OutOfMemory) => return Err(out_of_memory(rt)),
+        Err(ReadFault::Device) => return Ok(()),
     };
     match unknown_in(rt.alloc(), bytes.as_slice(), name) {
         Ok(Some(words)) => {

@@ -8,7 +8,7 @@ use crate::noting::Noting;
 use std::alloc::{AllocError, Global};
 use std::io::Input;
 use std::rt::Files;
-use stm_commands::{RunnerLabel, Std};
+use stm_commands::{KeptSource, RunnerLabel, Std};
 use stm_compiling::{
     Beside, CalledRunner, Compiled, NamedRunner, Part, PlacedLine, Printed, Refused, Rule,
     SourcePlaces, Wait, called_runners, compile_to, compiled, compiled_part, named_runners,
@@ -25,6 +25,9 @@ const COMPILED: &str = ", compiled";
 
 /// The path of standard input.
 const STANDARD: &str = "-";
+
+/// What stands before what a command has to say, also where it explains nothing.
+const OWN: &str = "stmrun: ";
 
 /// The words and signs with which a source begins, and nothing that is JSON.
 const BEGINNINGS: [&str; 17] = [
@@ -209,20 +212,30 @@ pub(crate) struct SourceText {
     pub(crate) labels: Vec<RunnerLabel>,
 }
 
-/// A source of this text, which has this beside its scenario; none, where an allocation fails.
-pub(crate) fn source_text(
-    rt: &HostRuntime,
-    text: Option<String>,
-    beside: &Beside,
-) -> Option<SourceText> {
-    let text = text?;
-    let runners = named_runners(rt.alloc(), text.as_bytes(), beside).ok()?;
-    let labels = labels_in_source(rt.alloc(), text.as_str()).ok()?;
-    Some(SourceText {
+/// A source of this text, which has this beside its scenario.
+fn read_source(alloc: Global, text: String, beside: &Beside) -> Result<SourceText, AllocError> {
+    let runners = named_runners(alloc, text.as_bytes(), beside)?;
+    let labels = labels_in_source(alloc, text.as_str())?;
+    Ok(SourceText {
         text,
         runners,
         labels,
     })
+}
+
+/// A source of this text, where there is one, which has this beside its scenario; or the status, once it was said that memory ran out.
+pub(crate) fn source_text(
+    rt: &HostRuntime,
+    text: Option<String>,
+    beside: &Beside,
+) -> Result<Option<SourceText>, u8> {
+    let Some(text) = text else {
+        return Ok(None);
+    };
+    match read_source(rt.alloc(), text, beside) {
+        Ok(source) => Ok(Some(source)),
+        Err(_) => Err(out_of_memory(rt)),
+    }
 }
 
 /// The labels of runners that are called so.
@@ -282,11 +295,18 @@ fn named_lines(
     Ok(named)
 }
 
-/// Says these lines with the names of their runners; none of them, where memory runs out.
-fn say_named(rt: &HostRuntime, lines: &str, called: Called, runners: &[NamedRunner]) {
-    if let Ok(named) = named_lines(rt.alloc(), lines, called, runners) {
-        let _ = rt.eprint(named.as_str());
-    }
+/// A line with its place in a source, and the line of the source.
+fn with_source(
+    alloc: Global,
+    placed: &PlacedLine<'_>,
+    called: Called,
+    runners: &[NamedRunner],
+) -> Result<String, AllocError> {
+    let mut said = named_lines(alloc, placed.words.as_str(), called, runners)?;
+    said.push_str("    ")?;
+    said.push_str(placed.source)?;
+    said.push_str("\n")?;
+    Ok(said)
 }
 
 /// Says a line with its place in a source, and the line of the source; neither, where memory runs out.
@@ -296,49 +316,100 @@ pub(crate) fn say_line(
     called: Called,
     runners: &[NamedRunner],
 ) {
-    if let Ok(words) = named_lines(rt.alloc(), placed.words.as_str(), called, runners) {
-        let source = placed.source;
-        let _ = rt.eprint(words.as_str());
-        let _ = eprintln!(rt; "    {source}");
+    if let Ok(said) = with_source(rt.alloc(), placed, called, runners) {
+        let _ = rt.eprint(said.as_str());
     }
 }
 
-/// Says a line that explains a run, with its place in the source, if it has one there, and the line of the source.
-fn say_placed(
-    rt: &HostRuntime,
+/// A line that explains a run, with its place in the source, if it has one there, and the line of the source.
+fn placed_line(
+    alloc: Global,
     line: &str,
     places: &SourcePlaces<'_>,
     called: Called,
     runners: &[NamedRunner],
-) {
-    match places.placed(rt.alloc(), line) {
-        Ok(Some(placed)) => say_line(rt, &placed, called, runners),
-        _ => say_named(rt, line, called, runners),
+) -> Result<String, AllocError> {
+    match places.placed(alloc, line) {
+        Ok(Some(placed)) => with_source(alloc, &placed, called, runners),
+        Ok(None) => named_lines(alloc, line, called, runners),
+        Err(error) => Err(error),
     }
 }
 
-/// Says lines that explain the runs of a scenario, of runners that are called so: with the places of its source, where it has one, and with the names that
-/// this gives to runners.
-pub(crate) fn say_of_runs(rt: &HostRuntime, given: &Given<'_>, called: Called, lines: &str) {
-    // The places take a second reading of the source.
-    if lines.is_empty() {
-        return;
-    }
-    let runners = runners_of(rt, given);
+/// What is said of runs by these lines: with the places of the source of their scenario, where it has one, and with the names that this gives to runners.
+fn said_of_runs(
+    alloc: Global,
+    given: &Given<'_>,
+    called: Called,
+    lines: &str,
+) -> Result<String, AllocError> {
+    let runners = runners_of(alloc, given)?;
     let name = given.scenario.name();
     let name = name.strip_suffix(COMPILED).unwrap_or(name);
     let text = match &given.text {
         Some(text) => text.as_str(),
         None => "",
     };
-    match SourcePlaces::of(rt.alloc(), name, text) {
-        Ok(places) => {
+    let places = SourcePlaces::of(alloc, name, text)?;
+    let mut said = String::new(alloc);
+    for line in lines.lines() {
+        let line = placed_line(alloc, line, &places, called, runners.as_slice())?;
+        said.push_str(line.as_str())?;
+    }
+    Ok(said)
+}
+
+/// Says lines that explain the runs of a scenario, of runners that are called so, as its source has them, where it has one. Where memory runs out, what the
+/// command itself has to say is said, and nothing is explained.
+fn say_of_runs(rt: &HostRuntime, given: &Given<'_>, called: Called, lines: &str) {
+    // The places take a second reading of the source.
+    if lines.is_empty() {
+        return;
+    }
+    match said_of_runs(rt.alloc(), given, called, lines) {
+        Ok(said) => {
+            let _ = rt.eprint(said.as_str());
+        }
+        Err(_) => {
             for line in lines.lines() {
-                say_placed(rt, line, &places, called, runners.as_slice());
+                if line.starts_with(OWN) {
+                    let _ = rt.eprintln(line);
+                }
             }
         }
-        Err(_) => say_named(rt, lines, called, runners.as_slice()),
     }
+}
+
+/// Lines that say which rules are not asked, and which runners do not wait, with the names of runners.
+fn named_notes(
+    alloc: Global,
+    rules: &[Rule],
+    waits: &[Wait],
+    runners: &[NamedRunner],
+) -> Result<String, AllocError> {
+    let notes = notes_of(alloc, rules, waits)?;
+    named_lines(alloc, notes.as_str(), RUNNERS, runners)
+}
+
+/// Says what a command over a scenario, which gives this status, has said on `err`, as `say_of_runs` does, and gives the status. Where `err` could not keep all of
+/// it, it is said that memory ran out, unless there is an answer, which then stands alone.
+pub(crate) fn say_ended(
+    rt: &HostRuntime,
+    given: &Given<'_>,
+    called: Called,
+    status: u8,
+    err: &Std<Vec<u8>>,
+) -> u8 {
+    if err.failed {
+        return if status < 2 {
+            status
+        } else {
+            out_of_memory(rt)
+        };
+    }
+    let said = str::from_utf8(err.device.as_slice()).unwrap_or("");
+    say_of_runs(rt, given, called, said);
+    status
 }
 
 /// Says which rules are not asked, and which runners do not wait, with the names of runners.
@@ -348,24 +419,21 @@ pub(crate) fn say_unasked(
     waits: &[Wait],
     runners: &[NamedRunner],
 ) -> Result<(), u8> {
-    match notes_of(rt.alloc(), rules, waits) {
+    match named_notes(rt.alloc(), rules, waits, runners) {
         Ok(notes) => {
-            say_named(rt, notes.as_str(), RUNNERS, runners);
+            let _ = rt.eprint(notes.as_str());
             Ok(())
         }
         Err(_) => Err(out_of_memory(rt)),
     }
 }
 
-/// The runners that a scenario's source names; none, where it has no source, or where an allocation fails.
-pub(crate) fn runners_of(rt: &HostRuntime, given: &Given<'_>) -> Vec<NamedRunner> {
+/// The runners that a scenario's source names; none, where it has no source.
+fn runners_of(alloc: Global, given: &Given<'_>) -> Result<Vec<NamedRunner>, AllocError> {
     let Some(text) = &given.text else {
-        return Vec::new(rt.alloc());
+        return Ok(Vec::new(alloc));
     };
-    match named_runners(rt.alloc(), text.as_bytes(), &given.beside) {
-        Ok(runners) => runners,
-        Err(_) => Vec::new(rt.alloc()),
-    }
+    named_runners(alloc, text.as_bytes(), &given.beside)
 }
 
 /// Says which rules of a scenario's source are not asked, and which runners do not wait.
@@ -375,8 +443,10 @@ fn say_left_out(rt: &HostRuntime, given: &Given<'_>) -> Result<(), u8> {
     if waits.is_empty() {
         return say_unasked(rt, rules, waits, &[]);
     }
-    let runners = runners_of(rt, given);
-    say_unasked(rt, rules, waits, runners.as_slice())
+    match runners_of(rt.alloc(), given) {
+        Ok(runners) => say_unasked(rt, rules, waits, runners.as_slice()),
+        Err(_) => Err(out_of_memory(rt)),
+    }
 }
 
 /// The scenario of a path alone: it is said which rules of its source are not asked, and which runners do not wait. Else all is as with `source_at`.
@@ -415,16 +485,29 @@ fn runners_in(alloc: Global, text: &str) -> Result<Vec<NamedRunner>, AllocError>
     Ok(runners)
 }
 
-/// What was said of a source that was compiled, with the names that its text gives to runners, where it was kept.
-fn named_compiled(alloc: Global, lines: &str, text: Option<&str>) -> Result<String, AllocError> {
+/// The text of a source that was read; nothing where it is none. It fails where an allocation has failed for it.
+fn text_kept<'a, S>(input: &'a KeptSource<'_, S>) -> Result<Option<&'a str>, AllocError> {
+    if input.is_cut {
+        return Err(AllocError);
+    }
+    Ok(input.text())
+}
+
+/// What was said of a source that was compiled, with the names that its text gives to runners.
+fn named_compiled<S>(
+    alloc: Global,
+    lines: &str,
+    input: &KeptSource<'_, S>,
+) -> Result<String, AllocError> {
+    let text = text_kept(input)?;
     let runners = runners_in(alloc, text.unwrap_or(""))?;
     named_lines(alloc, lines, RUNNERS, runners.as_slice())
 }
 
 /// Says what was said of a source that was compiled; the fault alone, which is its first line, where memory runs out.
-fn say_compiled(rt: &HostRuntime, said: &[u8], text: Option<&str>) {
+fn say_compiled<S>(rt: &HostRuntime, said: &[u8], input: &KeptSource<'_, S>) {
     let lines = str::from_utf8(said).unwrap_or("");
-    match named_compiled(rt.alloc(), lines, text) {
+    match named_compiled(rt.alloc(), lines, input) {
         Ok(named) => {
             let _ = rt.eprint(named.as_str());
         }
@@ -447,62 +530,79 @@ fn say_refused(rt: &HostRuntime, path: &str, name: &str, refused: &Refused) {
     };
 }
 
-/// Why the rule or program of a name, with these words as its arguments, is none of a source of this text; nothing, where the source itself is bad, or where
-/// the name cannot be shown.
-fn refusal_of(
-    rt: &HostRuntime,
+/// Why the rule or program of a name, with these words as its arguments, is none of a source; nothing, where the source itself is bad, or where the name
+/// cannot be shown.
+fn refusal_of<S>(
+    alloc: Global,
     name: &str,
     words: &[String],
-    text: Option<&str>,
-) -> Option<Refused> {
-    let text = text?;
+    input: &KeptSource<'_, S>,
+) -> Result<Option<Refused>, AllocError> {
+    let Some(text) = text_kept(input)? else {
+        return Ok(None);
+    };
     if has_hidden(name) {
-        return None;
+        return Ok(None);
     }
-    match refused_in(rt.alloc(), text.as_bytes(), name, words) {
-        Ok(refused) => refused,
-        Err(_) => None,
-    }
+    refused_in(alloc, text.as_bytes(), name, words)
 }
 
-/// Says what was said of a part of a path's source that was compiled, or was not, with this status, or that memory ran out. What is wrong with the words that
-/// were typed for a part is said of these.
-fn say_part(
+/// Says why a part of a path's source was not compiled, and gives the status. What is wrong with the words that were typed for a part is said of these.
+fn say_bad_part<S>(
+    rt: &HostRuntime,
+    path: &str,
+    part: Part<'_>,
+    said: &[u8],
+    input: &KeptSource<'_, S>,
+) -> u8 {
+    if let Part::Program { name, words } = part {
+        match refusal_of(rt.alloc(), name, words, input) {
+            Ok(Some(refused)) => {
+                say_refused(rt, path, name, &refused);
+                return 2;
+            }
+            Ok(None) => {}
+            Err(_) => return out_of_memory(rt),
+        }
+    }
+    say_compiled(rt, said, input);
+    2
+}
+
+/// Says what was said of a part of a path's source that was compiled, or was not, with this status, or that memory ran out.
+fn say_part<S>(
     rt: &HostRuntime,
     path: &str,
     part: Part<'_>,
     status: u8,
     err: &Std<Vec<u8>>,
-    text: Option<&str>,
+    input: &KeptSource<'_, S>,
 ) -> u8 {
-    if err.failed && status != 0 {
-        return out_of_memory(rt);
+    if err.failed {
+        return if status == 0 { 0 } else { out_of_memory(rt) };
     }
-    if let (2, Part::Program { name, words }) = (status, part) {
-        if let Some(refused) = refusal_of(rt, name, words, text) {
-            say_refused(rt, path, name, &refused);
-            return status;
-        }
+    if status == 2 {
+        return say_bad_part(rt, path, part, err.device.as_slice(), input);
     }
-    say_compiled(rt, err.device.as_slice(), text);
+    say_compiled(rt, err.device.as_slice(), input);
     status
 }
 
 /// The line of a part of a path's source that was compiled; or the status, once what is wrong with it was said.
-fn line_printed(
+fn line_printed<S>(
     rt: &HostRuntime,
     path: &str,
     part: Part<'_>,
     printed: Result<Printed, u8>,
     err: &Std<Vec<u8>>,
-    text: Option<&str>,
+    input: &KeptSource<'_, S>,
 ) -> Result<Text, u8> {
     match printed {
         Ok(printed) => {
             let Printed { line, .. } = printed;
             Ok(line)
         }
-        Err(status) => Err(say_part(rt, path, part, status, err, text)),
+        Err(status) => Err(say_part(rt, path, part, status, err, input)),
     }
 }
 
@@ -535,7 +635,7 @@ pub(crate) fn program_at<'a>(
     let part = Part::Program { name, words };
     let explained = explained_name(path, explain);
     let printed = compiled_part(rt.alloc(), part, explained, &mut input, &mut err);
-    let printed = line_printed(rt, path, part, printed, &err, input.text());
+    let printed = line_printed(rt, path, part, printed, &err, &input);
     let text = copy_of(rt, input.text());
     if explain {
         say_unread(rt, name_of(path), input.source.device.failure);
@@ -577,7 +677,7 @@ pub(crate) fn run_compile(rt: &HostRuntime, path: &str, part: Part<'_>, explain:
         &mut out,
         &mut err,
     );
-    let status = say_part(rt, path, part, status, &err, input.text());
+    let status = say_part(rt, path, part, status, &err, &input);
     if explain {
         say_unread(rt, name_of(path), input.source.device.failure);
         say_unwritten(rt, out.device.failure);

@@ -11,8 +11,8 @@ use crate::files::is_missing;
 use crate::naming::JOBS;
 use crate::noting::{Keeping, Noting};
 use crate::sources::{
-    Given, GivenProgram, JsonFile, given_at, is_source, out_of_memory, program_at, say_in_program,
-    say_of_runs, scenario_at,
+    Given, GivenProgram, JsonFile, given_at, is_source, out_of_memory, program_at, say_ended,
+    say_in_program, scenario_at,
 };
 use std::sync::Wait;
 use std::thread::Threads;
@@ -208,8 +208,7 @@ fn say_ends<S>(
     let said: Vec<u8> = Vec::new(rt.alloc());
     let mut err = Std::new(said);
     report_ends(rt.alloc(), explain, input, ends, &mut err);
-    let said = str::from_utf8(err.device.as_slice()).unwrap_or("");
-    say_of_runs(rt, given, JOBS, said);
+    say_ended(rt, given, JOBS, 0, &err);
 }
 
 /// Runs the jobs of the scenario of a path, or of that on standard input, over the store of a file, by several threads.
@@ -317,13 +316,27 @@ fn run_over(
     ran(rt, store, text, copy_of(rt, program)?, manner)
 }
 
-/// Whether a line of a report says that a run came to a fault.
-fn is_faulted(line: &[u8]) -> bool {
+/// Whether a line of a report has a part.
+fn has_part(line: &[u8], part: &str) -> bool {
     match str::from_utf8(line) {
-        Ok(line) => line.contains(",\"faulted\","),
+        Ok(line) => line.contains(part),
         Err(_) => false,
     }
 }
+
+/// Whether a line of a report says that a run came to a fault.
+fn is_faulted(line: &[u8]) -> bool {
+    has_part(line, ",\"faulted\",")
+}
+
+/// Whether a line of a report says that the store ended a run, since a lease is not there.
+fn is_without_lease(line: &[u8]) -> bool {
+    has_part(line, ",\"ended\",") && has_part(line, ",\"LeaseNotFound\"]")
+}
+
+/// What is said of a program that puts on a lease which the store does not have.
+const NO_LEASE: &str =
+    "stmrun: the store has no such lease, or it has expired: a scenario grants one, as script --store does with grant 7 ttl 60";
 
 /// The state of the store of a world.
 fn state_kept(kept: Kept) -> Option<State> {
@@ -337,13 +350,11 @@ fn state_of(rt: &HostRuntime, store: &str) -> Option<State> {
     if is_missing(rt, store) {
         return Some(State::new(rt.alloc()));
     }
-    match opened(rt, store) {
-        Ok((mut records, bytes)) => {
-            match stm_lasting::open(rt.alloc(), &mut records.disk, bytes) {
-                Ok(kept) => state_kept(kept),
-                Err(_) => None,
-            }
-        }
+    match open(rt, store) {
+        Ok((mut disk, bytes)) => match stm_lasting::open(rt.alloc(), &mut disk, bytes) {
+            Ok(kept) => state_kept(kept),
+            Err(_) => None,
+        },
         Err(_) => None,
     }
 }
@@ -410,6 +421,9 @@ fn run_program(
         Some(line) => {
             if explain && is_faulted(&line) {
                 say_stop(rt, words, given, &text, &program);
+            }
+            if explain && is_without_lease(&line) {
+                let _ = rt.eprintln(NO_LEASE);
             }
             Err(1)
         }

@@ -87,31 +87,19 @@ impl SearchLines<'_> {
         }
     }
 
-    /// Says a line about a program that comes to a fault with its place in the source, where it has one there: whether that was done.
-    fn say_placed(&self, line: &str) -> bool {
-        let Some(source) = self.source else {
-            return false;
-        };
+    /// Says a line about a program that comes to a fault with its place in a source, where it has one there; nothing, where memory runs out.
+    fn say_placed(&self, source: NamedSource<'_>, line: &str) {
         match placed_in(self.rt.alloc(), source, line) {
-            Ok(Some(placed)) => {
-                say_line(self.rt, &placed, RUNNERS, self.runners);
-                true
-            }
-            _ => false,
+            Ok(Some(placed)) => say_line(self.rt, &placed, RUNNERS, self.runners),
+            Ok(None) => self.say(line),
+            Err(_) => {}
         }
     }
 
-    /// Says which lines of the source have the events of the set-up, and which the others': whether that was done.
-    fn say_event_lines(&self) -> bool {
-        let Some(source) = self.source else {
-            return false;
-        };
-        match event_lines(self.rt.alloc(), source.name, source.text) {
-            Ok(line) => {
-                let _ = eprintln!(self.rt; "stmrun: {line}");
-                true
-            }
-            Err(_) => false,
+    /// Says which lines of a source have the events of the set-up, and which the others'; nothing, where memory runs out.
+    fn say_event_lines(&self, source: NamedSource<'_>) {
+        if let Ok(line) = event_lines(self.rt.alloc(), source.name, source.text) {
+            let _ = eprintln!(self.rt; "stmrun: {line}");
         }
     }
 }
@@ -154,14 +142,16 @@ impl Audience for SearchLines<'_> {
     }
 
     fn hear_fault(&mut self, line: &str) {
-        if !self.say_placed(line) {
-            self.say(line);
+        match self.source {
+            Some(source) => self.say_placed(source, line),
+            None => self.say(line),
         }
     }
 
     fn hear_parts(&mut self, line: &str) {
-        if !self.say_event_lines() {
-            self.say(line);
+        match self.source {
+            Some(source) => self.say_event_lines(source),
+            None => self.say(line),
         }
     }
 

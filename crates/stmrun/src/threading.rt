@@ -6,7 +6,7 @@ ghost use Rattle.stm_workers.specs.declared.run.TheConstants.{MOST_WORKERS};
 use crate::explaining::{kept_json, say_unread, say_unwritten};
 use crate::naming::JOBS;
 use crate::noting::Noting;
-use crate::sources::{JsonFile, given_at, say_of_runs};
+use crate::sources::{JsonFile, given_at, say_ended};
 use std::io::Write;
 use std::sync::Wait;
 use std::thread::Threads;
@@ -75,7 +75,5 @@ pub(crate) fn run_threads<T: Threads + Wait + Sync>(
     let said: Vec<u8> = Vec::new(rt.alloc());
     let mut err = Std::new(said);
     let status = threads_on(rt, threads, &given.scenario, options, &mut err);
-    let said = str::from_utf8(err.device.as_slice()).unwrap_or("");
-    say_of_runs(rt, &given, JOBS, said);
-    status
+    say_ended(rt, &given, JOBS, status, &err)
 }

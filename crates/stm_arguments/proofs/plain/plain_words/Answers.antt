@@ -1,11 +1,8 @@
-use Rattle.std.proofs.Common.{◌≡◌, ◌∙◌, ◌∷◌, List, [], fold, length, map, string_bytes, refl, sym, ap, arith}
+use Rattle.std.proofs.Common.{◌≡◌, ◌∙◌, ◌∷◌, fold, length, map, string_bytes, sym, ap, arith}
 use Rattle.std.specs.Vec.Iter.{into_iter_items}
+use Rattle.std.proofs.lemmas.List.{nil_from_length}
 use Rattle.stm_arguments.specs.Wording.{seen, taken}
 use Rattle.stm_arguments.proofs.plain.plain_words.Goals as goal
-
-nothing_left : {A : Type 0} (xs : List A) → length xs ≡ 0 → xs ≡ []
-nothing_left [] none = refl
-nothing_left (x ∷ xs) none = absurd (omega arith)
 
 pub loop-word-preserved : goal.loop-word-preserved
 loop-word-preserved c =
@@ -25,5 +22,5 @@ loop-word-preserved c =
 pub returns : goal.returns
 returns c =
     let at = c.loop-word in
-    let none = nothing_left (into_iter_items at.word-iterator) (sym at.invariant.counted ∙ c.in-None.ensures.steps.0) in
+    let none = nil_from_length (into_iter_items at.word-iterator) (sym at.invariant.counted ∙ c.in-None.ensures.steps.0) in
     sym (ap (λ words. fold taken (seen at.read) (map string_bytes words)) none) ∙ at.invariant.read

@@ -1,6 +1,6 @@
 use Rattle.std.proofs.Common.{arith}
 use Rattle.stm_schedules.specs.Scenarios.{at_level}
-use Rattle.stm_exploring.proofs.AskingLemmas.{put_next}
+use Rattle.stm_serial_search.proofs.Judges.{put_next}
 use Rattle.stm_exploring.proofs.asking.put_levels.Goals as goal
 
 pub loop-i-preserved : goal.loop-i-preserved

@@ -1,11 +1,11 @@
 use Rattle.std.proofs.Common.{◌≡◌, ◌+◌, ◌≤◌, ◌++◌, ◌∷◌, List, length, take, sym, ap, ◌∙◌, subst, arith}
-use Rattle.std.proofs.lemmas.List.{take_all}
+use Rattle.std.proofs.lemmas.List.{take_all, nil_from_length}
 use Rattle.std.specs.Vec.Iter.{into_iter_items}
 use Rattle.stm_exploring.specs.declared.judging.Answer.{Answer}
 use Rattle.stm_exploring.specs.declared.rules.Rule.{Rule}
 use Rattle.stm_exploring.specs.declared.rules.RuleAnswer.{RuleAnswer}
 use Rattle.stm_exploring.specs.Judging.{AreFoundFrom}
-use Rattle.stm_exploring.proofs.AnswerLemmas.{nothing_left, one_further, next_left, next_found}
+use Rattle.stm_exploring.proofs.AnswerLemmas.{one_further, next_left, next_found}
 use Rattle.stm_exploring.proofs.grouping.push_answers.Goals as goal
 
 pub loop-answer-preserved : goal.loop-answer-preserved
@@ -38,7 +38,7 @@ pub returns : goal.returns
 returns c = λ waits p ends before found so_far.
     let at = c.loop-answer in
     let rules = c.args.rules.now in
-    let none = ap length (nothing_left (into_iter_items at.answer-iterator) (sym at.invariant.counted ∙ c.in-None.ensures.steps.0)) in
+    let none = ap length (nil_from_length (into_iter_items at.answer-iterator) (sym at.invariant.counted ∙ c.in-None.ensures.steps.0)) in
     let each = at.invariant.each in
     let all : length rules ≤ at.index = omega arith in
     subst (λ (xs : List Rule). AreFoundFrom waits (before ++ xs) p ends at.answers.items) (take_all at.index rules all)

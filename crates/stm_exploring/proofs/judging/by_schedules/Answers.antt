@@ -1,9 +1,9 @@
 use Rattle.std.proofs.Common.{◌≡◌, ◌∙◌, ◌++◌, ◌∷◌, [], List, length, map, sym, ap, append_assoc, append-nil, arith}
 use Rattle.std.specs.Vec.Iter.{into_iter_items}
+use Rattle.std.proofs.lemmas.List.{nil_from_length}
 use Rattle.stm_explore.specs.declared.exploring.Explored.{Explored}
 use Rattle.stm_exploring.specs.declared.judging.Answer.{Answer}
 use Rattle.stm_exploring.specs.declared.judging.Answer.TheVariants.{BySchedules}
-use Rattle.stm_exploring.proofs.AnswerLemmas.{nothing_left}
 use Rattle.stm_exploring.proofs.judging.by_schedules.Goals as goal
 
 pub loop-explored-preserved : goal.loop-explored-preserved
@@ -25,5 +25,5 @@ loop-explored-preserved c =
 pub returns : goal.returns
 returns c =
     let at = c.loop-explored in
-    let none = nothing_left (into_iter_items at.explored-iterator) (sym at.invariant.counted ∙ c.in-None.ensures.steps.0) in
+    let none = nil_from_length (into_iter_items at.explored-iterator) (sym at.invariant.counted ∙ c.in-None.ensures.steps.0) in
     sym (append-nil at.answers.items) ∙ sym (ap (λ (all : List Explored). at.answers.items ++ map BySchedules all) none) ∙ at.invariant.so_far

@@ -1,6 +1,6 @@
 use Rattle.std.proofs.Common.{length, ap, ◌∙◌}
 use Rattle.stm_exploring.specs.Judging.{IsAnswer}
-use Rattle.stm_exploring.proofs.AnswerLemmas.{as_many}
+use Rattle.stm_serial_search.proofs.Judges.{as_many}
 use Rattle.stm_exploring.proofs.judging.judge_further.Goals as goal
 
 pub judge_orders-requires-clause-asked : goal.judge_orders-requires-clause-asked

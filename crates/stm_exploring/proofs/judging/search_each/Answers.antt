@@ -1,6 +1,6 @@
 use Rattle.std.proofs.Common.{◌≡◌, length, arith}
 use Rattle.stm_exploring.specs.Judging.{IsAnswer}
-use Rattle.stm_exploring.proofs.AnswerLemmas.{as_many, zip_put}
+use Rattle.stm_serial_search.proofs.Judges.{as_many, zip_put}
 use Rattle.stm_exploring.proofs.judging.search_each.Goals as goal
 
 pub index_mut-requires : goal.index_mut-requires

@@ -4,7 +4,8 @@ use Rattle.stm_program.specs.Syntax.{ProgramTree}
 use Rattle.stm_schedules.specs.Places.{Place}
 use Rattle.stm_exploring.specs.declared.rules.Rule.{Rule}
 use Rattle.stm_exploring.specs.Judging.{AreFoundEach, IsFoundWhen}
-use Rattle.stm_exploring.proofs.AnswerLemmas.{as_many, each_found}
+use Rattle.stm_serial_search.proofs.Judges.{as_many}
+use Rattle.stm_exploring.proofs.AnswerLemmas.{each_found}
 use Rattle.stm_exploring.proofs.searching.judge_group.Goals as goal
 
 pub push_answers-requires : goal.push_answers-requires

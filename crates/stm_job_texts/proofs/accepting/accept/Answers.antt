@@ -1,9 +1,10 @@
 use Rattle.std.proofs.Common.{◌≡◌, ◌+◌, ◌∷◌, [], List, Ok, Err, length, refl, sym, ap, ◌∙◌, arith}
 use Rattle.std.proofs.lemmas.Result.{err_from_is_err_and}
 use Rattle.std.specs.Vec.Iter.{into_iter_items}
+use Rattle.std.proofs.lemmas.List.{nil_from_length}
 use Rattle.stm_events.specs.declared.event.WorldEvent.{WorldEvent}
 use Rattle.stm_job_texts.specs.Accepting.{sorted_of, add_event, accepted}
-use Rattle.stm_job_texts.proofs.AcceptLemmas.{within_ok, within_err, next_event, stops_at, all_sorted, nothing_left}
+use Rattle.stm_job_texts.proofs.AcceptLemmas.{within_ok, within_err, next_event, stops_at, all_sorted}
 use Rattle.stm_job_texts.proofs.accepting.accept.Goals as goal
 
 pub loop-event-preserved : goal.loop-event-preserved
@@ -46,5 +47,5 @@ pub returns : goal.returns
 returns c =
     let at = c.loop-event in
     let none : into_iter_items at.event-iterator ≡ [] =
-    nothing_left (into_iter_items at.event-iterator) (sym at.invariant.counted ∙ c.in-None.ensures.steps.0) in
+    nil_from_length (into_iter_items at.event-iterator) (sym at.invariant.counted ∙ c.in-None.ensures.steps.0) in
     all_sorted c.first_place-first.result at.before (into_iter_items at.event-iterator) (sorted_of at.sorted) (accepted c.args.scenario) none at.invariant.reported

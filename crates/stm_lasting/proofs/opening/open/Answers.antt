@@ -2,8 +2,6 @@ use Rattle.std.proofs.Common.{⊎_elim, ap, ◌∙◌}
 use Rattle.std.specs.Prelude.{Err}
 use Rattle.std.proofs.lemmas.Result.{IfOk-weaker, IfErr-weaker}
 use Rattle.stm_records.specs.RecordFiles.{payloads_of}
-use Rattle.stm_lasting.proofs.Moments.{weaker}
-use Rattle.stm_lasting.proofs.Restarts.{worlds_alike}
 use Rattle.stm_lasting.proofs.opening.open.Goals as goal
 
 pub returns-in-Ok-clause-end : goal.returns-in-Ok-clause-end
@@ -11,7 +9,7 @@ returns-in-Ok-clause-end g c = IfOk-weaker c.kept_of.result _ _ (λ kept is. is 
 
 pub returns-in-Ok-clause-opens : goal.returns-in-Ok-clause-opens
 returns-in-Ok-clause-opens g c =
-    IfOk-weaker c.kept_of.result _ _ (λ kept leads. record { records = payloads_of c.in-Ok.opened; opens = c.in-Ok.ensures.opens; leads = leads })
+    IfOk-weaker c.kept_of.result _ _ (λ kept leads. record { head = c.in-Ok.ensures.head; records = payloads_of c.in-Ok.opened; opens = c.in-Ok.ensures.opens; leads = leads })
     c.kept_of.ensures.world
 
 pub returns-in-Ok-clause-kept : goal.returns-in-Ok-clause-kept
@@ -26,20 +24,14 @@ returns-in-Ok-clause-count g c =
 
 pub returns-in-Ok-clause-nowhere : goal.returns-in-Ok-clause-nowhere
 returns-in-Ok-clause-nowhere g c =
-    IfErr-weaker c.kept_of.result _ _ (λ e none at is. record { records = payloads_of c.in-Ok.opened; opens = c.in-Ok.ensures.opens; nowhere = none at is })
+    IfErr-weaker c.kept_of.result _ _ (λ e none at is. record { head = c.in-Ok.ensures.head; records = payloads_of c.in-Ok.opened; opens = c.in-Ok.ensures.opens; nowhere = none at is })
     c.kept_of.ensures.nowhere
 
 pub returns-in-Ok-clause-hurt : goal.returns-in-Ok-clause-hurt
 returns-in-Ok-clause-hurt g c = IfErr-weaker c.kept_of.result _ _ (λ e never at is. absurd (never at is)) c.kept_of.ensures.hurt
 
-pub returns-in-Ok-clause-any_moment : goal.returns-in-Ok-clause-any_moment
-returns-in-Ok-clause-any_moment g c = weaker c.open.ensures.any_moment (λ f alike. worlds_alike (g.D.Disk.seen c.args.disk.now) f alike)
-
 pub returns-in-Err-clause-hurt : goal.returns-in-Err-clause-hurt
 returns-in-Err-clause-hurt g c = λ at is. c.in-Err.ensures.hurt at (c.fault_of.ensures.damaged at is)
-
-pub returns-in-Err-clause-any_moment : goal.returns-in-Err-clause-any_moment
-returns-in-Err-clause-any_moment g c = weaker c.open.ensures.any_moment (λ f alike. worlds_alike (g.D.Disk.seen c.args.disk.now) f alike)
 
 pub returns-in-Err-clause-nowhere : goal.returns-in-Err-clause-nowhere
 returns-in-Err-clause-nowhere g c = λ at is. absurd (c.fault_of.ensures.spelled at is)

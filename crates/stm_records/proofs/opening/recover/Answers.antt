@@ -35,7 +35,7 @@ returns-in_err-cut-clause-any_moment g c =
     let short : length file < 2 ^ 64 = omega (arith, ap length c.requires.bytes, c.args.bytes.small) in
     let P = OpensAlike file in
     let at_start = started g.D.Disk.moment g.D.Disk.left_since c.args.disk.now P (λ f left. alike file f (c.requires.durable f (g.met.D.Disk.only_now c.args.disk.now f left))) in
-    let after_cut = cut_crash file qs end _ _ short opens end_is c.requires.durable c.cut.ensures.crash in
+    let after_cut = cut_crash file qs end _ _ short c.requires.head opens end_is c.requires.durable c.cut.ensures.crash in
     let cut = goes_on g.D.Disk.moment g.D.Disk.left_since c.args.disk.now c.args.disk.now c.cut.new.self P _ at_start c.cut.ensures.time (λ f now. after_cut f now) in
     cut
 
@@ -54,7 +54,7 @@ returns-in_err-sync-clause-any_moment g c =
     let short : length file < 2 ^ 64 = omega (arith, ap length c.requires.bytes, c.args.bytes.small) in
     let P = OpensAlike file in
     let at_start = started g.D.Disk.moment g.D.Disk.left_since c.args.disk.now P (λ f left. alike file f (c.requires.durable f (g.met.D.Disk.only_now c.args.disk.now f left))) in
-    let after_cut = cut_crash file qs end _ _ short opens end_is c.requires.durable c.cut.ensures.crash in
+    let after_cut = cut_crash file qs end _ _ short c.requires.head opens end_is c.requires.durable c.cut.ensures.crash in
     let cut = goes_on g.D.Disk.moment g.D.Disk.left_since c.args.disk.now c.args.disk.now c.cut.new.self P _ at_start c.cut.ensures.time (λ f now. after_cut f now) in
     let synced = goes_on g.D.Disk.moment g.D.Disk.left_since c.args.disk.now c.cut.new.self c.sync.new.self P _ cut c.sync.ensures.time (λ f now. after_cut f (c.sync.ensures.crash f now)) in
     synced
@@ -74,7 +74,7 @@ returns-clause-any_moment g c =
     let short : length file < 2 ^ 64 = omega (arith, ap length c.requires.bytes, c.args.bytes.small) in
     let P = OpensAlike file in
     let at_start = started g.D.Disk.moment g.D.Disk.left_since c.args.disk.now P (λ f left. alike file f (c.requires.durable f (g.met.D.Disk.only_now c.args.disk.now f left))) in
-    let after_cut = cut_crash file qs end _ _ short opens end_is c.requires.durable c.cut.ensures.crash in
+    let after_cut = cut_crash file qs end _ _ short c.requires.head opens end_is c.requires.durable c.cut.ensures.crash in
     let cut = goes_on g.D.Disk.moment g.D.Disk.left_since c.args.disk.now c.args.disk.now c.cut.new.self P _ at_start c.cut.ensures.time (λ f now. after_cut f now) in
     let synced = goes_on g.D.Disk.moment g.D.Disk.left_since c.args.disk.now c.cut.new.self c.sync.new.self P _ cut c.sync.ensures.time (λ f now. after_cut f (c.sync.ensures.crash f now)) in
     synced

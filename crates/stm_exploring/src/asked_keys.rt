@@ -1,0 +1,326 @@
+//! What is said of keys that rules and runners ask for and that nothing puts: most are misspelt, and some are to stay absent.
+
+use crate::accounts::{Account, Runs, is_said, shown_text};
+use crate::audience::Audience;
+use crate::key_use::AskedKey;
+use crate::near_keys::{are_of_a_list, nearest};
+use crate::rules::RuleAnswer;
+use std::alloc::{AllocError, Global};
+use stm_explore::When;
+use stm_history::Text;
+
+/// A key is near to another one where it is so by fewer edits than about this part of its characters.
+const NEAR: usize = 2;
+
+/// The same, where one is most likely meant for the other.
+const MEANT: usize = 4;
+
+/// What a runner is called.
+fn runner_word(alloc: Global, place: usize) -> Result<String, AllocError> {
+    let number = place.saturating_add(1);
+    format!(in alloc; "runner {number}")
+}
+
+/// What a rule is called.
+pub(crate) fn rule_word(
+    alloc: Global,
+    answers: &[RuleAnswer],
+    place: usize,
+) -> Result<String, AllocError> {
+    if place < answers.len() {
+        let rule = &answers[place].rule;
+        if let Some(name) = &rule.name {
+            let name = name.as_str();
+            let word = match rule.when {
+                When::Each => "rule",
+                When::Last => "finally",
+            };
+            return format!(in alloc; "{word} {name}");
+        }
+    }
+    String::from_str(alloc, "the rule")
+}
+
+/// A text before a key that is near to another one; nothing where there is none.
+fn near_words(alloc: Global, near: &str) -> Result<String, AllocError> {
+    if near.is_empty() {
+        return Ok(String::new(alloc));
+    }
+    let near = shown_text(alloc, near)?;
+    format!(in alloc; "; the nearest is {near}")
+}
+
+/// What is said behind keys that nothing puts: where that is known of serial orders alone.
+fn places_words(is_sure: bool) -> &'static str {
+    if is_sure { "" } else { " in any serial order" }
+}
+
+/// The line that says that somebody asks for a key that nothing puts, and which one is nearest.
+fn key_line(
+    alloc: Global,
+    who: &str,
+    key: &Text,
+    is_sure: bool,
+    near: &str,
+) -> Result<String, AllocError> {
+    let key = shown_text(alloc, key.as_str())?;
+    let places = places_words(is_sure);
+    let near = near_words(alloc, near)?;
+    format!(in alloc;
+        "{who} asks for the key {key}, which is not there and which nothing puts{places}{near}"
+    )
+}
+
+/// A key that is so near to one which nothing puts that this is most likely misspelt; an empty text where there is none.
+fn meant<'a>(account: &'a Account<'_>, key: &Text) -> Result<&'a str, AllocError> {
+    let alloc = account.alloc;
+    if !account.is_strange(key) {
+        return Ok("");
+    }
+    let keys = &account.keys;
+    let near = nearest(alloc, keys, key, MEANT)?;
+    if are_of_a_list(alloc, key.as_str(), near)? {
+        return Ok("");
+    }
+    Ok(near)
+}
+
+/// The line of a key that a runner asks for and that nothing puts.
+fn runner_key_line(
+    account: &Account<'_>,
+    asked: &AskedKey,
+    near: &str,
+) -> Result<String, AllocError> {
+    let alloc = account.alloc;
+    let who = runner_word(alloc, asked.who)?;
+    let is_sure = !account.keys.may_be_put(&asked.key);
+    key_line(alloc, who.as_str(), &asked.key, is_sure, near)
+}
+
+/// Whether a runner came to a fault, and asks for a key that some program puts: that no run puts it says nothing of the key, since the runs ended before.
+fn is_behind_fault(account: &Account<'_>, asked: &AskedKey, runs: &Runs) -> bool {
+    runs.has_faulted && account.keys.may_be_put(&asked.key)
+}
+
+/// The keys of a runner that nothing puts and of which that is worth no doubt, as they are said.
+#[derive(Drop)]
+struct Vain {
+    keys: String,
+    count: usize,
+    /// Whether it is sure of each that nothing puts it, and not so in all serial orders alone.
+    are_sure: bool,
+}
+
+impl Vain {
+    /// Adds a key.
+    fn add(&mut self, alloc: Global, key: &Text, is_sure: bool) -> Result<(), AllocError> {
+        if self.count > 0 {
+            self.keys.push_str(", ")?;
+        }
+        let key = shown_text(alloc, key.as_str())?;
+        self.keys.push_str(key.as_str())?;
+        self.count = self.count.saturating_add(1);
+        self.are_sure = self.are_sure && is_sure;
+        Ok(())
+    }
+
+    /// The line of a runner that asks for them.
+    fn line(&self, alloc: Global, runner: usize) -> Result<String, AllocError> {
+        let who = runner_word(alloc, runner)?;
+        let who = who.as_str();
+        let keys = self.keys.as_str();
+        let words = if self.count == 1 { "key" } else { "keys" };
+        let are = if self.count == 1 { "is" } else { "are" };
+        let places = places_words(self.are_sure);
+        format!(in alloc;
+            "{who} asks for the {words} {keys}, which {are} not there and which nothing puts{places}"
+        )
+    }
+}
+
+/// Says of a key that a runner asks for that nothing puts it: where another key is most likely meant, and where it is to be said how its runs ended, unless
+/// that was by a fault before the key could be put. That is worth a doubt, if none of them committed; else it is added to those that stand in one line.
+fn tell_asked<O: Audience>(
+    account: &Account<'_>,
+    asked: &AskedKey,
+    runs: &Runs,
+    vain: &mut Vain,
+    audience: &mut O,
+) -> Result<(), AllocError> {
+    let alloc = account.alloc;
+    let meant = meant(account, &asked.key)?;
+    let is_said = is_said(runs, account.told) && !is_behind_fault(account, asked, runs);
+    if !meant.is_empty() || (is_said && !runs.has_committed) {
+        let near = nearest(alloc, &account.keys, &asked.key, NEAR)?;
+        let line = runner_key_line(account, asked, near)?;
+        audience.doubt(line.as_str());
+    } else if is_said {
+        let is_sure = !account.keys.may_be_put(&asked.key);
+        vain.add(alloc, &asked.key, is_sure)?;
+    }
+    Ok(())
+}
+
+/// Says which keys a runner asks for that nothing puts.
+fn tell_of_runner<O: Audience>(
+    account: &Account<'_>,
+    runner: usize,
+    runs: &Runs,
+    audience: &mut O,
+) -> Result<(), AllocError> {
+    let mut vain = Vain {
+        keys: String::new(account.alloc),
+        count: 0,
+        are_sure: true,
+    };
+    for asked in account.keys.by_runners.as_slice() {
+        if asked.who == runner && account.is_unput(&asked.key) {
+            tell_asked(account, asked, runs, &mut vain, audience)?;
+        }
+    }
+    if vain.count > 0 {
+        let line = vain.line(account.alloc, runner)?;
+        audience.hear(line.as_str());
+    }
+    Ok(())
+}
+
+/// Says which keys the runners ask for that nothing puts.
+pub(crate) fn tell_of_runners<O: Audience>(
+    account: &Account<'_>,
+    audience: &mut O,
+) -> Result<(), AllocError> {
+    for runner in 0..account.runners.len() {
+        tell_of_runner(account, runner, &account.runners[runner], audience)?;
+    }
+    Ok(())
+}
+
+/// Says that a rule asks for a key that nothing puts, and which one is nearest.
+fn tell_of_rule<O: Audience>(
+    account: &Account<'_>,
+    answers: &[RuleAnswer],
+    asked: &AskedKey,
+    audience: &mut O,
+) -> Result<(), AllocError> {
+    let alloc = account.alloc;
+    let keys = &account.keys;
+    let key = &asked.key;
+    let near = nearest(alloc, keys, key, NEAR)?;
+    let who = rule_word(alloc, answers, asked.who)?;
+    let line = key_line(alloc, who.as_str(), key, !keys.may_be_put(key), near)?;
+    audience.doubt(line.as_str());
+    Ok(())
+}
+
+/// Says which keys rules make of variables that nothing puts, where another one is most likely meant: of a list a rule may well ask for more than is there.
+fn tell_of_made<O: Audience>(
+    account: &Account<'_>,
+    answers: &[RuleAnswer],
+    audience: &mut O,
+) -> Result<(), AllocError> {
+    let keys = &account.keys;
+    for asked in keys.made.as_slice() {
+        if !keys.is_asked(asked) && !meant(account, &asked.key)?.is_empty() {
+            tell_of_rule(account, answers, asked, audience)?;
+        }
+    }
+    Ok(())
+}
+
+/// The key for which one is most likely misspelt that a rule asks for: a near one, unless the two are of a list, of which a rule may well ask for more than is
+/// there; an empty text where there is none.
+fn likely<'a>(account: &'a Account<'_>, key: &Text) -> Result<&'a str, AllocError> {
+    let alloc = account.alloc;
+    let near = nearest(alloc, &account.keys, key, NEAR)?;
+    if are_of_a_list(alloc, key.as_str(), near)? {
+        return Ok("");
+    }
+    Ok(near)
+}
+
+/// What is said first of keys that rules ask for, that nothing puts and to which none is near.
+const HINT: &str =
+    "hint: these keys are not there, and nothing puts them, which is right if they are to be absent: ";
+
+/// The keys that rules ask for, that nothing puts and to which none is near, as they are said.
+#[derive(Drop)]
+struct Hint {
+    line: String,
+    /// The place of the rule whose key was added last, if there is one.
+    last: Option<usize>,
+}
+
+/// What stands before a key of a rule: the rule, unless the key before it is of the same one.
+fn before_key(
+    alloc: Global,
+    last: Option<usize>,
+    answers: &[RuleAnswer],
+    place: usize,
+) -> Result<String, AllocError> {
+    if last == Some(place) {
+        return String::from_str(alloc, ", ");
+    }
+    let between = if last.is_none() { HINT } else { "; " };
+    let who = rule_word(alloc, answers, place)?;
+    let who = who.as_str();
+    format!(in alloc; "{between}{who} ")
+}
+
+impl Hint {
+    /// Adds a key that a rule asks for. It is sure that nothing puts it, or so in all serial orders.
+    fn add(
+        &mut self,
+        alloc: Global,
+        answers: &[RuleAnswer],
+        asked: &AskedKey,
+        is_sure: bool,
+    ) -> Result<(), AllocError> {
+        let before = before_key(alloc, self.last, answers, asked.who)?;
+        let key = shown_text(alloc, asked.key.as_str())?;
+        self.line.push_str(before.as_str())?;
+        self.line.push_str(key.as_str())?;
+        if !is_sure {
+            self.line.push_str(" (by serial orders)")?;
+        }
+        self.last = Some(asked.who);
+        Ok(())
+    }
+}
+
+/// Says of a key that a rule asks for that nothing puts it, where a near one is most likely meant; else it is added to those of the hint.
+fn tell_or_add<O: Audience>(
+    account: &Account<'_>,
+    answers: &[RuleAnswer],
+    asked: &AskedKey,
+    hint: &mut Hint,
+    audience: &mut O,
+) -> Result<(), AllocError> {
+    if !likely(account, &asked.key)?.is_empty() {
+        return tell_of_rule(account, answers, asked, audience);
+    }
+    let is_sure = !account.keys.may_be_put(&asked.key);
+    hint.add(account.alloc, answers, asked, is_sure)
+}
+
+/// Says which keys rules ask for that nothing puts: each to which one is near, and then all others in one line, which are to be absent or misspelt.
+pub(crate) fn tell_of_rules<O: Audience>(
+    account: &Account<'_>,
+    answers: &[RuleAnswer],
+    audience: &mut O,
+) -> Result<(), AllocError> {
+    let mut hint = Hint {
+        line: String::new(account.alloc),
+        last: None,
+    };
+    for asked in account.keys.by_rules.as_slice() {
+        if account.is_strange(&asked.key) {
+            tell_or_add(account, answers, asked, &mut hint, audience)?;
+        }
+    }
+    tell_of_made(account, answers, audience)?;
+    if hint.last.is_some() {
+        audience.doubt(hint.line.as_str());
+    }
+    Ok(())
+}

@@ -26,6 +26,9 @@ pub(crate) enum Form<'a> {
 /// With this begins a scenario that has an event, and nothing else that a search prints.
 const SCENARIO: &str = "[[";
 
+/// A scenario that has none.
+const NO_EVENTS: &str = "[]";
+
 /// With this begins the line of a broken rule.
 const BROKEN: &str = "[\"broken\"";
 
@@ -100,6 +103,11 @@ fn push_answer(
     out.push('\n')
 }
 
+/// Whether a line of what a search printed is a scenario.
+fn is_scenario(line: &str) -> bool {
+    line.starts_with(SCENARIO) || line == NO_EVENTS
+}
+
 /// Adds a line of what a search at these levels printed, in this form, and answers whether that is a table.
 fn push_found(
     alloc: Global,
@@ -109,7 +117,7 @@ fn push_found(
     printed: &str,
     line: &str,
 ) -> Result<bool, AllocError> {
-    if line.starts_with(SCENARIO) {
+    if is_scenario(line) {
         if let Some(schedule) = schedule_in(alloc, form, only_level(levels), line)? {
             out.push_str(schedule.as_str())?;
             return Ok(matches!(form, Form::Text(_, _)));

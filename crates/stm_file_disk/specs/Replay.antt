@@ -25,7 +25,7 @@ failed ok n = if ok then n else n + 1
 
 -- One call. A call that fails may have done any part of its work.
 abbrev pub after : Act → ℕ → Bool → List ℕ → State → State
--- after a sync of the file and of its folder, with what was read then
+-- after a sync of the file and of its folder, with what was read then: it is noted only where all of that succeeded
 after Opened at ok bytes s = record { seen = bytes; may = λ c. c ≡ bytes; next = []; next_may = λ c. Unit {0}; faults = s.faults; is_usable = ok }
 after Wrote at ok bytes s = record s { seen = if ok then take at s.seen ++ bytes ++ drop (at + length bytes) s.seen else s.seen; may = λ c. (d : List ℕ) × s.may d × Torn at (length bytes) d c; faults = failed ok s.faults; is_usable = ok && s.is_usable }
 after CutFile at ok bytes s = record s { seen = if ok then take at s.seen else s.seen; may = λ c. (d : List ℕ) × s.may d × Cut at d c; faults = failed ok s.faults; is_usable = ok && s.is_usable }

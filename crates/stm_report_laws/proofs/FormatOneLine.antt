@@ -4,7 +4,7 @@ use Rattle.std.proofs.Common.{replicate, true≢false, sym}
 use Rattle.std.proofs.Common.{nat_eq, nat_lt, nat_le, Option, Some, None, codes, decimal, Result, Ok, Err, refl, ap, ◌∙◌, arith}
 use Rattle.std.proofs.lemmas.Bool.Decides.{nat_tests}
 use Rattle.std.specs.Fmt.{digits, digits_onto, digit_glyph}
-use Rattle.std.proofs.lemmas.Bool.{or_from}
+use Rattle.std.proofs.lemmas.Bool.{cond-false, or_from, or_parts}
 use Rattle.stm_program.specs.declared.level.Level.{Level}
 use Rattle.stm_program.specs.declared.level.Level.TheVariants.{SerializableSnapshot}
 use Rattle.stm_texts.specs.Grammar.{level_text}
@@ -355,23 +355,11 @@ tag_without : (lane : Lane) → has 10 (tag_text lane) ≡ false
 tag_without Store = refl
 tag_without (Runner runner) = tag_by _ runner
 
-count_by : (b : Bool) (n : ℕ) → b ≡ false → cond b (n + 1) n ≡ n
-count_by false n is = refl
-count_by true n is = cc
-
-first_of : (a b : Bool) → (a || b) ≡ false → a ≡ false
-first_of false b none = refl
-first_of true b none = none
-
-rest_of : (a b : Bool) → (a || b) ≡ false → b ≡ false
-rest_of false b none = none
-rest_of true b none = cc
-
 -- a text without line feeds before another
 count-before : (xs ys : List ℕ) → has 10 xs ≡ false → count 10 (xs ++ ys) ≡ count 10 ys
 count-before [] ys none = refl
 count-before (x ∷ xs) ys none =
-    count_by (nat_eq x 10) (count 10 (xs ++ ys)) (first_of (nat_eq x 10) (has 10 xs) none) ∙ count-before xs ys (rest_of (nat_eq x 10) (has 10 xs) none)
+    cond-false (nat_eq x 10) (count 10 (xs ++ ys) + 1) (count 10 (xs ++ ys)) (or_parts (nat_eq x 10) (has 10 xs) none).0 ∙ count-before xs ys (or_parts (nat_eq x 10) (has 10 xs) none).1
 
 line_by : (b : Bool) (n m : ℕ) → cond b ((n + m) + 1) (n + m) ≡ cond b (n + 1) n + m
 line_by true n m = omega arith
@@ -381,7 +369,8 @@ count-append : (xs ys : List ℕ) → count 10 (xs ++ ys) ≡ count 10 xs + coun
 count-append [] ys = omega arith
 count-append (x ∷ xs) ys = ap (λ (n : ℕ). cond (nat_eq x 10) (n + 1) n) (count-append xs ys) ∙ line_by (nat_eq x 10) (count 10 xs) (count 10 ys)
 
-one_line : (cuts : Cuts) (labels : List RunnerLabel) (places : List ℕ) (n : ℕ) (h : History) (before : ℕ) (e : WorldEvent) (reply : Result Reply Denied) → count 10 (row_text places (row_of cuts labels h before n e reply)) ≡ 1
+one_line : (cuts : Cuts) (labels : List RunnerLabel) (places : List ℕ) (n : ℕ) (h : History) (before : ℕ) (e : WorldEvent)
+    (reply : Result Reply Denied) → count 10 (row_text places (row_of cuts labels h before n e reply)) ≡ 1
 one_line cuts labels places n h before e reply =
     let at : ℕ = 2 + place places (column (lane_of e reply)) in
     let indent = spaces at in

@@ -20,7 +20,8 @@ one_row cuts labels h before n [] replies same = refl
 one_row cuts labels h before n (e ∷ es) [] same = absurd (omega (arith, same))
 one_row cuts labels h before n (e ∷ es) (r ∷ rs) same = ap suc (one_row cuts labels h (counter_after before r) (suc n) es rs (omega (arith, same)))
 
-numbered : (cuts : Cuts) (labels : List RunnerLabel) (h : History) (before n : ℕ) (events : List WorldEvent) (replies : List (Result Reply Denied)) → AreNumbered n (rows_of cuts labels h before n events replies)
+numbered : (cuts : Cuts) (labels : List RunnerLabel) (h : History) (before n : ℕ) (events : List WorldEvent) (replies : List (Result Reply Denied)) →
+    AreNumbered n (rows_of cuts labels h before n events replies)
 numbered cuts labels h before n [] replies = tt
 numbered cuts labels h before n (e ∷ es) [] = tt
 numbered cuts labels h before n (e ∷ es) (r ∷ rs) = (refl, numbered cuts labels h (counter_after before r) (suc n) es rs)

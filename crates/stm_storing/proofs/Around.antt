@@ -6,7 +6,8 @@ use Rattle.stm_events.specs.declared.reply.Reply.{Reply}
 use Rattle.stm_events.specs.declared.refusal.Denied.{Denied}
 use Rattle.stm_world.specs.World.{World, opened, world_after, replies_to}
 use Rattle.stm_records.specs.Disk.{LeavesOnly}
-use Rattle.stm_lasting.specs.Kept.{IsKept, IsReady, OpensTo, OpensAlike}
+use Rattle.stm_records.specs.RecordFiles.{OpensAlike}
+use Rattle.stm_lasting.specs.Kept.{IsKept, IsReady}
 use Rattle.stm_lasting.proofs.Leading.{still}
 use Rattle.stm_lasting.proofs.Moments.{nothing}
 use Rattle.stm_report.specs.declared.format.Format.{Format}
@@ -28,10 +29,6 @@ then {moment = moment} {old = old} {mended = mended} {world = world} opened firs
       (λ now. inr (inr (mended, world, opened, now)))
       (second.before t c (omega (arith, le, first.later)) left);
 }
-
--- the file as it is opens to what it opens to
-pub as_found : (found c : List ℕ) → c ≡ found → OpensAlike found c
-as_found found c is = λ world opens. subst (λ (file : List ℕ). OpensTo file world) (sym is) opens
 
 -- some world is ready for a scenario
 some_ready : (end : ℕ) (file : List ℕ) (kept : World) (scenario : Scenario) → end ≡ length file → IsKept file kept → (before : World) × IsReady file before scenario

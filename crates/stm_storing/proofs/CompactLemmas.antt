@@ -18,12 +18,14 @@ use Rattle.stm_world.specs.World.{World, Runner, Slot, runner_at}
 use Rattle.stm_world.proofs.Slots.{runner_there}
 use Rattle.stm_frames.proofs.Unique.{opens_log}
 use Rattle.stm_records.specs.Disk.{LeavesOnly}
+use Rattle.stm_records.specs.RecordFiles.{OpensAlike}
+use Rattle.stm_records.proofs.Heads.{log_head}
 use Rattle.stm_lasting.proofs.Moments.{weaker}
-use Rattle.stm_lasting.specs.Kept.{IsKept, OpensTo, OpensAlike}
+use Rattle.stm_lasting.specs.Kept.{IsKept, OpensTo}
 use Rattle.stm_storing.specs.Storing.{IsOpened}
 use Rattle.stm_storing.proofs.Around.{then}
 use Rattle.stm_storing.specs.Jobs.{AreAlikeSince}
-use Rattle.stm_storing.specs.Compacting.{ShowsTheSame, ShowTheSame, asked_floor, ShowsTheKept, HasDropped, CanBeAsked, IsRewritten, HasCompacted, OpensCompacted, LeavesFoundOrCompacted}
+use Rattle.stm_storing.specs.Compacting.{ShowsTheSame, ShowTheSame, asked_floor, ShowsTheKept, HasDropped, CanBeAsked, IsQuiet, IsRewritten, HasCompacted, OpensCompacted, LeavesFoundOrCompacted}
 
 -- what `==` says of two live leases
 pub lease_decides : (a b : LiveLease) → Decides (eq-value.it a b) (a ≡ b)
@@ -91,36 +93,42 @@ shows_itself floor w = record {
 
 -- the file as it was opens to its world
 pub still_opens : (file c : List ℕ) (world : World) → IsKept file world → c ≡ file → OpensTo c world
-still_opens file c world kept is = record { records = kept.records; opens = opens_log c kept.records (is ∙ kept.whole); leads = kept.leads }
+still_opens file c world kept is = record {
+  head = log_head c kept.records (is ∙ kept.whole);
+  records = kept.records;
+  opens = opens_log c kept.records (is ∙ kept.whole);
+  leads = kept.leads;
+}
 
 -- what a crash left once a file was opened, in words of the file that was found
-pub as_compacted : (asked : Option ℕ) (found : List ℕ) (before : World) (floor : ℕ) (c : List ℕ) → OpensTo found before
+pub as_compacted : (asked : Option ℕ) (found : List ℕ) (before : World) (floor : ℕ) (c : List ℕ) → OpensTo found before → IsQuiet before
     → floor ≡ asked_floor asked (kept before.standing) → OpensTo c before ⊎ ((after : World) × OpensTo c after × ShowTheSame floor before after)
     → LeavesFoundOrCompacted asked found c
-as_compacted asked found before floor c opens is (inl old) = inr (before, opens, (before, old, shows_itself (asked_floor asked (kept before.standing)) before))
-as_compacted asked found before floor c opens is (inr new) =
-    inr (before, opens, (new.0, new.1, subst (λ (n : ℕ). ShowTheSame n before new.0) is new.2))
+as_compacted asked found before floor c opens quiet is (inl old) = inr (before, opens, quiet, (before, old, shows_itself (asked_floor asked (kept before.standing)) before))
+as_compacted asked found before floor c opens quiet is (inr new) =
+    inr (before, opens, quiet, (new.0, new.1, subst (λ (n : ℕ). ShowTheSame n before new.0) is new.2))
 
 -- the file that was written, in the same words
 pub has_compacted : (asked : Option ℕ) (found file : List ℕ) (before : World) (floor : ℕ) → OpensTo found before → floor ≡ asked_floor asked (kept before.standing)
-    → CanBeAsked asked (kept before.standing) → IsRewritten before file ⊎ HasDropped floor before
-    → ((after : World) × IsKept file after × ShowTheSame floor before after × HasDropped floor after) → HasCompacted asked found file
-has_compacted asked found file before floor opens is readable written new = record {
+    → CanBeAsked asked (kept before.standing) → (new : (after : World) × IsKept file after × ShowTheSame floor before after × HasDropped floor after)
+    → IsRewritten before file ⊎ (HasDropped floor before × (new.0 ≡ before)) → HasCompacted asked found file
+has_compacted asked found file before floor opens is readable new written = record {
   before = before;
   after = new.0;
   opens = opens;
   readable = readable;
   kept = new.1;
-  written = ⊎_elim (λ anew. inl anew) (λ lowest. inr (subst (λ (n : ℕ). HasDropped n before) is lowest)) written;
+  written = ⊎_elim (λ anew. inl anew) (λ stayed. inr (subst (λ (n : ℕ). HasDropped n before) is stayed.0, stayed.1)) written;
   shows = subst (λ (n : ℕ). ShowTheSame n before new.0) is new.2;
   dropped = subst (λ (n : ℕ). HasDropped n new.0) is new.3;
 }
 
 -- the opening of a file, and then its compaction
 pub then_compacted : {D : Type 0} {moment : D → ℕ} {left_since : D → ℕ → List ℕ → Type 0} {old mid new : D} {found mended : List ℕ} (asked : Option ℕ)
-    (before : World) (floor : ℕ) → IsOpened found mended before → floor ≡ asked_floor asked (kept before.standing) → LeavesOnly moment left_since old mid (OpensAlike found)
+    (before : World) (floor : ℕ) → IsOpened found mended before → IsQuiet before → floor ≡ asked_floor asked (kept before.standing)
+    → LeavesOnly moment left_since old mid (OpensAlike found)
     → LeavesOnly moment left_since mid new (λ c. OpensTo c before ⊎ ((after : World) × OpensTo c after × ShowTheSame floor before after))
     → LeavesOnly moment left_since old new (LeavesFoundOrCompacted asked found)
-then_compacted {found = found} asked before floor opened is first second =
+then_compacted {found = found} asked before floor opened quiet is first second =
     weaker (then {Q = λ m c. OpensTo c before ⊎ ((after : World) × OpensTo c after × ShowTheSame floor before after)} opened first second)
-    (λ c left. ⊎_elim (λ past. inl past) (λ more. as_compacted asked found before floor c opened.opens is more.3) left)
+    (λ c left. ⊎_elim (λ past. inl past) (λ more. as_compacted asked found before floor c opened.opens quiet is more.3) left)

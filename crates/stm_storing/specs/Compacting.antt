@@ -7,7 +7,8 @@ use Rattle.stm_history.specs.History.{now, key_at}
 use Rattle.stm_keys.specs.Events.{events_of}
 use Rattle.stm_txn.specs.Standing.{Standing, kept}
 use Rattle.stm_world.specs.World.{World, runner_at}
-use Rattle.stm_lasting.specs.Kept.{IsKept, OpensTo, OpensAlike, HasRecords}
+use Rattle.stm_records.specs.RecordFiles.{OpensAlike}
+use Rattle.stm_lasting.specs.Kept.{IsKept, OpensTo, HasRecords}
 use Rattle.stm_storing.specs.Storing.{IsToCome, IsCompacted, CanBeRead}
 
 -- Two stores show the same at a revision, and above it have had the same events; they have the same leases, moment and limit of operations.
@@ -60,20 +61,25 @@ pub record IsRewritten (before : World) (file : List ℕ) : Type 0 where
   pub quiet : IsQuiet before
   pub one : HasRecords file 1
 
--- The file of a world leads to one that shows the same from a revision on, and has nothing below it: it was written anew, or there was nothing below.
+-- nothing was below the revision, and the world stays
+abbrev pub HasStayed : Option ℕ → World → World → Type 0
+HasStayed asked before after = HasDroppedTheRest asked before before × (after ≡ before)
+
+-- The file of a world leads to one that shows the same from a revision on, and has nothing below it: it was written anew, or there was nothing below, and it
+-- leads to the world that it led to.
 pub record HasCompacted (asked : Option ℕ) (found file : List ℕ) : Type 0 where
   pub before : World
   pub after : World
   pub opens : OpensTo found before
   pub readable : CanBeAsked asked (kept before.standing)
   pub kept : IsKept file after
-  pub written : IsRewritten before file ⊎ HasDroppedTheRest asked before before
+  pub written : IsRewritten before file ⊎ HasStayed asked before after
   pub shows : ShowsTheKept asked before after
   pub dropped : HasDroppedTheRest asked before after
 
--- a file opens to a world that shows the same
+-- a file opens to a world that shows the same as one in which nothing is under way
 abbrev pub OpensCompacted : Option ℕ → World → List ℕ → Type 0
-OpensCompacted asked before c = (after : World) × OpensTo c after × ShowsTheKept asked before after
+OpensCompacted asked before c = IsQuiet before × ((after : World) × OpensTo c after × ShowsTheKept asked before after)
 
 -- What a crash leaves: a file that opens to the world of the one that was found, or to one that shows the same.
 abbrev pub LeavesFoundOrCompacted : Option ℕ → List ℕ → List ℕ → Type 0

@@ -18,7 +18,8 @@ use Rattle.stm_program.specs.Syntax.{ProgramTree}
 use Rattle.stm_storing.specs.declared.running.Manner.{Manner}
 use Rattle.stm_storing.specs.Past.{text_since, IsTextAt}
 use Rattle.stm_storing.specs.Running.{IsRunOf, EndInCommit}
-use Rattle.stm_lasting.specs.Kept.{IsKept, OpensTo, OpensAlike, IsReady, IsWorldBeforeOrAfter}
+use Rattle.stm_records.specs.RecordFiles.{OpensAlike}
+use Rattle.stm_lasting.specs.Kept.{IsKept, OpensTo, IsReady, IsWorldBeforeOrAfter}
 
 -- the file opens to this world, as it was found, and leads to it once a torn end is cut off
 pub record IsOpened (found mended : List ℕ) (world : World) : Type 0 where

@@ -3,8 +3,8 @@ ghost use Rattle.std.specs.Prelude.{◌≡◌, ◌<◌, ◌≤◌, ◌++◌, Err
 ghost use Rattle.std.specs.List.{concat, flat_map};
 ghost use Rattle.stm_history.specs.History.{now, key_now};
 ghost use Rattle.stm_keys.specs.Events.{event_about};
-ghost use Rattle.stm_lasting.specs.Kept.{OpensAlike};
 ghost use Rattle.stm_records.specs.Disk.{Only, LeavesOnly};
+ghost use Rattle.stm_records.specs.RecordFiles.{OpensAlike};
 ghost use Rattle.stm_report_lines.specs.LineData.{event_data};
 ghost use Rattle.stm_report_lines.specs.Text.{line_text};
 ghost use Rattle.stm_storing.specs.Storing.{HasShownEvents, HasShownPast, OpensToStore, IsToCome, IsCompacted, CanBeRead};

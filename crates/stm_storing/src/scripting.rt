@@ -3,12 +3,12 @@ ghost use Rattle.std.specs.Prelude.{◌≡◌, ℕ, Ok as OkOf, length, IfOk, If
 ghost use Rattle.std.specs.Io.KnownBytes.{Appends};
 ghost use Rattle.stm_records.specs.Disk.{Only, LeavesOnly};
 ghost use Rattle.stm_records.specs.Head.{IsHurt};
-ghost use Rattle.stm_records.specs.RecordFiles.{IsSettled};
+ghost use Rattle.stm_records.specs.RecordFiles.{IsSettled, OpensAlike};
 ghost use Rattle.stm_texts.specs.Opens.{setup_of, IsOpening};
 ghost use Rattle.stm_texts.specs.Reading.{scenario_in};
 ghost use Rattle.stm_history.specs.History.{now};
 ghost use Rattle.stm_world.specs.World.{opened as opened_world, replies_to, world_after};
-ghost use Rattle.stm_lasting.specs.Kept.{IsKept, IsReady, OpensAlike, IsWorldBeforeOrAfter, LeadsNowhere, HasRecords};
+ghost use Rattle.stm_lasting.specs.Kept.{IsKept, IsReady, IsWorldBeforeOrAfter, LeadsNowhere, HasRecords};
 ghost use Rattle.stm_storing.specs.Faults.{IsOfOpening};
 ghost use Rattle.stm_storing.specs.Storing.{IsOpened, HasRun, HasPrinted, HasGoneOn, LeavesAround, LeavesFoundOrAfter};
 

@@ -2,7 +2,8 @@
 ghost use Rattle.std.specs.Prelude.{◌≡◌, ℕ, length, IfOk, IfErr, OnOk, IsTrue, false};
 ghost use Rattle.stm_records.specs.Disk.{Only, LeavesOnly};
 ghost use Rattle.stm_records.specs.Head.{IsHurt};
-ghost use Rattle.stm_lasting.specs.Kept.{OpensAlike, LeadsNowhere, HasRecords};
+ghost use Rattle.stm_records.specs.RecordFiles.{OpensAlike};
+ghost use Rattle.stm_lasting.specs.Kept.{LeadsNowhere, HasRecords};
 ghost use Rattle.stm_storing.specs.Storing.{HasShown, OpensToAny};
 
 use crate::fault::StoreFault;

@@ -1,6 +1,7 @@
 -- Each watcher is notified of all: line by line, what it was notified of and what is pending make up the whole.
-use Rattle.std.proofs.Common.{◌≡◌, ◌≢◌, ◌⊎◌, inl, inr, ℕ, ◌+◌, ◌-◌, ◌<◌, ◌≤◌, zero, suc, List, [], ◌∷◌, ◌++◌, length, Option, Some, None, Ok, Err}
+use Rattle.std.proofs.Common.{◌≡◌, ◌≢◌, inl, inr, ℕ, ◌+◌, ◌-◌, ◌<◌, ◌≤◌, zero, suc, List, [], ◌∷◌, ◌++◌, length, Option, Some, None, Ok, Err}
 use Rattle.std.proofs.Common.{Bool, true, false, cond, refl, sym, ◌∙◌, ap, subst, arith, append-nil, slice_index_or, slice_set}
+use Rattle.std.proofs.lemmas.Bool.{or_cases}
 use Rattle.std.proofs.lemmas.List.{length-set, length-append, length-map, get_or-set_same, get_or-set_other}
 use Rattle.std.specs.Prelude.{nat_eq, nat_lt, nat_le, option_map, Result, ◌||◌}
 use Rattle.stm_history.specs.History.{History, now}
@@ -453,10 +454,6 @@ polled_by start log reply id most (Some w) are found right leaves = poll_by star
 
 -- ---- a compaction
 
-lost_by : (P : Type 0) (was by_it : Bool) → (was || by_it) ≡ true → (was ≡ true → P) → (by_it ≡ true → P) → P
-lost_by P true by_it lost earlier here = earlier refl
-lost_by P false by_it lost earlier here = here lost
-
 -- a watcher may be lost by it, but what it was notified of and what is pending stay
 compacted_reported : (start : Setup) (log : List Line) (id : ℕ) (h : History) (floor : ℕ) (o : Option Watching) → (store start log).history ≡ h →
     (store start log).floor ≡ floor → IsReported start log id o → IsReported start log id (option_map (compacted_one h floor) o)
@@ -467,9 +464,10 @@ compacted_reported start log id h floor (Some w) history floor_is is =
       begun = is.begun;
       is_begun = is.is_begun;
       reports = record { same = is.reports.same; since = is.reports.since; reached = is.reports.reached; all = is.reports.all };
-      because = λ lost. lost_by ((is.begun.lost ≡ true) ⊎ (is_lost s.floor (first_pending s.history w) ≡ true)) w.lost (is_lost floor (first_pending h w))
-          lost is.because
-          (λ below. inr (ap (λ n. is_lost n (first_pending s.history w)) floor_is ∙ ap (λ (g : History). is_lost floor (first_pending g w)) history ∙ below));
+      because = λ lost. elim (or_cases w.lost (is_lost floor (first_pending h w)) lost) [
+        | inl earlier ↦ is.because earlier
+        | inr below ↦ inr (ap (λ n. is_lost n (first_pending s.history w)) floor_is ∙ ap (λ (g : History). is_lost floor (first_pending g w)) history ∙ below)
+      ];
     }
 
 place_compacted : (h : History) (floor : ℕ) (ws : List (Option Watching)) (i : ℕ) →

@@ -60,7 +60,8 @@ sum_moves f g (a ∷ accounts) account was is total are (inl same) before after 
     sums_agree f g accounts (agree_apart f g account accounts (subst (λ q. AllByRecursion (λ x. bytes_eq q x ≡ false) accounts) same are.1) agree) in
     let here : Some p.here ≡ Some was = sym p.first_is ∙ ap f same ∙ before in
     let adds : p.here +ℤ p.others ≡ total = p.adds in
-    let moved : is +ℤ p.others ≡ total +ℤ (is -ℤ was) = omega (arith, ints, adds, cc) in
+    let equal : p.here ≡ was = cc in
+    let moved : is +ℤ p.others ≡ total +ℤ (is -ℤ was) = omega (arith, ints, adds, equal) in
     ap (λ o. sum_of o (sum_over g accounts)) (ap g same ∙ after)
     ∙ ap (λ o. sum_of (Some is) o) (rest ∙ p.rest_is) ∙ ap (λ z. Some z) moved
 sum_moves f g (a ∷ accounts) account was is total are (inr later) before after agree sums =
@@ -68,5 +69,6 @@ sum_moves f g (a ∷ accounts) account was is total are (inr later) before after
     let other : bytes_eq a account ≡ false = apart_from a account accounts are.1 later in
     let stays : g a ≡ f a = agree a (bytes_eq-flip account a ∙ other) in
     let rest : sum_over g accounts ≡ Some (p.others +ℤ (is -ℤ was)) = sum_moves f g accounts account was is p.others are.2 later before after agree p.rest_is in
-    let moved : p.here +ℤ (p.others +ℤ (is -ℤ was)) ≡ total +ℤ (is -ℤ was) = omega (arith, ints, p.adds) in
+    let adds : p.here +ℤ p.others ≡ total = p.adds in
+    let moved : p.here +ℤ (p.others +ℤ (is -ℤ was)) ≡ total +ℤ (is -ℤ was) = omega (arith, ints, adds) in
     ap (λ o. sum_of o (sum_over g accounts)) (stays ∙ p.first_is) ∙ ap (λ o. sum_of (Some p.here) o) rest ∙ ap (λ z. Some z) moved

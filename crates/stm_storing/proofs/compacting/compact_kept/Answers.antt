@@ -1,4 +1,4 @@
-use Rattle.std.proofs.Common.{◌≤◌, inl, inr, ap, subst, ◌∙◌}
+use Rattle.std.proofs.Common.{◌≤◌, inl, inr, refl, ap, subst, ◌∙◌}
 use Rattle.std.proofs.lemmas.Result.{err_from_is_err_and}
 use Rattle.stm_history.specs.History.{now}
 use Rattle.stm_txn.specs.Standing.{Standing}
@@ -19,8 +19,9 @@ returns-then-is_lowest-clause-compacted g c =
     let before = c.in_ok-kept.kept.world in
     has_compacted c.args.asked (g.D.Disk.seen c.args.records.now.disk) (g.D.Disk.seen c.opened.new.records.disk) before c.in_ok-floor.floor
     c.in_ok-kept.ensures.opens.opens (c.in_ok-floor.ensures.asked ∙ ap (asked_floor c.args.asked) c.store.ensures.standing)
-    (subst (CanBeAsked c.args.asked) c.store.ensures.standing c.in_ok-floor.ensures.readable) (inr (c.is_lowest.ensures.lowest c.if-is_lowest.true))
+    (subst (CanBeAsked c.args.asked) c.store.ensures.standing c.in_ok-floor.ensures.readable)
     (before, c.in_ok-kept.ensures.opens.kept, shows_itself c.in_ok-floor.floor before, c.is_lowest.ensures.lowest c.if-is_lowest.true)
+    (inr (c.is_lowest.ensures.lowest c.if-is_lowest.true, refl))
 
 pub returns-then-is_lowest-clause-any_moment : goal.returns-then-is_lowest-clause-any_moment
 returns-then-is_lowest-clause-any_moment g c = weaker c.opened.ensures.any_moment (λ f alike. inl alike)
@@ -40,18 +41,19 @@ compact_at-requires-clause-reached g c =
 
 pub returns-in_err-compact_at-clause-any_moment : goal.returns-in_err-compact_at-clause-any_moment
 returns-in_err-compact_at-clause-any_moment g c =
-    then_compacted c.args.asked c.in_ok-kept.kept.world c.in_ok-floor.floor c.in_ok-kept.ensures.opens
+    then_compacted c.args.asked c.in_ok-kept.kept.world c.in_ok-floor.floor c.in_ok-kept.ensures.opens (c.is_busy.ensures c.if-is_busy.false)
     (c.in_ok-floor.ensures.asked ∙ ap (asked_floor c.args.asked) c.store.ensures.standing) c.opened.ensures.any_moment c.compact_at.ensures.any_moment
 
 pub returns-clause-compacted : goal.returns-clause-compacted
 returns-clause-compacted g c =
     has_compacted c.args.asked (g.D.Disk.seen c.args.records.now.disk) (g.D.Disk.seen c.compact_at.new.records.disk) c.in_ok-kept.kept.world c.in_ok-floor.floor
     c.in_ok-kept.ensures.opens.opens (c.in_ok-floor.ensures.asked ∙ ap (asked_floor c.args.asked) c.store.ensures.standing)
-    (subst (CanBeAsked c.args.asked) c.store.ensures.standing c.in_ok-floor.ensures.readable) (inl record { quiet = c.is_busy.ensures c.if-is_busy.false; one = c.in_ok-compact_at.ensures.count }) c.in_ok-compact_at.ensures.same
+    (subst (CanBeAsked c.args.asked) c.store.ensures.standing c.in_ok-floor.ensures.readable) c.in_ok-compact_at.ensures.same
+    (inl record { quiet = c.is_busy.ensures c.if-is_busy.false; one = c.in_ok-compact_at.ensures.count })
 
 pub returns-clause-any_moment : goal.returns-clause-any_moment
 returns-clause-any_moment g c =
-    then_compacted c.args.asked c.in_ok-kept.kept.world c.in_ok-floor.floor c.in_ok-kept.ensures.opens
+    then_compacted c.args.asked c.in_ok-kept.kept.world c.in_ok-floor.floor c.in_ok-kept.ensures.opens (c.is_busy.ensures c.if-is_busy.false)
     (c.in_ok-floor.ensures.asked ∙ ap (asked_floor c.args.asked) c.store.ensures.standing) c.opened.ensures.any_moment c.compact_at.ensures.any_moment
 
 pub returns-in_err-kept-clause-future : goal.returns-in_err-kept-clause-future

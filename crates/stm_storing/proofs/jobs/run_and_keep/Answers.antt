@@ -2,7 +2,7 @@ use Rattle.std.proofs.Common.{inl, ap, sym, ◌∙◌}
 use Rattle.stm_world.specs.World.{opened}
 use Rattle.stm_records.proofs.Moments.{started}
 use Rattle.stm_storing.specs.Storing.{LeavesAroundRun}
-use Rattle.stm_storing.proofs.Around.{as_found}
+use Rattle.stm_records.proofs.Crash.{alike}
 use Rattle.stm_storing.proofs.Ready.{is_ready}
 use Rattle.stm_storing.proofs.jobs.run_and_keep.Goals as goal
 
@@ -11,14 +11,14 @@ returns-in_err-world-clause-any_moment g c =
     let disk = c.args.records.now.disk in
     let file = g.D.Disk.seen disk in
     started g.D.Disk.moment g.D.Disk.left_since disk (LeavesAroundRun file)
-    (λ f left. inl (as_found file f (c.requires.settled.durable f (g.met.D.Disk.only_now disk f left))))
+    (λ f left. inl (alike file f (c.requires.settled.durable f (g.met.D.Disk.only_now disk f left))))
 
 pub returns-in_err-done-clause-any_moment : goal.returns-in_err-done-clause-any_moment
 returns-in_err-done-clause-any_moment g c =
     let disk = c.args.records.now.disk in
     let file = g.D.Disk.seen disk in
     started g.D.Disk.moment g.D.Disk.left_since disk (LeavesAroundRun file)
-    (λ f left. inl (as_found file f (c.requires.settled.durable f (g.met.D.Disk.only_now disk f left))))
+    (λ f left. inl (alike file f (c.requires.settled.durable f (g.met.D.Disk.only_now disk f left))))
 
 pub keep_done-requires-clause-ready : goal.keep_done-requires-clause-ready
 keep_done-requires-clause-ready g c =

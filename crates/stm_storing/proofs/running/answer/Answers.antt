@@ -1,7 +1,7 @@
 use Rattle.std.proofs.Common.{inl}
 use Rattle.stm_records.proofs.Moments.{started}
 use Rattle.stm_storing.specs.Storing.{LeavesAroundRun}
-use Rattle.stm_storing.proofs.Around.{as_found}
+use Rattle.stm_records.proofs.Crash.{alike}
 use Rattle.stm_storing.proofs.running.answer.Goals as goal
 
 pub returns-in_err-write_line-clause-any_moment : goal.returns-in_err-write_line-clause-any_moment
@@ -9,11 +9,11 @@ returns-in_err-write_line-clause-any_moment g c =
     let disk = c.args.records.now.disk in
     let file = g.D.Disk.seen disk in
     started g.D.Disk.moment g.D.Disk.left_since disk (LeavesAroundRun file)
-    (λ f left. inl (as_found file f (c.requires.settled.durable f (g.met.D.Disk.only_now disk f left))))
+    (λ f left. inl (alike file f (c.requires.settled.durable f (g.met.D.Disk.only_now disk f left))))
 
 pub returns-clause-any_moment : goal.returns-clause-any_moment
 returns-clause-any_moment g c =
     let disk = c.args.records.now.disk in
     let file = g.D.Disk.seen disk in
     started g.D.Disk.moment g.D.Disk.left_since disk (LeavesAroundRun file)
-    (λ f left. inl (as_found file f (c.requires.settled.durable f (g.met.D.Disk.only_now disk f left))))
+    (λ f left. inl (alike file f (c.requires.settled.durable f (g.met.D.Disk.only_now disk f left))))

@@ -4,7 +4,7 @@ use Rattle.stm_records.proofs.Moments.{started}
 use Rattle.stm_lasting.proofs.Moments.{weaker}
 use Rattle.stm_storing.specs.Running.{IsRunOf}
 use Rattle.stm_storing.specs.Storing.{LeavesAroundRun}
-use Rattle.stm_storing.proofs.Around.{as_found}
+use Rattle.stm_records.proofs.Crash.{alike}
 use Rattle.stm_storing.proofs.Ready.{is_ready}
 use Rattle.stm_storing.proofs.running.keep_text.Goals as goal
 
@@ -13,21 +13,21 @@ returns-in_err-scenario-clause-any_moment g c =
     let disk = c.args.records.now.disk in
     let file = g.D.Disk.seen disk in
     started g.D.Disk.moment g.D.Disk.left_since disk (LeavesAroundRun file)
-    (λ f left. inl (as_found file f (c.requires.settled.durable f (g.met.D.Disk.only_now disk f left))))
+    (λ f left. inl (alike file f (c.requires.settled.durable f (g.met.D.Disk.only_now disk f left))))
 
 pub returns-then-not-is_run_of-clause-any_moment : goal.returns-then-not-is_run_of-clause-any_moment
 returns-then-not-is_run_of-clause-any_moment g c =
     let disk = c.args.records.now.disk in
     let file = g.D.Disk.seen disk in
     started g.D.Disk.moment g.D.Disk.left_since disk (LeavesAroundRun file)
-    (λ f left. inl (as_found file f (c.requires.settled.durable f (g.met.D.Disk.only_now disk f left))))
+    (λ f left. inl (alike file f (c.requires.settled.durable f (g.met.D.Disk.only_now disk f left))))
 
 pub returns-in_err-world-clause-any_moment : goal.returns-in_err-world-clause-any_moment
 returns-in_err-world-clause-any_moment g c =
     let disk = c.args.records.now.disk in
     let file = g.D.Disk.seen disk in
     started g.D.Disk.moment g.D.Disk.left_since disk (LeavesAroundRun file)
-    (λ f left. inl (as_found file f (c.requires.settled.durable f (g.met.D.Disk.only_now disk f left))))
+    (λ f left. inl (alike file f (c.requires.settled.durable f (g.met.D.Disk.only_now disk f left))))
 
 pub keep_commit-requires-clause-ready : goal.keep_commit-requires-clause-ready
 keep_commit-requires-clause-ready g c =

@@ -1,9 +1,10 @@
 //! The places of a scenario in which runners wait for others, and whether rules are kept there.
-ghost use Rattle.std.specs.Prelude.{◌≡◌, true, filter, length, Some, slice_get, IfOk};
+ghost use Rattle.std.specs.Prelude.{◌≡◌, ◌≤◌, ℕ, true, All, filter, length, Some, slice_get, IfOk};
 ghost use Rattle.std.specs.List.{AllZip};
 ghost use Rattle.stm_schedules.specs.Outcomes.{ends_after};
 ghost use Rattle.stm_schedules.specs.Schedules.{place_after};
-ghost use Rattle.stm_visited.specs.Answers.{EachIs, IsVisited};
+ghost use Rattle.stm_visited.specs.Answers.{EachIs, IsVisited, OpenIsSpent as VisitedIsSpent};
+ghost use Rattle.stm_explore.specs.Explored.{OpenIsSpent};
 ghost use Rattle.stm_explore.specs.Asked.{end_for};
 ghost use Rattle.stm_explore.specs.Spots.{ShowTheSame};
 ghost use Rattle.stm_explore.specs.Waiting.{is_allowed, asks_if_there, waiting_steps, waiting_rules_steps, waiting_respected, IsExploredPatiently};
@@ -154,7 +155,8 @@ fn with_end(
 ) -> Result<Explored, AllocError>
     requires { IsVisited (waiting_steps waiting.now.waits.now waiting.now.when rule.now waiting.now.gathered.others.now)
         (record { at = record { world = start.now; taken = 0 }; ends = ends.now }) visited.now }
-    ensures { IfOk result (IsExploredPatiently waiting.now.waits.now waiting.now.when rule.now (record { world = start.now; others = waiting.now.gathered.others.now }) ends.now) }
+    ensures explored { IfOk result (IsExploredPatiently waiting.now.waits.now waiting.now.when rule.now (record { world = start.now; others = waiting.now.gathered.others.now }) ends.now) }
+    ensures same { IfOk result (λ explored. (left : ℕ) → VisitedIsSpent left visited.now → OpenIsSpent left explored) }
 {
     match visited {
         Visited::Always { longest } => Ok(Explored::Always { longest: *longest }),
@@ -178,8 +180,9 @@ fn with_ends(
     requires each { length answers.now ≡ length waiting.now.rules.now }
     requires visited { EachIs (λ n. IsVisited (waiting_rules_steps waiting.now.waits.now waiting.now.when waiting.now.rules.now waiting.now.gathered.others.now n)
         (record { at = record { world = start.now; taken = 0 }; ends = ends.now })) answers.now }
-    ensures { IfOk result (λ all. AllZip (λ rule. IsExploredPatiently waiting.now.waits.now waiting.now.when rule (record { world = start.now; others = waiting.now.gathered.others.now }) ends.now)
+    ensures explored { IfOk result (λ all. AllZip (λ rule. IsExploredPatiently waiting.now.waits.now waiting.now.when rule (record { world = start.now; others = waiting.now.gathered.others.now }) ends.now)
         waiting.now.rules.now all.items) }
+    ensures same { IfOk result (λ all. (left : ℕ) → EachIs (λ n. VisitedIsSpent left) answers.now → All (OpenIsSpent left) all.items) }
 {
     let rules = waiting.rules;
     let mut all = Vec::new(alloc);
@@ -215,8 +218,10 @@ fn explore_places<L: Onlooker, O: Observer>(
     ends: &[Option<RunnerEnd>],
     budget: &mut Budget<O>,
 ) -> Result<Vec<Explored>, AllocError>
-    ensures { IfOk result (λ all. AllZip (λ rule. IsExploredPatiently watched.now.waiting.waits.now watched.now.waiting.when rule
+    ensures explored { IfOk result (λ all. AllZip (λ rule. IsExploredPatiently watched.now.waiting.waits.now watched.now.waiting.when rule
         (record { world = world.now; others = watched.now.waiting.gathered.others.now }) ends.now) watched.now.waiting.rules.now all.items) }
+    ensures left { budget.new.left ≤ budget.old.left }
+    ensures spent { IfOk result (λ all. All (OpenIsSpent budget.new.left) all.items) }
 {
     let waiting = &watched.waiting;
     let world = shared_copy(alloc, world)?;
@@ -231,8 +236,8 @@ fn explore_places<L: Onlooker, O: Observer>(
 /// walk through the places.
 ///
 /// `ends` has what is known of the runners' ends before, by the runners' numbers, as `ends_reported` returns it. All else is as with `explore`,
-/// in which no runner waits: the first schedule that does not keep a rule is the first of those in which the runners wait. Each place where a rule is asked
-/// is shown to `onlooker`.
+/// in which no runner waits: the first schedule that does not keep a rule is the first of those in which the runners wait, and an answer is `Open` only
+/// where nothing is left of `budget`. Each place where a rule is asked is shown to `onlooker`.
 pub fn explore_waiting<L: Onlooker, O: Observer>(
     alloc: Global,
     world: &World,
@@ -244,7 +249,9 @@ pub fn explore_waiting<L: Onlooker, O: Observer>(
     onlooker: &L,
     budget: &mut Budget<O>,
 ) -> Result<Vec<Explored>, AllocError>
-    ensures { IfOk result (λ all. AllZip (λ rule. IsExploredPatiently waits.now when rule (record { world = world.now; others = others.now }) ends.now) rules.now all.items) }
+    ensures explored { IfOk result (λ all. AllZip (λ rule. IsExploredPatiently waits.now when rule (record { world = world.now; others = others.now }) ends.now) rules.now all.items) }
+    ensures left { budget.new.left ≤ budget.old.left }
+    ensures spent { IfOk result (λ all. All (OpenIsSpent budget.new.left) all.items) }
 {
     let waiting = Waiting {
         gathered: Gathered { alloc, others },

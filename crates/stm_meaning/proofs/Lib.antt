@@ -3,7 +3,6 @@ pub mod ExampleRuns
 pub mod WorkedExamples
 pub mod KeyExamples
 pub mod RunLaws
-pub mod LoopTurns
 pub mod KeepLemmas
 pub mod RunKeyLaws
 pub mod LeafLaws

@@ -7,7 +7,6 @@ pub use Rattle.stm_steps.specs.States
 pub use Rattle.stm_steps.specs.Faults
 pub use Rattle.stm_steps.specs.Meaning
 pub mod Writes
-pub mod Returns
 pub mod Laws
 pub mod RunKeys
 pub mod Leaves

@@ -3,15 +3,13 @@
 
 mod alone;
 mod apply;
-mod conditions;
-mod expressions;
 pub mod laws;
-mod statements;
 
-pub use alone::{run_alone, run_answered};
+pub use alone::run_alone;
 pub use apply::apply_alone;
 pub use stm_history::{Sequence, Text};
 pub use stm_program::{Operator, Program, Variable, Write, last_write, latest_writes};
+pub use stm_sites::run_answered;
 pub use stm_steps::{
     Answered, End, Fault, KeySet, Lookup, Run, Session, State, StateEntry, TraceItem, Value,
     are_equal, combine, deletion, is_below, join, number_of, put, spell, turns, wanted_key,

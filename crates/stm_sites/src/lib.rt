@@ -1,6 +1,7 @@
-//! Where a program's run stops: at which node, and on which values. It is found by evaluating the program once more, as its meaning says.
+//! The evaluator of programs: the run of one over a look-up, and where a run stops: at which node, and on which values.
 #![tactic(auto)]
 
+mod answering;
 mod conditions;
 mod expressions;
 mod finding;
@@ -9,6 +10,7 @@ pub mod laws;
 mod site;
 mod statements;
 
+pub use answering::run_answered;
 pub use finding::{FoundFault, find_fault};
 pub use site::{Node, Site};
 pub use stm_program::{Operator, Program};

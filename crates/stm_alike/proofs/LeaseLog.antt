@@ -87,12 +87,6 @@ pub skipped : (es : List Entry) (i : ℕ) (e : Entry) → i < length es → e �
 skipped es i e within is plain =
     ap leases_of (drop_at es i e within is) ∙ ap (λ (b : Bool). cond b (e ∷ leases_of (drop (i + 1) es)) (leases_of (drop (i + 1) es))) plain
 
--- one that is stands in front
-pub stands_first : (es : List Entry) (i : ℕ) (e : Entry) → i < length es → e ≡ get_or es i e →
-    leases_of (e ∷ []) ++ leases_of (drop (i + 1) es) ≡ leases_of (drop i es)
-stands_first es i e within is =
-    sym (both_kept (e ∷ []) (drop (i + 1) es)) ∙ ap leases_of (sym (drop_at es i e within is))
-
 -- an entry that is about no lease adds none
 pub none_about : (e : Entry) (es : List Entry) → is_about_lease e ≡ false → leases_of (e ∷ []) ++ es ≡ es
 none_about e es plain = ap (λ (b : Bool). cond b (e ∷ []) [] ++ es) plain

@@ -1,5 +1,5 @@
 -- What the calls of an attempt leave, by what the code has at hand: the reads, how many of them are reported, and how far the program has come.
-use Rattle.std.proofs.Common.{◌≡◌, refl, sym, ◌∙◌, ap, subst, ℕ, zero, suc, Bool, true, false, cond, List, [], ◌∷◌, ◌++◌, length, take}
+use Rattle.std.proofs.Common.{◌≡◌, refl, sym, ◌∙◌, ap, subst, ℕ, Bool, true, false, cond, List, [], ◌∷◌, ◌++◌, length, take}
 use Rattle.std.specs.Prelude.{Option, None, Some, is_none, IfSome, Result, Ok, Err, IfOk, OnOk}
 use Rattle.std.specs.declared.alloc.AllocError.{AllocError}
 use Rattle.std.proofs.Math.Seq.{take-length}
@@ -9,21 +9,21 @@ use Rattle.stm_program.specs.declared.level.Level.{Level}
 use Rattle.stm_steps.specs.declared.run.Run.{Run}
 use Rattle.stm_compile.specs.Answers.{answer_in}
 use Rattle.stm_attempt.specs.declared.next.Next.{Next}
-use Rattle.stm_attempt.specs.declared.next.Next.TheVariants.{FetchAll, Fetch, Ready, Aborted, Faulted}
+use Rattle.stm_attempt.specs.declared.next.Next.TheVariants.{Ready}
 use Rattle.stm_attempt.specs.declared.wanted.Wanted.{Wanted}
 use Rattle.stm_attempt.specs.declared.wanted.Wanted.TheVariants.{List as ListWanted, Key as KeyWanted}
 use Rattle.stm_attempt.specs.Wanted.{next_wanted}
 use Rattle.stm_attempt.specs.Leaving.{left_by}
 use Rattle.stm_attempt.specs.declared.progress.Progress.{Progress}
-use Rattle.stm_attempt.specs.declared.progress.Progress.TheVariants.{Fresh, Started, Ended}
+use Rattle.stm_attempt.specs.declared.progress.Progress.TheVariants.{Ended}
 use Rattle.stm_attempt.specs.Known.{known_of, serving}
 use Rattle.stm_attempt.specs.Settled.{run_on, wanted}
 use Rattle.stm_attempt.specs.Entering.{is_due, gone_on}
-use Rattle.stm_attempt.specs.AttemptState.{AttemptState, begun, advanced, supplied, supplied_all, awaited, list_awaited}
+use Rattle.stm_attempt.specs.AttemptState.{AttemptState, advanced, supplied, awaited, list_awaited}
 use Rattle.stm_attempt.specs.Next.{next_at_end, next_after, next_on, next_of, key_asked, list_asked}
-use Rattle.stm_attempt.specs.Progress.{HasNotBegun, HasCome, HasEnded, IsUnderWay, IsAttempt, Extends, IsLeftAtEnd}
+use Rattle.stm_attempt.specs.Progress.{HasCome, HasEnded, IsUnderWay, IsAttempt}
 use Rattle.stm_attempt.proofs.NextLemmas.{seen_as, wanted_by, asked_is_awaited, list_is_awaited, awaits_unserved, awaited_is_new}
-use Rattle.stm_attempt.proofs.ProgressLemmas.{nothing_ahead, front_stays, under_way, come_with_more, end_is}
+use Rattle.stm_attempt.proofs.ProgressLemmas.{nothing_ahead, under_way, come_with_more, end_is}
 
 -- ---- whether there is a program
 
@@ -35,23 +35,6 @@ pub is_next : (o : Option ProgramTree) (program : ProgramTree) → is_none o ≡
 is_next None program some same = absurd (cc)
 is_next (Some p) program some same = ap (λ (q : ProgramTree). Some q) same
 
-read_nothing : (reads : List ReadAnswer) (progress : Progress) → HasNotBegun reads progress → reads ≡ []
-read_nothing reads Fresh begun = begun
-read_nothing reads (Started m) begun = absurd begun
-read_nothing reads (Ended run) begun = absurd begun
-
-at_first : (before : Option ProgramTree) (reads prefetched : List ReadAnswer) (reported : ℕ) (progress : Progress) → before ≡ None →
-    IsAttempt before reads prefetched reported progress → reads ≡ []
-at_first None reads prefetched reported progress none is = read_nothing reads progress is
-at_first (Some p) reads prefetched reported progress none is = absurd (cc)
-
-pub at_next : (program : ProgramTree) (before : Option ProgramTree) (reads prefetched : List ReadAnswer) (reported : ℕ) (progress : Progress) →
-    before ≡ Some program → IsAttempt before reads prefetched reported progress → IsUnderWay program reads prefetched reported progress
-at_next program None reads prefetched reported progress some is = absurd (cc)
-at_next program (Some p) reads prefetched reported progress some is =
-    let same : p ≡ program = cc in
-    subst (λ (q : ProgramTree). IsUnderWay q reads prefetched reported progress) same is
-
 pub attempt_of : (program : ProgramTree) (before : Option ProgramTree) (reads prefetched : List ReadAnswer) (reported : ℕ) (progress : Progress) →
     before ≡ Some program → IsUnderWay program reads prefetched reported progress → IsAttempt before reads prefetched reported progress
 attempt_of program before reads prefetched reported progress some way =
@@ -59,22 +42,6 @@ attempt_of program before reads prefetched reported progress some way =
 
 abbrev no_reads : List ReadAnswer
 no_reads = []
-
-take_of_nothing : (n : ℕ) → take n no_reads ≡ []
-take_of_nothing zero = refl
-take_of_nothing (suc n) = refl
-
--- an attempt without a program has read nothing
-pub seen_at_first : (old : AttemptState) (before : Option ProgramTree) (level : Level) (reads prefetched : List ReadAnswer) (reported : ℕ) (progress : Progress) →
-    seen_as before level (take reported reads) prefetched ≡ old → old.program ≡ None → IsAttempt before reads prefetched reported progress →
-    seen_as None level [] prefetched ≡ old
-seen_at_first old before level reads prefetched reported progress view none is =
-    let first : before ≡ None = ap (λ (v : AttemptState). v.program) view ∙ none in
-    let empty : reads ≡ [] = at_first before reads prefetched reported progress first is in
-    let front : take reported reads ≡ [] = ap (λ (l : List ReadAnswer). take reported l) empty ∙ take_of_nothing reported in
-    sym (ap (λ (o : Option ProgramTree). seen_as o level (take reported reads) prefetched) first
-    ∙ ap (λ (l : List ReadAnswer). seen_as None level l prefetched) front)
-    ∙ view
 
 -- ---- all reads are reported
 
@@ -99,14 +66,6 @@ left_from program old before after_program level reads front prefetched after re
     ap (λ (o : Option ProgramTree). seen_as o level (take reported after) prefetched) kept
     ∙ ap (λ (l : List ReadAnswer). seen_as (Some program) level l prefetched) (all_reported reported after whole ∙ settles ∙ ahead)
     ∙ ap (advanced program) view
-
--- a refused call is not seen
-pub unseen : (program : ProgramTree) (old : AttemptState) (before : Option ProgramTree) (level : Level) (reads prefetched after : List ReadAnswer) (reported : ℕ)
-    (progress : Progress) →
-    seen_as before level (take reported reads) prefetched ≡ old → IsUnderWay program reads prefetched reported progress → Extends reads after →
-    seen_as before level (take reported after) prefetched ≡ old
-unseen program old before level reads prefetched after reported progress view way more =
-    ap (λ (l : List ReadAnswer). seen_as before level l prefetched) (front_stays reported reads after way.within more) ∙ view
 
 pub asked_from : (program : ProgramTree) (old new : AttemptState) (next : Next) → new ≡ advanced program old →
     next ≡ next_of program old.level old.known → awaited new ≡ key_asked next
@@ -209,26 +168,6 @@ list_is old before level reads prefetched keys program view asked is =
     let same : program ≡ w.0 = cc (is, w.1) in
     ap (λ (p : ProgramTree). p.prefetch) same ∙ w.2
 
-pub awaits_none : (old : AttemptState) (before : Option ProgramTree) (level : Level) (reads prefetched : List ReadAnswer) (keys : List (List ℕ)) →
-    seen_as before level reads prefetched ≡ old → list_awaited old ≡ Some keys → before ≡ None → ⊥
-awaits_none old before level reads prefetched keys view asked none =
-    let w = awaits_list old before level reads prefetched keys view asked in
-    let both : None ≡ Some w.0 = sym none ∙ w.1 in
-    absurd (cc both)
-
-pub all_supplied_is : (old : AttemptState) (before : Option ProgramTree) (level : Level) (reads prefetched more answers : List ReadAnswer) (count : ℕ) →
-    seen_as before level reads prefetched ≡ old → more ≡ answers → count ≡ length more →
-    seen_as before level (take count more) prefetched ≡ supplied_all answers old
-all_supplied_is old before level reads prefetched more answers count view same whole =
-    ap (λ (l : List ReadAnswer). seen_as before level l prefetched) (all_reported count more whole ∙ same) ∙ ap (supplied_all answers) view
-
-pub all_supplied_attempt : (old : AttemptState) (before : Option ProgramTree) (level : Level) (reads prefetched more : List ReadAnswer) (count : ℕ)
-    (keys : List (List ℕ)) → seen_as before level reads prefetched ≡ old → list_awaited old ≡ Some keys → count ≡ length more →
-    IsAttempt before more prefetched count Fresh
-all_supplied_attempt old before level reads prefetched more count keys view asked whole =
-    let w = awaits_list old before level reads prefetched keys view asked in
-    attempt_of w.0 before more prefetched count Fresh w.1 (under_way w.0 more prefetched count Fresh whole tt)
-
 -- ---- an attempt whose end is given away
 
 pub fetch_leaves : (wanted : Wanted) (attempt : AttemptState) → left_by (next_wanted wanted) attempt ≡ attempt
@@ -258,44 +197,6 @@ pub left_list_reported : (program : ProgramTree) (old new : AttemptState) (repor
 left_list_reported program old new (Ok next) left is = ap list_awaited left ∙ left_list program old next is
 left_list_reported program old new (Err error) left is = tt
 
--- what is left where the end of the run was given away
-pub given_is : (program : ProgramTree) (old : AttemptState) (before kept : Option ProgramTree) (level : Level) (first read reads front prefetched : List ReadAnswer) (reported : ℕ)
-    (next : Next) (progress : Progress) → seen_as before level front prefetched ≡ old →
-    gone_on program (known_of first prefetched) ≡ gone_on program (known_of front prefetched) → before ≡ Some program →
-    read ≡ gone_on program (known_of first prefetched) → reported ≡ length reads → IsLeftAtEnd next before read kept reads progress →
-    seen_as kept level (take reported reads) prefetched ≡ left_by next (advanced program old)
-given_is program old before kept level first read reads front prefetched reported (Ready ready) progress view ahead kept_is settles whole left =
-    ap (λ (o : Option ProgramTree). seen_as o level (take reported reads) prefetched) left.no_program
-    ∙ ap (λ (l : List ReadAnswer). seen_as None level l prefetched) (all_reported reported reads whole ∙ left.no_reads)
-    ∙ ap (λ (v : AttemptState). begun v.level v.known.prefetched) view
-given_is program old before kept level first read reads front prefetched reported (Aborted run) progress view ahead kept_is settles whole left =
-    left_from program old before kept level first front prefetched reads reported view ahead (left.keeps ∙ kept_is) whole (left.same_reads ∙ settles)
-given_is program old before kept level first read reads front prefetched reported (Faulted run) progress view ahead kept_is settles whole left =
-    left_from program old before kept level first front prefetched reads reported view ahead (left.keeps ∙ kept_is) whole (left.same_reads ∙ settles)
-given_is program old before kept level first read reads front prefetched reported (FetchAll keys at) progress view ahead kept_is settles whole left = absurd left
-given_is program old before kept level first read reads front prefetched reported (Fetch key at) progress view ahead kept_is settles whole left = absurd left
-
--- its invariant
-pub given_attempt : (program : ProgramTree) (before kept : Option ProgramTree) (read reads prefetched : List ReadAnswer) (reported : ℕ) (next : Next)
-    (progress : Progress) → before ≡ Some program → reported ≡ length reads → IsLeftAtEnd next before read kept reads progress →
-    IsAttempt kept reads prefetched reported progress
-given_attempt program before kept read reads prefetched reported (Ready ready) progress is whole left =
-    subst (λ (o : Option ProgramTree). IsAttempt o reads prefetched reported progress) (sym left.no_program)
-    (subst (λ (p : Progress). HasNotBegun reads p) (sym left.fresh) left.no_reads)
-given_attempt program before kept read reads prefetched reported (Aborted run) progress is whole left =
-    attempt_of program kept reads prefetched reported progress (left.keeps ∙ is)
-    (under_way program reads prefetched reported progress whole (subst (λ (p : Progress). HasCome program reads p) (sym left.fresh) tt))
-given_attempt program before kept read reads prefetched reported (Faulted run) progress is whole left =
-    attempt_of program kept reads prefetched reported progress (left.keeps ∙ is)
-    (under_way program reads prefetched reported progress whole (subst (λ (p : Progress). HasCome program reads p) (sym left.fresh) tt))
-given_attempt program before kept read reads prefetched reported (FetchAll keys at) progress is whole left = absurd left
-given_attempt program before kept read reads prefetched reported (Fetch key at) progress is whole left = absurd left
-
--- the program that it keeps
-pub kept_program : (program : ProgramTree) (old : AttemptState) (before : Option ProgramTree) (level : Level) (front prefetched : List ReadAnswer) →
-    seen_as before level front prefetched ≡ old → old.program ≡ Some program → before ≡ Some program
-kept_program program old before level front prefetched view is = ap (λ (v : AttemptState). v.program) view ∙ is
-
 -- the end that is reported is the attempt's answer
 pub end_reported : (program : ProgramTree) (old : AttemptState) (before : Option ProgramTree) (level : Level) (first front reads prefetched : List ReadAnswer)
     (next : Next) (progress : Progress) → seen_as before level front prefetched ≡ old →
@@ -304,18 +205,3 @@ pub end_reported : (program : ProgramTree) (old : AttemptState) (before : Option
     ((run : Run) → progress ≡ Ended run → next ≡ next_at_end program level reads run run.end) → next ≡ next_of program old.level old.known
 end_reported program old before level first front reads prefetched next progress view ahead ended come at_end reported =
     next_from program old before level first front prefetched next view ahead (end_is program level reads progress next ended come reported ∙ sym at_end)
-
--- so is what is waited for
-pub wanted_reported : (program : ProgramTree) (old : AttemptState) (before : Option ProgramTree) (level : Level) (first front prefetched : List ReadAnswer)
-    (found : Option Wanted) (w : Wanted) (next : Next) → seen_as before level front prefetched ≡ old →
-    gone_on program (known_of first prefetched) ≡ gone_on program (known_of front prefetched) → found ≡ Some w →
-    IfSome found (λ x. next_wanted x ≡ next_of program level (known_of first prefetched)) → next ≡ next_wanted w →
-    next ≡ next_of program old.level old.known
-wanted_reported program old before level first front prefetched found w next view ahead found_is reported next_is =
-    next_from program old before level first front prefetched next view ahead
-    (next_is ∙ subst (λ (o : Option Wanted). IfSome o (λ x. next_wanted x ≡ next_of program level (known_of first prefetched))) found_is reported)
-
-pub wanted_left : (program : ProgramTree) (old new : AttemptState) (w : Wanted) (next : Next) → new ≡ advanced program old → next ≡ next_wanted w →
-    new ≡ left_by next (advanced program old)
-wanted_left program old new w next left next_is =
-    left ∙ sym (ap (λ (n : Next). left_by n (advanced program old)) next_is ∙ fetch_leaves w (advanced program old))

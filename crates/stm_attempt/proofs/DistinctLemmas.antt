@@ -1,8 +1,7 @@
 -- Answers of distinct keys.
-use Rattle.std.proofs.Common.{◌≡◌, ℕ, Bool, true, false, cond, List, [], ◌∷◌, ◌++◌, filter, refl, sym, ◌∙◌, ap, subst, All}
+use Rattle.std.proofs.Common.{◌≡◌, ℕ, Bool, true, false, cond, List, [], ◌∷◌, ◌++◌, filter, refl, sym, ◌∙◌, ap, subst}
 use Rattle.std.specs.Prelude.{bytes_eq, Option, None, Some}
 use Rattle.std.specs.List.{AllByRecursion}
-use Rattle.std.proofs.lemmas.List.Elements.{recursion_from_All}
 use Rattle.std.proofs.lemmas.Slice.Eq.{bytes_eq-Decides}
 use Rattle.stm_program.proofs.WriteLemmas.{bytes_eq-flip}
 use Rattle.stm_history.specs.declared.key_state.ReadAnswer.{ReadAnswer}
@@ -96,8 +95,3 @@ next_is_new before left after all a whole first distinct =
 one_fits : (before after : List ReadAnswer) (a : ReadAnswer) → AllByRecursion ReadFits (before ++ a ∷ after) → ReadFits a
 one_fits [] after a all = all.0
 one_fits (x ∷ before) after a all = one_fits before after a all.1
-
-pub next_fits : (before left after all : List ReadAnswer) (a : ReadAnswer) → before ++ left ≡ all → left ≡ a ∷ after → All ReadFits all → ReadFits a
-next_fits before left after all a whole first fit =
-    one_fits before after a (recursion_from_All ReadFits (before ++ a ∷ after)
-    (subst (All ReadFits) (sym whole ∙ ap (λ (l : List ReadAnswer). before ++ l) first) fit))

@@ -50,17 +50,6 @@ not_due_whole (key ∷ keys) n [] not = absurd (empty n not)
     empty (suc m) is = absurd (cc)
 not_due_whole (key ∷ keys) n (a ∷ reads) not = refl
 
--- where it is due, nothing was read
-pub due_is_nothing : (keys : List (List ℕ)) (reads : List ReadAnswer) → is_due keys reads ≡ true → reads ≡ []
-due_is_nothing [] reads due = absurd (cc)
-due_is_nothing (key ∷ keys) [] due = refl
-due_is_nothing (key ∷ keys) (a ∷ reads) due = absurd (cc)
-
--- whether it is due, by the keys that the code has at hand
-pub due_as : (listed keys : List (List ℕ)) (reads : List ReadAnswer) (reported b : Bool) → reported ≡ is_due keys reads → keys ≡ listed → reported ≡ b
-    → is_due listed reads ≡ b
-due_as listed keys reads reported b is same holds = ap (λ (ks : List (List ℕ)). is_due ks reads) (sym same) ∙ sym is ∙ holds
-
 -- ---- what is taken for a list
 
 pub taken_first : (one : Option ReadAnswer) (rest : Option (List ReadAnswer)) (answers : List ReadAnswer) → with_first one rest ≡ Some answers
@@ -249,12 +238,6 @@ gone_on_is_gone_on program known = elim (where_it_comes program known) [ inl d �
 
 -- ---- what is answered
 
-pub due_next : (program : ProgramTree) (level : Level) (known : Known) (reads : List ReadAnswer) → gone_on program known ≡ reads
-    → is_due program.prefetch reads ≡ true → FetchAll program.prefetch 0 ≡ next_of program level known
-due_next program level known reads gone due =
-    sym (ap (next_on program level) gone
-    ∙ ap (λ (b : Bool). cond b (FetchAll program.prefetch 0) (next_after program level reads (run_on program reads))) due)
-
 pub next_on_settled : (program : ProgramTree) (level : Level) (reads : List ReadAnswer) → is_due program.prefetch reads ≡ false
     → next_on program level reads ≡ next_after program level reads (run_on program reads)
 next_on_settled program level reads not =
@@ -307,23 +290,6 @@ extends_further before entered after first more = record {
   added = first.added ++ more.added;
   follow = more.follow ∙ ap (λ (l : List ReadAnswer). l ++ more.added) first.follow ∙ append_assoc before first.added more.added;
 }
-
--- a list that is taken in the place of nothing
-pub entered_gone : (program : ProgramTree) (reads prefetched answers entered : List ReadAnswer) → is_due program.prefetch reads ≡ true
-    → Some answers ≡ answers_of_all program.prefetch prefetched → entered ≡ answers
-    → gone_on program (known_of entered prefetched) ≡ gone_on program (known_of reads prefetched)
-entered_gone program reads prefetched answers entered due is same =
-    ap (λ (l : List ReadAnswer). gone_on program (known_of l prefetched)) same
-    ∙ gone_settled program (known_of answers prefetched) (taken_not_due program.prefetch prefetched answers (sym is))
-    ∙ sym (gone_after program (known_of reads prefetched) (Some answers) due (sym is))
-
-pub entered_extends : (keys : List (List ℕ)) (reads entered : List ReadAnswer) → is_due keys reads ≡ true → Extends reads entered
-entered_extends keys reads entered due = record { added = entered; follow = ap (λ (l : List ReadAnswer). l ++ entered) (sym (due_is_nothing keys reads due)) }
-
-pub entered_not_due : (program : ProgramTree) (prefetched answers entered : List ReadAnswer) → Some answers ≡ answers_of_all program.prefetch prefetched
-    → entered ≡ answers → is_due program.prefetch entered ≡ false
-entered_not_due program prefetched answers entered is same =
-    ap (is_due program.prefetch) same ∙ taken_not_due program.prefetch prefetched answers (sym is)
 
 -- ---- the reads begin with the list
 

@@ -8,5 +8,4 @@ pub mod NextLemmas
 pub mod ReadsBegin
 pub mod ProgressLemmas
 pub mod AttemptLemmas
-pub mod WorkedExamples
 pub mod Copied

@@ -157,19 +157,3 @@ seen_as program level reads prefetched = record { program = program; level = lev
 pub next_is : (program : ProgramTree) (old : AttemptState) (before : Option ProgramTree) (level : Level) (reads prefetched : List ReadAnswer) (next : Next) →
     seen_as before level reads prefetched ≡ old → next ≡ next_of program level (known_of reads prefetched) → next ≡ next_of program old.level old.known
 next_is program old before level reads prefetched next is reported = reported ∙ ap (λ (v : AttemptState). next_of program v.level v.known) is
-
-pub advanced_is : (program kept : ProgramTree) (old : AttemptState) (before : Option ProgramTree) (level : Level) (reads prefetched after : List ReadAnswer) →
-    seen_as before level reads prefetched ≡ old → kept ≡ program → after ≡ gone_on program (known_of reads prefetched) →
-    seen_as (Some kept) level after prefetched ≡ advanced program old
-advanced_is program kept old before level reads prefetched after is copied settles =
-    ap (λ (p : ProgramTree). seen_as (Some p) level after prefetched) copied
-    ∙ ap (λ (l : List ReadAnswer). seen_as (Some program) level l prefetched) settles
-    ∙ ap (advanced program) is
-
-pub awaited_is : (program kept : ProgramTree) (old : AttemptState) (before : Option ProgramTree) (level : Level)
-    (reads prefetched after : List ReadAnswer) (next : Next) →
-    seen_as before level reads prefetched ≡ old → kept ≡ program → after ≡ gone_on program (known_of reads prefetched) →
-    next ≡ next_of program level (known_of reads prefetched) → awaited (seen_as (Some kept) level after prefetched) ≡ key_asked next
-awaited_is program kept old before level reads prefetched after next is copied settles reported =
-    ap awaited (advanced_is program kept old before level reads prefetched after is copied settles) ∙ asked_is_awaited program old
-    ∙ ap key_asked (sym (next_is program old before level reads prefetched next is reported))

@@ -4,7 +4,6 @@ use Rattle.std.proofs.Common.{append_assoc, append-nil}
 use Rattle.std.specs.Prelude.{bytes_eq, Option, None, Some, option_map, Contains}
 use Rattle.std.specs.List.{AllByRecursion}
 use Rattle.std.proofs.lemmas.List.Elements.{All-from_recursion, recursion_from_All, All-contains_itself}
-use Rattle.std.proofs.lemmas.Slice.Eq.{bytes_eq-Decides}
 use Rattle.stm_history.specs.declared.key_state.ReadAnswer.{ReadAnswer}
 use Rattle.stm_program.specs.Syntax.{ProgramTree}
 use Rattle.stm_steps.specs.declared.run.Answered.{Answered}
@@ -14,7 +13,7 @@ use Rattle.stm_compile.specs.Answers.{answer_in, said, look_up}
 use Rattle.stm_attempt.specs.Known.{Known, is_of_base, serving}
 use Rattle.stm_attempt.specs.Settled.{run_on, wanted, answer_for, served, taken, settle, settled}
 use Rattle.stm_attempt.specs.Laws.{NothingServesTheSettled, SettledIsSettled, WhatServesIsTaken, AddsPrefetched, SettlingAddsPrefetched}
-use Rattle.stm_attempt.proofs.Unread.{unread, unread_small, fewer, found_key}
+use Rattle.stm_attempt.proofs.Unread.{unread, unread_small, fewer}
 
 -- ---- a wanted key has no answer
 
@@ -40,19 +39,6 @@ pub for_new : (o : Option (List ℕ)) (answers : List ReadAnswer) (a : ReadAnswe
     (key : List ℕ) × (o ≡ Some key) × (answer_in key answers ≡ Some a)
 for_new None answers a found = absurd (cc)
 for_new (Some key) answers a found = (key, refl, found)
-
--- an answer that serves is of a key that has no answer yet
-pub served_is_new : (program : ProgramTree) (prefetched reads : List ReadAnswer) (a : ReadAnswer) → served program prefetched reads ≡ Some a →
-    answer_in a.key reads ≡ None
-served_is_new program prefetched reads a found =
-    let wants = for_new (wanted (run_on program reads)) (serving reads prefetched) a found in
-    let key_is : a.key ≡ wants.0 = (bytes_eq-Decides a.key wants.0).0 (found_key wants.0 (serving reads prefetched) a wants.2) in
-    subst (λ (k : List ℕ). answer_in k reads ≡ None) (sym key_is) (wanted_is_new program reads wants.0 wants.1)
-
--- what serves, by the run that the code has at hand
-pub served_of : (program : ProgramTree) (prefetched reads : List ReadAnswer) (x : Answered) (o : Option ReadAnswer) → x ≡ run_on program reads →
-    o ≡ answer_for (wanted x) (serving reads prefetched) → served program prefetched reads ≡ o
-served_of program prefetched reads x o is found = ap (λ (y : Answered). answer_for (wanted y) (serving reads prefetched)) (sym is) ∙ sym found
 
 pub fewer_unread : (program : ProgramTree) (prefetched reads : List ReadAnswer) (a : ReadAnswer) → served program prefetched reads ≡ Some a →
     unread (reads ++ a ∷ []) prefetched + 1 ≤ unread reads prefetched
@@ -185,13 +171,6 @@ served_is_one P program prefetched reads a all found =
 all_push : (P : ReadAnswer → Type 0) (answers : List ReadAnswer) (a : ReadAnswer) → AllByRecursion P answers → P a → AllByRecursion P (answers ++ a ∷ [])
 all_push P [] a all new = (new, tt)
 all_push P (x ∷ answers) a all new = (all.0, all_push P answers a all.1 new)
-
--- what holds of every answer that is read and of every one that was prefetched holds of the settled reads
-pub all_settled : (P : ReadAnswer → Type 0) (program : ProgramTree) (known : Known) → AllByRecursion P known.reads → AllByRecursion P known.prefetched →
-    AllByRecursion P (settled program known)
-all_settled P program known reads prefetched =
-    settled_keeps (AllByRecursion P) program known
-    (λ more a is now. all_push P more a now (served_is_one P program known.prefetched more a prefetched is)) reads
 
 -- the reads are those before with some prefetched answers
 added_by : (known : Known) (reads : List ReadAnswer) (a : ReadAnswer) → Contains known.prefetched a → AddsPrefetched known reads →

@@ -12,7 +12,7 @@ use Rattle.stm_compile.specs.Answers.{answer_in}
 use Rattle.stm_attempt.specs.Known.{HaveDistinctKeys}
 use Rattle.stm_attempt.specs.Entering.{answers_of_all}
 use Rattle.stm_attempt.proofs.Unread.{found_key}
-use Rattle.stm_attempt.proofs.EnteringLemmas.{take_none, take_some, take_end, take_all, key_is_new, once-have_distinct}
+use Rattle.stm_attempt.proofs.EnteringLemmas.{take_none, take_some, take_all, key_is_new, once-have_distinct}
 
 -- the bytes of the first key, and those of the others
 first_and_rest : {A : Type 0} (keys : List (String A)) (first : String A) → 1 ≤ length keys → first ≡ get_or keys 0 first
@@ -27,11 +27,6 @@ first_and_rest (key ∷ keys) first some is =
 of_the_key : (key : List ℕ) (prefetched : List ReadAnswer) (a copy : ReadAnswer) → Some a ≡ answer_in key prefetched → copy ≡ a → copy.key ≡ key
 of_the_key key prefetched a copy found copied =
     ap (λ (x : ReadAnswer). x.key) copied ∙ (bytes_eq-Decides a.key key).0 (found_key key prefetched a (sym found))
-
-pub take_over : {A : Type 0} (keys : List (String A)) (taken prefetched : List ReadAnswer) → length keys ≡ 0
-    → Some taken ≡ option_map (λ more. taken ++ more) (answers_of_all (map string_bytes keys) prefetched)
-take_over [] taken prefetched none = take_end taken
-take_over (key ∷ keys) taken prefetched none = absurd (omega arith)
 
 pub take_stops : {A : Type 0} (keys : List (String A)) (first : String A) (key : List ℕ) (taken prefetched : List ReadAnswer) → 1 ≤ length keys
     → first ≡ get_or keys 0 first → key ≡ string_bytes first → None ≡ answer_in key prefetched
@@ -86,12 +81,6 @@ take_goes_on keys first key taken more prefetched a copy found some is bytes has
 list_once : (program : ProgramTree) → Fits program → has_repeat program.prefetch ≡ false
 list_once program fits =
     (list_parts program.prefetch (list_of_program program.prefetch (BlockFits MAX_DEPTH MAX_NODES program.statements) fits)).once
-
--- nothing is taken yet, and no key of the list stands twice
-pub starts_once : (program : ProgramTree) (taken : List ReadAnswer) (keys : List (List ℕ)) → taken ≡ [] → keys ≡ program.prefetch → Fits program
-    → has_repeat (map (λ (x : ReadAnswer). x.key) taken ++ keys) ≡ false
-starts_once program taken keys none same fits =
-    ap (λ (l : List ReadAnswer). has_repeat (map (λ (x : ReadAnswer). x.key) l ++ keys)) none ∙ ap has_repeat same ∙ list_once program fits
 
 pub starts_taking : (program : ProgramTree) (taken prefetched : List ReadAnswer) (keys : List (List ℕ)) (found : Option (List ReadAnswer)) → taken ≡ []
     → keys ≡ program.prefetch → found ≡ option_map (λ more. taken ++ more) (answers_of_all keys prefetched) → found ≡ answers_of_all program.prefetch prefetched

@@ -50,12 +50,6 @@ fetched_at (first ∷ reads) key a (some, others) is =
 at_base : (level : Level) (reads : List ReadAnswer) → is_serializable level ≡ true → at_of level reads ≡ base_of reads
 at_base level reads is = ap (λ (b : Bool). cond b (base_of reads) 0) is
 
--- what is fetched
-pub fetched_is_of_base : (level : Level) (reads : List ReadAnswer) (key : List ℕ) (a : ReadAnswer) → is_serializable level ≡ true → HaveOneBase reads
-    → IsFetched key (at_of level reads) a → IsOfBase reads a
-fetched_is_of_base level reads key a serializable base is =
-    fetched_at reads key a base (subst (λ (at : ℕ). IsFetched key at a) (at_base level reads serializable) is)
-
 key_by : (key : List ℕ) (first : ReadAnswer) (test : Bool) (rest : Option ReadAnswer) (a : ReadAnswer) → bytes_eq first.key key ≡ test
     → cond test (Some first) rest ≡ Some a → (rest ≡ Some a → a.key ≡ key) → a.key ≡ key
 key_by key first true rest a is found others =

@@ -20,15 +20,14 @@ use Rattle.stm_txn.specs.Grants.{grant_refusal_of}
 use Rattle.stm_txn.specs.Leasing.{attaching, lease_now}
 use Rattle.stm_txn.specs.LeaseKeys.{keys_of_lease, deletions_of}
 use Rattle.stm_outcome.specs.Effect.{op_of}
-use Rattle.stm_outcome.specs.Commits.{applied}
 use Rattle.stm_outcome.specs.Outcome.{Done, outcome, branch_outcome, with_changes, is_used_up}
-use Rattle.stm_txn.specs.Standing.{Standing, Step, kept, terms_of, with_history, step_of, transacted, write_step, written, made, with_lease, granted, kept_alive}
+use Rattle.stm_txn.specs.Standing.{Standing, Step, kept, terms_of, with_history, step_of, transacted, write_step, written, with_lease, granted, kept_alive}
 use Rattle.stm_txn.specs.Standing.{ended, with_revision, revoked}
 use Rattle.stm_txn.proofs.Naming.{are_keys}
 use Rattle.stm_txn.proofs.Ending.{ended_is}
 use Rattle.stm_compaction.specs.Kept.{kept_step, kept_end, kept_done}
 use Rattle.stm_compaction.proofs.Alike.{IsAlike, cut_is_alike}
-use Rattle.stm_compaction.proofs.Transactions.{Grows, used_alike, changes_go_on, changes_grow, outcome_kept, branch_kept, branch_grows, applied_kept, applied_grows}
+use Rattle.stm_compaction.proofs.Transactions.{Grows, used_alike, changes_go_on, changes_grow, outcome_kept, branch_kept, branch_grows}
 
 -- a store whose floor is reached
 abbrev pub HasReached : Standing → Type 0
@@ -58,11 +57,6 @@ pub written_kept : (s : Standing) → HasReached s → (writes : List Change) �
 written_kept s reached writes =
     ap (write_step (kept s)) (branch_kept (terms_of s) reached None (map op_of writes))
     ∙ write_stepped s (branch_outcome (terms_of s) None (map op_of writes)) reached (branch_grows (terms_of s) None (map op_of writes))
-
-pub made_kept : (s : Standing) → HasReached s → (writes : List Change) → made (kept s) writes ≡ kept_step (made s writes)
-made_kept s reached writes =
-    ap (write_step (kept s)) (applied_kept (terms_of s) reached writes)
-    ∙ write_stepped s (applied (terms_of s) writes) reached (applied_grows (terms_of s) writes)
 
 -- ---- grants and renewals
 

@@ -3,4 +3,3 @@ pub mod BufferLemmas
 pub mod AgreeLemmas
 pub mod OutcomeLemmas
 pub mod ConflictLemmas
-pub mod WorkedExamples

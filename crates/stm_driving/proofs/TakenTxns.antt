@@ -78,10 +78,6 @@ by_cause w after txn d (inr is) = refused_by w after txn d (transacted w.standin
 pub refused_leaves : (w after : World) (txn : TxnOf) (d : Denied) → Returns (Txn txn) (Err d) w after → after ≡ w
 refused_leaves w after txn d returned = by_cause w after txn d (refusal_cases d.cause (Txn txn) d w after returned)
 
-failed_is_some : (made : StoreStep TxnAnswer) → is_none made.answer.failed ≡ made.answer.succeeded → made.answer.succeeded ≡ false
-    → is_none made.answer.failed ≡ false
-failed_is_some made same is = same ∙ is
-
 -- one of which a compare failed
 pub turned_down_in_world : (w after : World) (level : Level) (reads : List ReadAnswer) (writes : List Change) (txn : TxnOf) → txn ≡ commit_of level reads writes
     → IsTaken w txn false after → after ≡ w

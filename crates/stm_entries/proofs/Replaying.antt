@@ -3,7 +3,7 @@ use Rattle.std.proofs.Common.{◌≡◌, List, [], ◌∷◌, ◌++◌, refl}
 use Rattle.stm_entries.specs.declared.entry.Entry.{Entry}
 use Rattle.stm_entries.specs.Replayed.{Replayed}
 use Rattle.stm_entries.specs.Replay.{replay, replay_entry}
-use Rattle.stm_entries.specs.Legal.{IsLegal, AreLegal}
+use Rattle.stm_entries.specs.Legal.{AreLegal}
 use Rattle.stm_entries.specs.Laws.{ReplayGoesOn, LegalityGoesOn}
 
 pub replay_goes_on : ReplayGoesOn
@@ -27,10 +27,3 @@ legality_goes_on earlier later r = (
   λ all. (front_legal earlier later r all, rest_legal earlier later r all),
   λ parts. all_legal earlier later r parts.0 parts.1,
 )
-
--- one more entry at the end
-pub replay_one_more : (es : List Entry) (e : Entry) (r : Replayed) → replay (es ++ e ∷ []) r ≡ replay_entry e (replay es r)
-replay_one_more es e r = replay_goes_on es (e ∷ []) r
-
-pub legal_one_more : (es : List Entry) (e : Entry) (r : Replayed) → AreLegal es r → IsLegal e (replay es r) → AreLegal (es ++ e ∷ []) r
-legal_one_more es e r all new = all_legal es (e ∷ []) r all (new, tt)

@@ -1,7 +1,7 @@
 -- Answers at the four levels, as loops come to them.
-use Rattle.std.proofs.Common.{◌≡◌, ℕ, zero, suc, ◌+◌, ◌-◌, ◌<◌, ◌≤◌, true, false, List, [], ◌∷◌, ◌++◌, length, map, take, drop, get_or, All, Some, None, refl, sym, ap, ap₂, ◌∙◌, subst, arith}
+use Rattle.std.proofs.Common.{◌≡◌, ℕ, zero, suc, ◌+◌, ◌-◌, ◌<◌, ◌≤◌, true, false, List, [], ◌∷◌, ◌++◌, length, map, take, drop, get_or, All, Some, refl, sym, ap, ap₂, ◌∙◌, subst, arith}
 use Rattle.std.specs.List.{list_all}
-use Rattle.std.proofs.lemmas.List.{drop_all, take_rest}
+use Rattle.std.proofs.lemmas.List.{take_rest}
 use Rattle.std.proofs.lemmas.List.Elements.{All-push}
 use Rattle.stm_program.specs.declared.level.Level.{Level}
 use Rattle.stm_events.specs.declared.event.WorldEvent.{WorldEvent}
@@ -66,10 +66,3 @@ here_enough : (at : List LevelAnswers) (i : ℕ) (d : LevelAnswers) → i < leng
 here_enough [] i d within passes = absurd (omega (arith, within))
 here_enough (x ∷ at) zero d within passes = rw passes refl
 here_enough (x ∷ at) (suc i) d within passes = here_enough at i d (omega (arith, within)) passes
-
-pub is_enough : (at : List LevelAnswers) (i : ℕ) (d : LevelAnswers) → i < length at → list_all all_kept (take (length at - i) (drop i at)) ≡ true
-    → Some (get_or at i d).level ≡ enough (drop i at)
-is_enough at i d within passes = here_enough at i d within (ap (list_all all_kept) (sym (take_rest at i)) ∙ passes)
-
-pub none_enough : (at : List LevelAnswers) (i : ℕ) → length at ≤ i → None ≡ enough (drop i at)
-none_enough at i all = ap enough (sym (drop_all i at all))

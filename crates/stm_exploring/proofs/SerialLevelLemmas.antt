@@ -1,7 +1,7 @@
 -- What is known at the four levels, as loops come to it.
-use Rattle.std.proofs.Common.{◌≡◌, ℕ, zero, suc, ◌+◌, ◌-◌, ◌<◌, ◌≤◌, true, false, List, [], ◌∷◌, ◌++◌, length, take, drop, get_or, All, Some, None, refl, sym, ap, ◌∙◌, subst, arith}
+use Rattle.std.proofs.Common.{◌≡◌, ℕ, zero, suc, ◌+◌, ◌-◌, ◌<◌, ◌≤◌, true, false, List, [], ◌∷◌, ◌++◌, length, take, drop, get_or, All, Some, refl, sym, ap, ◌∙◌, subst, arith}
 use Rattle.std.specs.List.{list_all}
-use Rattle.std.proofs.lemmas.List.{drop_all, take_rest}
+use Rattle.std.proofs.lemmas.List.{take_rest}
 use Rattle.std.proofs.lemmas.List.Elements.{All-push}
 use Rattle.stm_program.specs.declared.level.Level.{Level}
 use Rattle.stm_texts.specs.declared.scenario.Scenario.{Scenario}
@@ -41,10 +41,3 @@ here_enough : (at : List SerialLevel) (i : ℕ) (d : SerialLevel) → i < length
 here_enough [] i d within passes = absurd (omega (arith, within))
 here_enough (x ∷ at) zero d within passes = rw passes refl
 here_enough (x ∷ at) (suc i) d within passes = here_enough at i d (omega (arith, within)) passes
-
-pub is_serial_from : (at : List SerialLevel) (i : ℕ) (d : SerialLevel) → i < length at → list_all is_serial (take (length at - i) (drop i at)) ≡ true
-    → Some (get_or at i d).level ≡ enough_serial (drop i at)
-is_serial_from at i d within passes = here_enough at i d within (ap (list_all is_serial) (sym (take_rest at i)) ∙ passes)
-
-pub never_serial : (at : List SerialLevel) (i : ℕ) → length at ≤ i → None ≡ enough_serial (drop i at)
-never_serial at i all = ap enough_serial (sym (drop_all i at all))

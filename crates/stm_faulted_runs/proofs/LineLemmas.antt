@@ -34,9 +34,6 @@ pub record HasSaid (origin : Origin) (all : List FaultReport) (old new : List �
   pub added : new ≡ old ++ so_far
   pub goes_on : (more : List ℕ) → ExplainsEach origin rest more → ExplainsEach origin all (so_far ++ more)
 
-pub said_none : (origin : Origin) (all : List FaultReport) (old : List ℕ) → HasSaid origin all old old all
-said_none origin all old = record { so_far = []; added = sym (append-nil old); goes_on = λ more each. each }
-
 pub said_more : (origin : Origin) (all : List FaultReport) (old mid new : List ℕ) (some rest : List FaultReport) → HasSaid origin all old mid (some ++ rest) →
     Adds origin some mid new → HasSaid origin all old new rest
 said_more origin all old mid new some rest so_far (said, is, each) = record {

@@ -1,9 +1,8 @@
 -- The place of a fault begins with the index of a statement, of which a program has no more than it may have nodes.
-use Rattle.std.proofs.Common.{◌≡◌, ◌∙◌, ℕ, zero, suc, ◌+◌, ◌-◌, ◌<◌, ◌≤◌, Bool, true, false, nat_lt, List, [], ◌∷◌, ◌++◌, length, take, drop, get_or}
-use Rattle.std.proofs.Common.{Option, None, Some, append_assoc, refl, sym, ap, subst, arith}
+use Rattle.std.proofs.Common.{◌≡◌, ◌∙◌, ℕ, zero, suc, ◌+◌, ◌-◌, ◌<◌, ◌≤◌, Bool, true, false, nat_lt, List, [], ◌∷◌, ◌++◌, length, get_or}
+use Rattle.std.proofs.Common.{Option, None, Some, refl, sym, ap, subst, arith}
 use Rattle.std.specs.Prelude.{IfSome}
 use Rattle.std.proofs.lemmas.Bool.{ltb-true, ltb-false}
-use Rattle.std.proofs.lemmas.List.{take_rest}
 use Rattle.std.proofs.lemmas.Option.{same_Some}
 use Rattle.stm_program.specs.declared.limits.TheConstants.{MAX_DEPTH, MAX_NODES}
 use Rattle.stm_program.specs.Syntax.{Statement, Set, Block, End, Then, ProgramTree}
@@ -22,7 +21,7 @@ use Rattle.stm_sites.specs.Sites.{block_site, site_of}
 use Rattle.stm_sites.specs.Found.{fault_by, fault_of}
 use Rattle.stm_sites.specs.Laws.{front, StopsFirst}
 use Rattle.stm_sites.proofs.SiteLemmas.{sites_are_first}
-use Rattle.stm_faulted_runs.specs.Places.{BeginsBelow, counted_from}
+use Rattle.stm_faulted_runs.specs.Places.{BeginsBelow}
 
 -- ---- how many statements a block has
 
@@ -90,11 +89,3 @@ found_below look p (Some found) fits is = begins_below look p found fits (sym is
 pub first_below : (most : ℕ) (place : List ℕ) (index : ℕ) → 1 ≤ length place → index ≡ get_or place 0 index → BeginsBelow most place → index < most
 first_below most [] index some is below = absurd (omega arith)
 first_below most (n ∷ place) index some is below = subst (λ (m : ℕ). m < most) (sym is) below
-
-pub place_pushed : (first index : ℕ) (old place : List ℕ) → 1 ≤ length place → index ≡ get_or place 0 index →
-    (old ++ (first + index) ∷ []) ++ take (length place - 1) (drop 1 place) ≡ old ++ counted_from first place
-place_pushed first index old [] some is = absurd (omega arith)
-place_pushed first index old (n ∷ place) some is =
-    ap (λ (rest : List ℕ). (old ++ (first + index) ∷ []) ++ rest) (take_rest (n ∷ place) 1)
-    ∙ append_assoc old ((first + index) ∷ []) place
-    ∙ ap (λ (m : ℕ). old ++ (first + m) ∷ place) is

@@ -1,17 +1,8 @@
 -- The end of a text, from its first whole character on.
-use Rattle.std.proofs.Common.{◌≡◌, ℕ, zero, suc, ◌+◌, ◌<◌, ◌≤◌, true, false, List, [], ◌∷◌, length, drop, get_or, sym, ap, ◌∙◌, arith}
+use Rattle.std.proofs.Common.{◌≡◌, ℕ, zero, suc, ◌+◌, ◌<◌, ◌≤◌, false, List, [], ◌∷◌, length, drop, get_or, sym, ap, ◌∙◌, arith}
 use Rattle.std.proofs.lemmas.List.{drop_all}
-use Rattle.std.proofs.lemmas.Bool.{cond-true, cond-false}
+use Rattle.std.proofs.lemmas.Bool.{cond-false}
 use Rattle.stm_formats.specs.FormatShown.{from_character, is_continuation}
-
--- one more byte that goes on
-pub skips : (i : ℕ) (bs : List ℕ) (x : ℕ) → i < length bs → x ≡ get_or bs i x → is_continuation x ≡ true
-    → from_character (drop i bs) ≡ from_character (drop (i + 1) bs)
-skips i [] x within is on = absurd (omega arith)
-skips zero (b ∷ bs) x within is on = cond-true (is_continuation b) (from_character bs) (b ∷ bs) (ap is_continuation (sym is) ∙ on)
-skips (suc i) (b ∷ bs) x within is on =
-    let step : suc i + 1 ≡ suc (i + 1) = omega arith in
-    skips i bs x (omega arith) is on ∙ ap (λ (n : ℕ). from_character (drop n (b ∷ bs))) (sym step)
 
 -- a byte that does not
 pub begins : (i : ℕ) (bs : List ℕ) (x : ℕ) → i < length bs → x ≡ get_or bs i x → is_continuation x ≡ false → from_character (drop i bs) ≡ drop i bs

@@ -3,6 +3,5 @@ pub mod VouchLemmas
 pub mod CommitEntries
 pub mod CallLemmas
 pub mod Keeping
-pub mod WorkedExamples
 pub mod TrueReads
 pub mod ChangedAbove

@@ -25,9 +25,6 @@ one_is_used past left e = omega arith
 one_is_left : (left : ℕ) → left ≡ 1 → left ≡ 0 → ⊥
 one_is_left left one no_passes = omega arith
 
-none_is_used : (past : ℕ) → past ≡ 0 → 0 < past → ⊥
-none_is_used past no_passes some_past = omega arith
-
 a_part : (past left : ℕ) → past ≤ past + left
 a_part past left = omega arith
 
@@ -307,16 +304,3 @@ knows_kept v enough known = (
 
     not_whole : (past left seats : ℕ) → 2 ≤ left → past + left ≤ seats → past + (left - 1) ≡ seats → ⊥
     not_whole past left seats a b c = omega arith
-
-pub knows_given : (v : View) → 2 ≤ v.left → Knows v → Knows (given v)
-knows_given v enough known = (one v.past v.left v.size.seats enough known.0, λ (whole : IsWhole (given v)). absurd (none_is_used 0 refl whole.1))
-  where
-    one : (past left seats : ℕ) → 2 ≤ left → past + left ≤ seats → 0 + 1 ≤ seats
-    one past left seats a b = omega arith
-
--- the first seat has used no pass
-pub knows_first : (size : Size) → Knows (newcomer size)
-knows_first size = (all_left size.seats, λ (whole : IsWhole (newcomer size)). absurd (none_is_used 0 refl whole.1))
-  where
-    all_left : (seats : ℕ) → 0 + seats ≤ seats
-    all_left seats = omega arith

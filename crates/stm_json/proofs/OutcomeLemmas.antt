@@ -1,10 +1,9 @@
 -- What is known where reading answers a value, and what a function returns for an element.
-use Rattle.std.proofs.Common.{◌≡◌, inl, inr, ℕ, Bool, true, false, cond, Result, Ok, Err, refl, subst, IfOk}
+use Rattle.std.proofs.Common.{◌≡◌, ℕ, Bool, true, false, cond, Result, Ok, Err, refl, subst, IfOk}
 use Rattle.stm_json.specs.declared.cause.Cause.{Cause}
 use Rattle.stm_json.specs.declared.read_error.ReadError.{ReadError}
-use Rattle.stm_json.specs.declared.read_error.ReadError.TheVariants.{OutOfMemory, Bad}
 use Rattle.stm_json.specs.Outcome.{Outcome, bad, ◌>>=◌, within}
-use Rattle.stm_json.specs.Returns.{Returns, Wraps}
+use Rattle.stm_json.specs.Returns.{Returns}
 
 pub bind_ok : {A B : Type 0} (r : Outcome A) (f : A → Outcome B) (y : B) → (r >>= f) ≡ Ok y → (x : A) × (r ≡ Ok x) × (f x ≡ Ok y)
 bind_ok (Ok x) f y h = (x, refl, h)
@@ -17,14 +16,6 @@ within_ok i (Err e) x h = cc
 pub guard_ok : {A : Type 0} (b : Bool) (x y : A) (cause : Cause) → cond b (Ok x) (bad cause) ≡ Ok y → (b ≡ true) × (x ≡ y)
 guard_ok true x y cause h = (refl, cc)
 guard_ok false x y cause h = cc
-
--- an outcome at an element, as the array's
-pub Returns-within : {X A : Type 0} (see : X → A) (index : ℕ) (outcome result : Result X ReadError) (reading : Outcome A)
-    → Returns see outcome reading → Wraps index outcome result → Returns see result (within index reading)
-Returns-within see index (Ok x) result reading reported wrapped = rw (wrapped, reported) refl
-Returns-within see index (Err OutOfMemory) result reading reported wrapped = rw wrapped tt
-Returns-within see index (Err (Bad f)) result reading reported (inl e) = rw e tt
-Returns-within see index (Err (Bad f)) result reading reported (inr e) = rw (e, reported) refl
 
 -- ---- what a function returns, in other words than those of reading
 

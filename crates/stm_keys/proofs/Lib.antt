@@ -16,4 +16,3 @@ pub mod Later
 pub mod Copied
 pub mod Forgetting
 pub mod Dropping
-pub mod WorkedExamples

@@ -10,7 +10,7 @@ use Rattle.stm_leaving.specs.Source.{Source, Sources, Plain, Choice, Items, Coun
 use Rattle.stm_leaving.specs.Leaving.{goes_on, keeps_to, keeps_to_one}
 use Rattle.stm_leaving.specs.PartsView.{sources_of}
 use Rattle.stm_leaving.specs.CopiesView.{copies_of}
-use Rattle.stm_leaving.specs.Weight.{source_weight, sources_weight, copies_weight, sources_weight-positive, copies_weight-positive}
+use Rattle.stm_leaving.specs.Weight.{source_weight, sources_weight, sources_weight-positive}
 use Rattle.stm_leaving.specs.declared.follow.Follow.{Follow}
 use Rattle.stm_leaving.specs.Closed.{nothing, with_next, copy_follow, is_abort, behind, closed, closed_one, closed_copies, items_behind, first_abort, around, behind_last}
 
@@ -30,15 +30,7 @@ item_weight [] i s h e = absurd (omega arith)
 item_weight (t ∷ ss) zero s h e = omega (arith, ap source_weight e, sources_weight-positive ss)
 item_weight (t ∷ ss) (suc i) s h e = omega (arith, item_weight ss i s (omega arith) e, source_weight-positive t)
 
-pub copy_weight : (cs : List Sources) (i : ℕ) (c : Sources) → i < length cs → c ≡ get_or cs i c → sources_weight c + 1 ≤ copies_weight (copies_of cs)
-copy_weight [] i c h e = absurd (omega arith)
-copy_weight (d ∷ cs) zero c h e = omega (arith, ap sources_weight e, copies_weight-positive cs)
-copy_weight (d ∷ cs) (suc i) c h e = omega (arith, copy_weight cs i c (omega arith) e)
-
 -- ---- what is around a statement
-
-around_first : (ends : ℕ) (k : Follow) → around ends 0 k ≡ k
-around_first ends k = grind (arith, nat_tests)
 
 behind_nothing : (x : Bool) → (if x then nothing else nothing) ≡ nothing
 behind_nothing true = refl
@@ -113,13 +105,6 @@ closed_more xs done place q j b old new less at it so_far is =
     ∙ ap (λ (c : Block). closed_one (get_or xs place q) (with_next (around (first_abort xs) place k) c)) known ∙ sym (closed_before xs place q k (omega arith))
     ∙ ap (λ (n : ℕ). closed (sources_of (drop n xs)) (around (first_abort xs) n k)) (sym here)
 
--- the whole list
-pub closed_all : (xs : List Source) (done : ℕ) (k : Follow) (b : Block) → done ≡ length xs
-    → b ≡ closed (sources_of (drop (length xs - done) xs)) (around (first_abort xs) (length xs - done) k) → b ≡ closed (sources_of xs) k
-closed_all xs done k b all is =
-    let none : length xs - done ≡ 0 = omega arith in
-    is ∙ ap (λ (n : ℕ). closed (sources_of (drop n xs)) (around (first_abort xs) n k)) none ∙ ap (λ (f : Follow). closed (sources_of xs) f) (around_first (first_abort xs) k)
-
 -- a list that goes on uses nothing but what is next
 test_kept : (x : Bool) (c : Condition) (a b f g : Block) (k k' : Follow) → x ≡ true → k.next ≡ k'.next
     → (if x then Then (If c a b) k.next else Then (If c f g) End) ≡ Then (If c a b) k'.next
@@ -171,10 +156,3 @@ copies_more cs done place p after old new less at it so_far is =
     so_far ∙ ap (λ (n : ℕ). closed_copies (copies_of (drop n cs)) after) there in
     is ∙ ap (λ (d : Sources). closed d (copy_follow old after)) it ∙ ap (λ (b : Block). closed (get_or cs place p) (copy_follow b after)) known
     ∙ sym (copies_before cs place p after (omega arith)) ∙ ap (λ (n : ℕ). closed_copies (copies_of (drop n cs)) after) (sym here)
-
--- all copies
-pub copies_all : (cs : List Sources) (done : ℕ) (after b : Block) → done ≡ length cs → b ≡ closed_copies (copies_of (drop (length cs - done) cs)) after
-    → b ≡ closed_copies (copies_of cs) after
-copies_all cs done after b all is =
-    let none : length cs - done ≡ 0 = omega arith in
-    is ∙ ap (λ (n : ℕ). closed_copies (copies_of (drop n cs)) after) none

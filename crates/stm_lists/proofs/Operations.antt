@@ -13,14 +13,6 @@ use Rattle.stm_lists.proofs.Changes.{Rebuilds, rebuilt-sound, rebuilt-shows, own
 use Rattle.stm_lists.proofs.Counts.{length-segment}
 use Rattle.stm_lists.proofs.Steps.{some_is, get-first_set, get-last_set, place_of, head_of, record_at, place-names, unlinked-rebuilds, pushed-rebuilds}
 
--- the head of a list that is there
-pub head_there : (heads : Slab Head) (list : ℕ) → ContainsKey heads list → (h : Head) × (get heads list ≡ Some h)
-head_there heads list there = by_head (get heads list) there
-  where
-    by_head : (o : Option Head) → IsSome o → (h : Head) × (o ≡ Some h)
-    by_head None there = absurd (cc)
-    by_head (Some h) there = (h, refl)
-
 module _ {T : Type 0} where
   owner_there : (s : Slab (Node T)) (node list : ℕ) → owner_at s node ≡ Some list → ContainsKey s node
   owner_there s node list owned = by_node (get s node) owned

@@ -2,7 +2,7 @@
 use Rattle.std.proofs.Common.{◌≡◌, refl, sym, ◌∙◌, ap, subst, ℕ, List, [], ◌∷◌, inl, inr}
 use Rattle.std.specs.Prelude.{Bool, true, false, Option, None, Some, Result, Ok, Err, IfSome}
 use Rattle.stm_program.specs.Syntax as tree
-use Rattle.stm_program.specs.Syntax.{Expression, Statement, Block}
+use Rattle.stm_program.specs.Syntax.{Expression, Statement}
 use Rattle.stm_program.specs.declared.operator.Operator.{Operator}
 use Rattle.stm_history.specs.declared.change.Change.{Change}
 use Rattle.stm_steps.specs.declared.value.Value.{Value}
@@ -17,13 +17,11 @@ use Rattle.stm_machine.specs.declared.focus.Item.TheVariants.{Value as ValueItem
 use Rattle.stm_machine.specs.declared.focus.Focus.{Focus}
 use Rattle.stm_machine.specs.declared.focus.Focus.TheVariants.{Evaluate, Give}
 use Rattle.stm_machine.specs.declared.frame.Frame.{Frame}
-use Rattle.stm_machine.specs.declared.frame.Frame.TheVariants.{Next}
-use Rattle.stm_machine.specs.declared.frame.NextFrame.TheVariants.{Rest}
 use Rattle.stm_machine.specs.Frames.{top_of, below_top}
 use Rattle.stm_machine.specs.State.{state_of}
 use Rattle.stm_machine.specs.Moves.{at_get}
 use Rattle.stm_machine.specs.Finish.{on_value, onward_of, finish_from}
-use Rattle.stm_machine.specs.Direct.{GivesAtOnce, IsPast, LeadsOn, RunsAtOnce, RunsOrStays, PassesOrStays, RunsFirst, JumpsOrStays}
+use Rattle.stm_machine.specs.Direct.{GivesAtOnce, IsPast, LeadsOn, RunsAtOnce, RunsOrStays, RunsFirst, JumpsOrStays}
 
 -- what an answer that was found is
 pub of_some : {X : Type 0} (P : X → Type 0) (o : Option X) (x : X) → o ≡ Some x → IfSome o P → P x
@@ -146,12 +144,6 @@ has_run false statement s t yes_ran stays = absurd (cc)
 pub has_stayed : (ran : Bool) (statement : Statement) (s t : Session) → ran ≡ false → RunsOrStays ran statement s t → t ≡ s
 has_stayed true statement s t not_ran runs = absurd (cc)
 has_stayed false statement s t not_ran stays = stays
-
--- a block of which the first statement was run waits in a part
-pub passes_in : (passed : Bool) (before after : Frame) (block left : Block) (s t : Session) → before ≡ Next (Rest block) → after ≡ Next (Rest left) →
-    PassesOrStays passed block s left t → RunsFirst passed before s after t
-passes_in true before after block left s t waits remains passes = record { block = block; left = left; waits = waits; remains = remains; passes = passes }
-passes_in false before after block left s t waits remains stays = (remains ∙ ap (λ (b : Block). Next (Rest b)) stays.0 ∙ sym waits, stays.1)
 
 -- a machine that jumped over a statement of its innermost part, or stayed
 pub statement_jumps : (ran : Bool) (before after : Frame) (old new frames : List Frame) (s t : Session) → Some before ≡ top_of old → frames ≡ below_top old →

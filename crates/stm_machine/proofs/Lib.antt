@@ -7,4 +7,3 @@ pub mod PartLemmas
 pub mod DirectLemmas
 pub mod JumpLemmas
 pub mod RunLemmas
-pub mod WorkedExamples

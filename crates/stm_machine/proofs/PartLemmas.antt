@@ -52,17 +52,6 @@ block_ends (Then p rest) is = absurd (cc)
 
 -- ---- the turns that are left of a loop
 
-pub turn_is_left : (next left : ℕ) → 0 < left → Some (turns_from (next + 1) (left - 1)) ≡ behind_turn next left
-turn_is_left next zero some_left = absurd (omega (arith, some_left))
-turn_is_left next (suc left) some_left =
-    let number : next + 1 ≡ suc next = omega arith in
-    let count : suc left - 1 ≡ left = omega arith in
-    λ i. Some (turns_from (number i) (count i))
-
-pub no_turn_is_left : (next left : ℕ) → left ≡ 0 → None ≡ behind_turn next left
-no_turn_is_left next zero none = refl
-no_turn_is_left next (suc left) none = absurd (omega (arith, none))
-
 pub turn_starts : (v : ℕ) (body : Block) (next left : ℕ) (behind : TurnsLeft) (s : Session) → behind_turn next left ≡ Some behind →
     take_turn v body next left s ≡ turn_moved v body behind (begin_turn v next s)
 unfolding take_turn

@@ -131,12 +131,3 @@ same_keys (l ∷ ls) (r ∷ rs) f g first other same some others is is_other byt
       λ holds. let tails : map string_bytes ls ≡ map string_bytes rs = sym left ∙ rest.0 holds ∙ right in λ i. one i ∷ tails i,
       λ e. rest.1 (left ∙ ap (drop 1) e ∙ sym right),
     )
-
--- programs of the same list are the same where their statements are
-pub same_behind : (b : Bool) (p q : ProgramTree) → p.prefetch ≡ q.prefetch → IsTrue b ↔ (p.statements ≡ q.statements) → IsTrue b ↔ (p ≡ q)
-same_behind b p q lists exact =
-    (λ holds. let s : p.statements ≡ q.statements = exact.0 holds in λ i. record { statements = s i; prefetch = lists i }, λ e. exact.1 (ap (λ (r : ProgramTree). r.statements) e))
-
--- and those of two lists are not
-pub never_same : (p q : ProgramTree) → (p.prefetch ≡ q.prefetch → ⊥) → IsTrue false ↔ (p ≡ q)
-never_same p q lists = (λ holds. absurd (cc), λ e. absurd (lists (ap (λ (r : ProgramTree). r.prefetch) e)))

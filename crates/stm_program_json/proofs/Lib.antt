@@ -20,4 +20,3 @@ pub mod ExpressionMarks
 pub mod ConditionMarks
 pub mod StatementMarks
 pub mod ProgramLemmas
-pub mod WorkedExamples

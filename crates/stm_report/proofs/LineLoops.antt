@@ -14,11 +14,6 @@ use Rattle.stm_report.specs.declared.line_form.LineForm.TheVariants.{Array}
 use Rattle.stm_report.specs.Forms.{formed, formed_text}
 use Rattle.stm_formats.proofs.Joining.{left_at}
 
-pub text_of-append : (ks ls : List ReportLine) → text_of (ks ++ ls) ≡ text_of ks ++ text_of ls
-text_of-append [] ls = refl
-text_of-append (k ∷ ks) ls = ap (λ (t : List ℕ). line_text (line_data k) ++ t) (text_of-append ks ls)
-    ∙ sym (append_assoc (line_text (line_data k)) (text_of ks) (text_of ls))
-
 -- arrays are the lines of the report itself
 pub array_text : (ls : List ReportLine) → formed_text Array ls ≡ text_of ls
 array_text [] = refl

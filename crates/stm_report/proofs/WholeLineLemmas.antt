@@ -117,12 +117,6 @@ module _ (n : ℕ) (ls gs line reported : List ℕ) (k m : ℕ) (differs : Bool)
       (reported_after_is ∙ ap (λ (i : ℕ). drop i gs) reported_ends)
       ∙ sym (goes_on n ls gs some same) ∙ so_far
 
--- both texts have ended
-pub both_ended : (n : ℕ) (ls gs : List ℕ) → length ls ≡ 0 → length gs ≡ 0 → first_unlike n (lines_in ls) (lines_in gs) ≡ None
-both_ended n [] [] none still = refl
-both_ended n (l ∷ ls) gs none still = absurd (omega (arith, none))
-both_ended n [] (g ∷ gs) none still = absurd (omega (arith, still))
-
 -- the expected one has
 pub one_ended : (n : ℕ) (ls gs : List ℕ) → length ls ≡ 0 → 0 < length gs → first_unlike n (lines_in ls) (lines_in gs) ≡ Some (n, ls)
 one_ended n [] [] none more = absurd (omega (arith, more))

@@ -12,5 +12,4 @@ pub mod KeptWorlds
 pub mod AloneLemmas
 pub mod SharingLemmas
 pub mod Stops
-pub mod WorkedExamples
 mod TxnReplies

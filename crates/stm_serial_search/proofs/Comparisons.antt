@@ -3,7 +3,6 @@ use Rattle.std.proofs.Common.{◌≡◌, ℕ, zero, suc, ◌+◌, ◌-◌, ◌<�
 use Rattle.std.proofs.Common.{refl, sym, ◌∙◌, ap, subst, append_assoc, append-nil, length-append, arith}
 use Rattle.std.specs.Prelude.{nat_eq, slice_get, Ok}
 use Rattle.std.proofs.Math.Seq.{drop-cons}
-use Rattle.std.proofs.lemmas.List.{drop_all}
 use Rattle.stm_program.specs.Syntax.{ProgramTree}
 use Rattle.stm_events.specs.declared.event.WorldEvent.{WorldEvent}
 use Rattle.stm_events.specs.declared.event.WorldEvent.TheVariants.{Start, Step}
@@ -36,9 +35,6 @@ one_more_is is (e ∷ es) (suc i) d within here rest = one_more_is is es i d (om
 pub record SoFar (is : WorldEvent → Bool) (i : ℕ) (events : List WorldEvent) : Type 0 where
   pub all : EachIs is (drop i events) → EachIs is events
 
-pub none_passed : (is : WorldEvent → Bool) (events : List WorldEvent) → SoFar is 0 events
-none_passed is events = record { all = λ rest. rest }
-
 pub one_passed : (is : WorldEvent → Bool) (i : ℕ) (events : List WorldEvent) (e : WorldEvent) → i < length events → e ≡ get_or events i e → is e ≡ true →
     SoFar is i events → SoFar is (i + 1) events
 one_passed is i events e within at here so_far =
@@ -54,9 +50,6 @@ none_left is [] (suc i) most = tt
 none_left is (e ∷ es) zero most = absurd (omega arith)
 none_left is (e ∷ es) (suc i) most = none_left is es i (omega arith)
 
-all_are : (is : WorldEvent → Bool) (events : List WorldEvent) (i : ℕ) → length events ≤ i → SoFar is i events → EachIs is events
-all_are is events i most so_far = so_far.all (none_left is events i most)
-
 orderly : (events : List WorldEvent) → EachIs is_orderly events → AreOrderly events
 orderly [] are = tt
 orderly (e ∷ es) are = (are.0, orderly es are.1)
@@ -65,20 +58,11 @@ foreign : (events : List WorldEvent) → EachIs is_foreign events → AreForeign
 foreign [] are = tt
 foreign (e ∷ es) are = (are.0, foreign es are.1)
 
-pub all_orderly : (events : List WorldEvent) (i : ℕ) → length events ≤ i → SoFar is_orderly i events → AreOrderly events
-all_orderly events i most so_far = orderly events (all_are is_orderly events i most so_far)
-
-pub all_foreign : (events : List WorldEvent) (i : ℕ) → length events ≤ i → SoFar is_foreign i events → AreForeign events
-all_foreign events i most so_far = foreign events (all_are is_foreign events i most so_far)
-
 -- ---- the programs that are started
 
 -- those of these events are these, and then those of the events from here on
 pub record StartedSoFar (programs : List ProgramTree) (i : ℕ) (events : List WorldEvent) : Type 0 where
   pub all : programs ++ programs_started (drop i events) ≡ programs_started events
-
-pub none_started : (events : List WorldEvent) → StartedSoFar [] 0 events
-none_started events = record { all = refl }
 
 next_event : (events : List WorldEvent) (i : ℕ) (e : WorldEvent) → i < length events → e ≡ get_or events i e → drop i events ≡ e ∷ drop (i + 1) events
 next_event events i e within at =
@@ -95,11 +79,6 @@ one_started before after events i e within at pushed so_far =
           ∙ ap (λ (es : List WorldEvent). before ++ programs_started es) (sym (next_event events i e within at))
           ∙ so_far.all;
     }
-
-pub all_started : (programs : List ProgramTree) (events : List WorldEvent) (i : ℕ) → length events ≤ i → StartedSoFar programs i events →
-    programs ≡ programs_started events
-all_started programs events i most so_far =
-    sym (append-nil programs) ∙ ap (λ (es : List WorldEvent). programs ++ programs_started es) (sym (drop_all i events most)) ∙ so_far.all
 
 -- ---- they are those of the runners
 

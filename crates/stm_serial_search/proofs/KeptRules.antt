@@ -1,5 +1,5 @@
 -- Rules that a store keeps, as a loop comes to them.
-use Rattle.std.proofs.Common.{◌≡◌, ℕ, ◌+◌, ◌<◌, ◌≤◌, Bool, true, false, ◌&&◌, List, length, get_or, drop, refl, sym, ap, ◌∙◌}
+use Rattle.std.proofs.Common.{◌≡◌, ℕ, ◌+◌, ◌<◌, ◌≤◌, Bool, true, ◌&&◌, List, length, get_or, drop, refl, sym, ap, ◌∙◌}
 use Rattle.std.proofs.lemmas.List.{at_drop_more, at_drop_all}
 use Rattle.stm_program.specs.Syntax.{ProgramTree}
 use Rattle.stm_txn.specs.Standing.{Standing}
@@ -23,11 +23,6 @@ pub one_kept : (rules : List ProgramTree) (i : ℕ) (s : Standing) (rule : Progr
     kept ≡ keeps_store rule s → kept ≡ true → KeptSoFar rules i s → KeptSoFar rules (i + 1) s
 one_kept rules i s rule kept within at is good so_far =
     record { same = so_far.same ∙ next_asked rules i s rule kept within at is ∙ ap (λ b. b && keeps_all (drop (i + 1) rules) s) good }
-
-pub one_broken : (rules : List ProgramTree) (i : ℕ) (s : Standing) (rule : ProgramTree) (kept : Bool) → i < length rules → rule ≡ get_or rules i rule →
-    kept ≡ keeps_store rule s → kept ≡ false → KeptSoFar rules i s → false ≡ keeps_all rules s
-one_broken rules i s rule kept within at is bad so_far =
-    sym (so_far.same ∙ next_asked rules i s rule kept within at is ∙ ap (λ b. b && keeps_all (drop (i + 1) rules) s) bad)
 
 pub all_kept : (rules : List ProgramTree) (i : ℕ) (s : Standing) → length rules ≤ i → KeptSoFar rules i s → true ≡ keeps_all rules s
 all_kept rules i s most so_far = sym (so_far.same ∙ at_drop_all (λ (rs : List ProgramTree). keeps_all rs s) rules i most)

@@ -122,13 +122,6 @@ abbrev items_in : Sources → List Source
 items_in Nil = []
 items_in (Next s b) = s ∷ items_in b
 
-items_in-of : (ss : List Source) → items_in (sources_of ss) ≡ ss
-items_in-of [] = refl
-items_in-of (s ∷ ss) = ap (λ (l : List Source). s ∷ l) (items_in-of ss)
-
-pub sources_same : (ss more : List Source) → sources_of ss ≡ sources_of more → ss ≡ more
-sources_same ss more e = sym (items_in-of ss) ∙ (ap items_in e ∙ items_in-of more)
-
 -- what a statement's error is of the statements
 pub faults : (e : SourceError) (around : Around) (statement : Scope → List Token → ReadStatement) (front : List Source) (ending : Ending) (fuel more : ℕ) (scope : Scope)
     (tokens : List Token) (total : ReadBlock) → fuel ≡ suc more → after_symbol RightBrace tokens ≡ None → is_left ending ≡ false → ReturnsFault e (statement scope tokens)

@@ -46,7 +46,3 @@ none_behind_is_it n key keys new =
 -- a new key goes last
 pub with_new_key : (key : List ℕ) (keys : List (List ℕ)) → list_any (bytes_eq key) keys ≡ false → with_key key keys ≡ keys ++ key ∷ []
 with_new_key key keys new = ap (λ b. cond b keys (keys ++ key ∷ [])) new
-
--- one that is there stays where it is
-pub with_old_key : (key : List ℕ) (keys : List (List ℕ)) → list_any (bytes_eq key) keys ≡ true → keys ≡ with_key key keys
-with_old_key key keys old = sym (ap (λ b. cond b keys (keys ++ key ∷ [])) old)

@@ -11,9 +11,6 @@ use Rattle.stm_steps.specs.declared.fault.Fault.{Fault}
 use Rattle.stm_steps.specs.declared.fault.Fault.TheVariants.{NotANumber}
 use Rattle.stm_steps.specs.Values.{signed_number, written_number}
 
-AreDigits : List ℕ → Type 0
-AreDigits ds = all_ascii_digits ds ≡ true
-
 abbrev own : IsNumeralModel (λ ds. all_ascii_digits ds ≡ true) (digits_value 10)
 own = numerals_by_value (λ ds. all_ascii_digits ds ≡ true) tells_all_ascii_digits
 

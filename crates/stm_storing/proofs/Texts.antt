@@ -1,16 +1,7 @@
 -- Texts that a loop puts together, a piece an item.
-use Rattle.std.proofs.Common.{◌≡◌, ℕ, zero, suc, ◌+◌, ◌<◌, ◌≤◌, false, List, [], ◌∷◌, ◌++◌, length, take, get_or, refl, sym, ap, ◌∙◌, arith}
+use Rattle.std.proofs.Common.{◌≡◌, ℕ, zero, suc, ◌+◌, ◌<◌, ◌≤◌, List, [], ◌∷◌, ◌++◌, length, take, get_or, sym, ap, ◌∙◌, arith}
 use Rattle.std.specs.List.{flat_map, range_with_len}
 use Rattle.std.proofs.lemmas.List.{flat_map_more, take_more, take_all}
-use Rattle.serde_json.specs.Written.{has_float}
-use Rattle.stm_keys.specs.declared.event.Event.{Event}
-use Rattle.stm_keys.specs.declared.event.Event.TheVariants.{Put, Delete}
-use Rattle.stm_report_lines.specs.LineData.{event_data}
-
--- an event has no number that is not whole
-pub event_no_float : (e : Event) → has_float (event_data e) ≡ false
-event_no_float (Put key state) = refl
-event_no_float (Delete key revision) = refl
 
 module _ {X : Type 0} (f : X → List ℕ) where
   -- the piece of one more item

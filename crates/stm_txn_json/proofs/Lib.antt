@@ -3,4 +3,3 @@ pub mod PartLemmas
 pub mod GrammarSound
 pub mod GrammarComplete
 pub mod TxnFaults
-pub mod WorkedExamples

@@ -19,10 +19,6 @@ map_or : {A B : Type 0} (g : A → B) (a b : Option A) → option_map g (option_
 map_or g None b = refl
 map_or g (Some x) b = refl
 
-pub map_map : {A B C : Type 0} (f : A → B) (g : B → C) (o : Option A) → option_map g (option_map f o) ≡ option_map (λ (x : A). g (f x)) o
-map_map f g None = refl
-map_map f g (Some x) = refl
-
 pub first_append : {A B : Type 0} (f : A → Option B) (xs ys : List A) → first_of f (xs ++ ys) ≡ option_or (first_of f xs) (first_of f ys)
 first_append f [] ys = refl
 first_append f (x ∷ xs) ys = ap (option_or (f x)) (first_append f xs ys) ∙ sym (or_assoc (f x) (first_of f xs) (first_of f ys))

@@ -284,14 +284,6 @@ always_spent {M} left k founds =
     one None = tt
     one (Some ms) = tt
 
-pub open_spent : {M : Type 0} (left k : ℕ) (founds : List (Option (List M))) → left ≡ 0 → EachIs (λ n. OpenIsSpent left) (map (answer_of (ending.Open k)) founds)
-open_spent {M} left k founds none =
-    each_map (answer_of (ending.Open k)) (λ n found. Unit {0}) (λ n. OpenIsSpent left) founds (λ n found is. one found) (λ n d within. tt)
-  where
-    one : (found : Option (List M)) → OpenIsSpent left (answer_of (ending.Open k) found)
-    one None = none
-    one (Some ms) = tt
-
 pub always_far : {P M O : Type 0} (s : ℕ → Steps P M O) (start : P) (made k : ℕ) (founds : List (Option (List M))) →
     EachIs (λ n. OpenIsFar (s n) start made) (map (answer_of (ending.Always k)) founds)
 always_far {P} {M} {O} s start made k founds =

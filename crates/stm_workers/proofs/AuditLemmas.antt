@@ -228,9 +228,6 @@ level_fails b c B C is failed = ((λ yes. absurd (cc)), (λ all. sym failed ∙ 
 pub second_decides : (b c : Bool) (A C : Type 0) → b ≡ c → A → C → (b ≡ true) ↔ (A × (c ≡ true) × C)
 second_decides b c A C is first third = ((λ yes. (first, sym is ∙ yes, third)), (λ all. is ∙ all.1))
 
-pub third_decides : (b : Bool) (A B C : Type 0) → A → B → (b ≡ true) ↔ C → (b ≡ true) ↔ (A × B × C)
-third_decides b A B C first second test = ((λ yes. (first, second, test.0 yes)), (λ all. test.1 all.2))
-
 pub first_of_two_fails : (A B : Type 0) → (A → ⊥) → (false ≡ true) ↔ (A × B)
 first_of_two_fails A B not = ((λ yes. absurd (cc)), (λ both. absurd (not both.0)))
 

@@ -157,9 +157,6 @@ ready_is_of job attempt ready of reported =
 
 -- ---- an attempt of a job
 
-pub advanced_is_of : (job : Job) (old new : AttemptState) → new ≡ advanced job.program old → IsOfJob job old → IsOfJob job new
-advanced_is_of job old new is of = subst (IsOfJob job) (sym is) (refl, of.1)
-
 pub supplied_is_of : (job : Job) (answer : ReadAnswer) (old new : AttemptState) → new ≡ supplied answer old → IsOfJob job old → IsOfJob job new
 supplied_is_of job answer old new is of = subst (IsOfJob job) (sym is) of
 

@@ -6,7 +6,6 @@ pub mod Failures
 pub mod Notifying
 pub mod WrongFailures
 pub mod WorkedExamples
-pub mod ListExamples
 pub mod Counting
 pub mod Making
 pub mod CommitLemmas
@@ -20,5 +19,3 @@ pub mod QueueLemmas
 pub mod WrongEntries
 pub mod Readers
 pub mod WorldLemmas
-pub mod RecipeExamples
-pub mod WorldExamples

@@ -84,10 +84,6 @@ state_by h o key = after_change (now h + 1) (change_by h o) (key_now h key)
 record Left (before after : History) (run : Run) : Type 0 where
   of_key : (key : List ℕ) → key_now after key ≡ state_by before (last_write key run.writes) key
 
-left_by_commit : (h after : History) (run : Run) (made : History) → after ≡ made → ((key : List ℕ) → key_now made key ≡ state_by h (last_write key run.writes) key) →
-    Left h after run
-left_by_commit h after run made is of = record { of_key = λ key. ap (λ (x : History). key_now x key) is ∙ of key }
-
 -- the last write of a key of two
 abbrev last_of_two : Change → Change → List ℕ → Option Change
 last_of_two first second key = or_else (cond (bytes_eq (key_of second) key) (Some second) None) (cond (bytes_eq (key_of first) key) (Some first) None)

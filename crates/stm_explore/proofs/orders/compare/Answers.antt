@@ -11,9 +11,9 @@ pub loop-i-preserved : goal.loop-i-preserved
 loop-i-preserved g c = record {
   left = omega (arith, c.loop-i.invariant.left, c.explain.ensures.left);
   compared =
-    let p : Place = record { world = c.args.world.now; others = c.args.others.now } in
-    all_more (IsSerial p c.args.ends.now) c.args.outcomes.now c.loop-i.i c.index-outcomes-i.result (omega (arith, c.loop-i-test.true)) c.index-outcomes-i.is
-    (subst (λ (e : Explained). IsExplained c.index-outcomes-i.result p c.args.ends.now e) c.in-Yes.is c.in_ok-explained.ensures.explained) c.loop-i.invariant.compared;
+      let p : Place = record { world = c.args.world.now; others = c.args.others.now } in
+      all_more (IsSerial p c.args.ends.now) c.args.outcomes.now c.loop-i.i c.index-outcomes-i.result (omega (arith, c.loop-i-test.true)) c.index-outcomes-i.is
+      (subst (λ (e : Explained). IsExplained c.index-outcomes-i.result p c.args.ends.now e) c.in-Yes.is c.in_ok-explained.ensures.explained) c.loop-i.invariant.compared;
 }
 
 pub returns-clause-compared : goal.returns-clause-compared

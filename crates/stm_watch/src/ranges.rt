@@ -145,6 +145,15 @@ impl Ranges {
         true
     }
 
+    /// Has it found out anew for each page whom a change may concern.
+    fn wake_each(&mut self)
+        ensures { (old new : List (Option Kept)) (e : Entry) → HasEntry old self.old.pages.items e → HasEntry new self.new.pages.items e }
+    {
+        for at in 0..self.pages.len() {
+            self.pages[at].reach.until = 0;
+        }
+    }
+
     /// Notes that the watcher at a place may be idle from now on. It takes no memory. As no contract says that pages stand in order, its entry may not
     /// be found where it should stand; then it is found out anew for all pages.
     pub(crate) fn wake(&mut self, watched: &Watched, place: usize)
@@ -155,7 +164,7 @@ impl Ranges {
             return;
         };
         if !self.wake_on_page(first, end, place) {
-            wake_each(self.pages.as_mut_slice());
+            self.wake_each();
         }
     }
 
@@ -166,15 +175,6 @@ impl Ranges {
         for at in 0..self.pages.len() {
             self.pages[at].settle(slots, revision, key);
         }
-    }
-}
-
-/// Has it found out anew for each page whom a change may concern.
-fn wake_each(pages: &mut [Page])
-    ensures { (old new : List (Option Kept)) (e : Entry) → HasEntry old pages.old e → HasEntry new pages.new e }
-{
-    for page in pages.iter_mut() {
-        page.reach.until = 0;
     }
 }
 

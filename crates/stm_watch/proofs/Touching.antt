@@ -298,7 +298,12 @@ module _ (revision : ℕ) (key : List ℕ) where
         let e : RangeEntry = entry_of first end j in
         let after = ltb-true w.seen revision begun in
         let on = any-map (StandsOn ws e) (ReachesOn revision key j)
-        (λ page stands. (e, stands.there, (refl, matches), elim (stands.met w is (not_some w.first idle)) [ inl le ↦ inl (omega (arith, le, after)) | inr inside ↦ inr inside ]))
+        (λ page stands. (
+          e,
+          stands.there,
+          (refl, matches),
+          elim (stands.met w is (not_some w.first idle)) [ inl le ↦ inl (omega (arith, le, after)) | inr inside ↦ inr inside ],
+        ))
         pages (subst (λ (x : Watched). IsEntered x j ws pages) what (entered j w is)) in
         each_among touched.places j own (touched.all j on)
         ∙ again (slice_index_or own j None) (slice_index_or ws j None) (each_either (places_at lists (of_key key)) j ws)

@@ -38,6 +38,10 @@ abbrev pub IsMet : List (Option Watcher) → RangeEntry → Reach → Type 0
 IsMet ws e reach =
     (w : Watcher) → slice_index_or ws e.place None ≡ Some w → w.first ≡ None → (reach.until ≤ w.seen) ⊎ IsWithin e reach.bounds
 
+-- this is what the watcher at a place has seen, if one is idle there
+abbrev pub IsSeenAt : List (Option Watcher) → ℕ → Option ℕ → Type 0
+IsSeenAt ws i seen = (w : Watcher) → slice_index_or ws i None ≡ Some w → w.first ≡ None → seen ≡ Some w.seen
+
 -- the entry is on the page, which is looked at where a change concerns its watcher
 pub record StandsOn (ws : List (Option Watcher)) (e : RangeEntry) (page : Page) : Type 0 where
   pub met : IsMet ws e page.reach

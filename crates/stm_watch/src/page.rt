@@ -1,5 +1,5 @@
 //! A page: watchers of ranges that begin near each other, and the bounds of those that a change may concern.
-ghost use Rattle.std.specs.Prelude.{◌≡◌, ◌≢◌, ◌⊎◌, ◌≤◌, ◌+◌, ◌++◌, ◌||◌, ℕ, List, Option, None, Some, true, nat_eq, nat_lt, slice_index_or, IfOk, OnOk, OnErr};
+ghost use Rattle.std.specs.Prelude.{◌≡◌, ◌≢◌, ◌⊎◌, ◌≤◌, ◌+◌, ◌++◌, ◌||◌, List, Option, true, nat_eq, nat_lt, IfOk, OnOk, OnErr};
 ghost use Rattle.std.specs.Ordering.{nat_cmp, is_le, ordering_then};
 ghost use Rattle.std.specs.Cmp.Lexicographic.{slice_cmp};
 ghost use Rattle.std.specs.Vec.{vec_len, vec_capacity};
@@ -7,7 +7,7 @@ ghost use Rattle.stm_watch.specs.declared.page.RangeEntry.{RangeEntry as Entry};
 ghost use Rattle.stm_watch.specs.declared.watched.Watched.TheVariants.{Range};
 ghost use Rattle.stm_watch.specs.declared.watched.Watcher.{Watcher as Kept};
 ghost use Rattle.stm_watch.specs.Keys.{is_watched};
-ghost use Rattle.stm_watch.specs.Pages.{IsOneOf, IsWithin, IsMet, StandsOn, entry_of};
+ghost use Rattle.stm_watch.specs.Pages.{IsOneOf, IsWithin, IsMet, IsSeenAt, StandsOn, entry_of};
 
 use crate::copies::copy_entries;
 use crate::slots::Slots;
@@ -154,7 +154,7 @@ impl Reach {
         revision: u64,
     ) -> Result<(), AllocError>
         ensures kept { (ws : List (Option Kept)) (e : Entry) → IsMet ws e self.old → IsMet ws e self.new }
-        ensures ok { OnOk result ((ws : List (Option Kept)) → ((w : Kept) → slice_index_or ws entry.now.place None ≡ Some w → w.first ≡ None → idle_since ≡ Some w.seen) → IsMet ws entry.now self.new) }
+        ensures ok { OnOk result ((ws : List (Option Kept)) → IsSeenAt ws entry.now.place idle_since → IsMet ws entry.now self.new) }
     {
         let Some(seen) = idle_since else {
             return Ok(());
@@ -307,7 +307,7 @@ impl Page {
         self.reach.until < revision || self.reach.bounds.may_have(key)
     }
 
-    /// Finds out whom a change at a revision may concern, where one of a key may concern anybody. Without memory for that everything stays as it was.
+    /// Finds out whom a change at a revision may concern, where one of this key may concern anybody. Where an allocation fails everything stays as it was.
     pub(crate) fn settle(&mut self, slots: &Slots, revision: u64, key: &Text)
         ensures { (e : Entry) → StandsOn slots.now e self.old → StandsOn slots.now e self.new }
     {

@@ -158,7 +158,8 @@ impl Ranges {
     /// be found where it should stand; then it is found out anew for all pages.
     pub(crate) fn wake(&mut self, watched: &Watched, place: usize)
         ensures kept { Keeps self.old.pages.items self.new.pages.items }
-        ensures woken { (old new : List (Option Kept)) → IsEntered watched.now place old self.old.pages.items → IsEntered watched.now place new self.new.pages.items }
+        ensures woken { (old new : List (Option Kept)) → IsEntered watched.now place old self.old.pages.items
+            → IsEntered watched.now place new self.new.pages.items }
     {
         let Watched::Range { first, end } = watched else {
             return;

@@ -2,6 +2,7 @@
 ghost use Rattle.std.specs.Prelude.{◌≡◌, ◌++◌, [], ◌∷◌, Some, None, OnOk, OnErr, IfOk, IfSome, IsSome, is_some, true, false, option_map, slice_set, slice_index_or, length};
 ghost use Rattle.std.specs.List.{list_any};
 ghost use Rattle.stm_watch.specs.declared.watched.Watcher.{Watcher as Kept};
+ghost use Rattle.stm_watch.specs.Pages.{IsSeenAt};
 ghost use Rattle.stm_watch.specs.Touch.{wants, touch_at};
 ghost use Rattle.stm_watch.specs.Slots.{IsFollowed, SlotPolls, PlacePolls, made_ready};
 
@@ -129,7 +130,7 @@ impl Slots {
 
     /// What the idle watcher at a place has seen, `None` where none is there.
     pub(crate) fn idle_since(&self, index: usize) -> Option<u64>
-        ensures { (w : Kept) → slice_index_or self.now index None ≡ Some w → w.first ≡ None → result ≡ Some w.seen }
+        ensures { IsSeenAt self.now index result }
     {
         if index >= self.watchers.len() {
             return None;

@@ -108,13 +108,7 @@ fn touch_pages(slots: &mut Slots, index: &mut Index, pages: &[Page], revision: u
 }
 
 /// Notes a change of a key at a new revision for all watchers that it concerns.
-fn touch_of(
-    slots: &mut Slots,
-    index: &mut Index,
-    ranges: &mut Ranges,
-    revision: u64,
-    key: &Text,
-)
+fn touch_of(slots: &mut Slots, index: &mut Index, ranges: &mut Ranges, revision: u64, key: &Text)
     requires { AreFound index.old ranges.old slots.old }
     ensures slots { slots.new ≡ map (option_map (touch_key revision key.now)) slots.old }
     ensures found { AreFound index.new ranges.new slots.new }

@@ -1,7 +1,6 @@
-use Rattle.std.proofs.Common.{List, Option, subst, sym}
+use Rattle.std.proofs.Common.{List, subst, sym}
 use Rattle.indexmap.specs.IndexMap.{get_by_text}
 use Rattle.stm_watch.specs.declared.page.Page.{Page}
-use Rattle.stm_watch.specs.declared.watched.Watcher.{Watcher}
 use Rattle.stm_watch.specs.Pages.{IsAny, IsTouched, ReachesOn, AreEntered}
 use Rattle.stm_watch.proofs.Entered.{entered_same, entered_touched}
 use Rattle.stm_watch.proofs.Touching.{all_touched}

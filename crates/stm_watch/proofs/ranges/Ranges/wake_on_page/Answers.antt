@@ -1,4 +1,4 @@
-use Rattle.std.proofs.Common.{◌≡◌, ◌∙◌, ◌<◌, List, length, vec_len, arith, refl, rules, subst, sym}
+use Rattle.std.proofs.Common.{◌∙◌, ◌<◌, List, length, vec_len, arith, refl, rules, subst, sym}
 use Rattle.stm_watch.specs.declared.page.Page.{Page}
 use Rattle.stm_watch.specs.declared.page.RangeEntry.{RangeEntry}
 use Rattle.stm_watch.specs.Pages.{StandsOn, IsOneOf, entry_of}

@@ -149,8 +149,8 @@ impl Ranges {
     fn wake_each(&mut self)
         ensures { (old new : List (Option Kept)) (e : Entry) → HasEntry old self.old.pages.items e → HasEntry new self.new.pages.items e }
     {
-        for at in 0..self.pages.len() {
-            self.pages[at].reach.until = 0;
+        for index in 0..self.pages.len() {
+            self.pages[index].reach.until = 0;
         }
     }
 

@@ -6,17 +6,17 @@ use Rattle.stm_watch.specs.Pages.{StandsOn, HasEntry}
 use Rattle.stm_watch.proofs.Entered.{any-left, any-right, unsettled}
 use Rattle.stm_watch.proofs.ranges.Ranges.wake_each.Goals as goal
 
-pub loop-at-preserved : goal.loop-at-preserved
-loop-at-preserved c =
-    let i : ℕ = c.loop-at.at in
-    let pages : List Page = c.loop-at.self.pages.items in
+pub loop-index-preserved : goal.loop-index-preserved
+loop-index-preserved c =
+    let i : ℕ = c.loop-index.index in
+    let pages : List Page = c.loop-index.self.pages.items in
     let was : Page = c.index_mut.result.now in
     let page : Page = record { reach = record { bounds = was.reach.bounds; until = 0 }; entries = was.entries } in
-    let below : i < length pages = omega (arith, c.loop-at-test.true, c.len-at-end.ensures, c.loop-at.invariant.len, c.loop-at.self.pages.ok.0) in
+    let below : i < length pages = omega (arith, c.loop-index-test.true, c.len-index-end.ensures, c.loop-index.invariant.len, c.loop-index.self.pages.ok.0) in
     let step : suc i ≡ i + 1 = omega arith in
     record {
       woken = λ old new e has.
-          elim (c.loop-at.invariant.woken old new e has) [
+          elim (c.loop-index.invariant.woken old new e has) [
             | inl done ↦ inl (subst (λ (l : List Page). HasEntry new l e) (sym (take_more_set pages i page below))
                 (any-left (StandsOn new e) (take i pages) (page ∷ []) done))
             | inr left ↦ elim (subst (λ (l : List Page). HasEntry old l e) (drop-cons pages i was below) left) [
@@ -27,14 +27,14 @@ loop-at-preserved c =
                   (subst (λ (n : ℕ). HasEntry old (drop n pages) e) step there))
             ]
           ];
-      len = c.loop-at.invariant.len;
+      len = c.loop-index.invariant.len;
     }
 
 pub returns : goal.returns
 returns c old new e has =
-    let pages : List Page = c.loop-at.self.pages.items in
-    let past : length pages ≤ c.loop-at.at = omega (arith, c.loop-at-test.false, c.len-at-end.ensures, c.loop-at.invariant.len, c.loop-at.self.pages.ok.0) in
-    elim (c.loop-at.invariant.woken old new e has) [
-      | inl done ↦ subst (λ (l : List Page). HasEntry new l e) (take_all c.loop-at.at pages past) done
+    let pages : List Page = c.loop-index.self.pages.items in
+    let past : length pages ≤ c.loop-index.index = omega (arith, c.loop-index-test.false, c.len-index-end.ensures, c.loop-index.invariant.len, c.loop-index.self.pages.ok.0) in
+    elim (c.loop-index.invariant.woken old new e has) [
+      | inl done ↦ subst (λ (l : List Page). HasEntry new l e) (take_all c.loop-index.index pages past) done
       | inr left ↦ absurd (subst (λ (l : List Page). HasEntry old l e) (drop_of_length-le pages past) left)
     ]

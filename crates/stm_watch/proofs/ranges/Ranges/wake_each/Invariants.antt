@@ -5,9 +5,9 @@ use Rattle.stm_watch.specs.Pages.{HasEntry}
 use Rattle.stm_watch.proofs.ranges.Ranges.wake_each.Given as goal
 
 -- an entry is on one of the pages so far, which is looked at, or on one of the rest
-abbrev pub invariant-loop-at : goal.invariant-loop-at
-invariant-loop-at l = record {
+abbrev pub invariant-loop-index : goal.invariant-loop-index
+invariant-loop-index l = record {
   woken : (old new : List (Option Watcher)) (e : RangeEntry) → HasEntry old l.fn.self.pages.items e
-      → HasEntry new (take l.at l.self.pages.items) e ⊎ HasEntry old (drop l.at l.self.pages.items) e;
+      → HasEntry new (take l.index l.self.pages.items) e ⊎ HasEntry old (drop l.index l.self.pages.items) e;
   len : vec_len l.self.pages ≡ vec_len l.fn.self.pages;
 }

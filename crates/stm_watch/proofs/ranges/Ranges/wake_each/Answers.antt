@@ -33,7 +33,8 @@ loop-index-preserved c =
 pub returns : goal.returns
 returns c old new e has =
     let pages : List Page = c.loop-index.self.pages.items in
-    let past : length pages ≤ c.loop-index.index = omega (arith, c.loop-index-test.false, c.len-index-end.ensures, c.loop-index.invariant.len, c.loop-index.self.pages.ok.0) in
+    let past : length pages ≤ c.loop-index.index = omega
+    (arith, c.loop-index-test.false, c.len-index-end.ensures, c.loop-index.invariant.len, c.loop-index.self.pages.ok.0) in
     elim (c.loop-index.invariant.woken old new e has) [
       | inl done ↦ subst (λ (l : List Page). HasEntry new l e) (take_all c.loop-index.index pages past) done
       | inr left ↦ absurd (subst (λ (l : List Page). HasEntry old l e) (drop_of_length-le pages past) left)

@@ -43,3 +43,9 @@ slot_of_more (z ∷ xs) x y (suc i) is = elim (slot_of_more xs x y i is) [
   | inl before ↦ inl before
   | inr here ↦ inr (ap suc here.0, here.1)
 ]
+
+-- what is read at a place that is there does not depend on what would be read past the last
+pub read_same : {A : Type 0} (xs : List A) (i : ℕ) (d e : A) → i < length xs → slice_index_or xs i d ≡ slice_index_or xs i e
+read_same [] i d e below = absurd (omega arith)
+read_same (x ∷ xs) zero d e below = refl
+read_same (x ∷ xs) (suc i) d e below = read_same xs i d e (omega arith)

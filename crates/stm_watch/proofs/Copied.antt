@@ -3,10 +3,9 @@ use Rattle.std.proofs.Common.{◌≡◌, ℕ, cond, List, [], ◌∷◌, Some, S
 use Rattle.std.specs.Prelude.{bytes_eq, string_bytes}
 use Rattle.std.specs.List.{AllZip}
 use Rattle.std.specs.Map.{lookup}
-use Rattle.stm_watch.specs.declared.page.RangeEntry.{RangeEntry}
-use Rattle.stm_watch.specs.declared.page.Bounds.{Bounds}
 use Rattle.stm_watch.specs.declared.page.Page.{Page}
-use Rattle.stm_watch.specs.Pages.{IsWithin, IsOneOf, StandsOn, Keeps}
+use Rattle.stm_watch.specs.Pages.{IsOneOf, Keeps}
+use Rattle.stm_watch.proofs.Entered.{unsettled}
 
 -- copies of texts and numbers are found like their originals
 pub copy_finds : {A : Type 0} (es fs : List (String A × ℕ)) (key : List ℕ)
@@ -20,22 +19,15 @@ copy_finds (e ∷ es) (f ∷ fs) key same =
     ∙ ap (λ n. cond (bytes_eq key (string_bytes e.0)) (Some n) (lookup (λ k. bytes_eq key (string_bytes k)) fs)) same.0.1
     ∙ ap (cond (bytes_eq key (string_bytes e.0)) (Some e.1)) (copy_finds es fs key same.1)
 
--- a copy of a page has its bounds and its entries
+-- a copy of a page has its entries, and what it reaches is found anew
 abbrev pub IsPageCopy : Page → Page → Type 0
-IsPageCopy page copy = (copy.bounds ≡ page.bounds) × (copy.entries.items ≡ page.entries.items)
-
-stands_copied : (e : RangeEntry) (page copy : Page) → IsPageCopy page copy → StandsOn e page → StandsOn e copy
-stands_copied e page copy p stands =
-    record {
-      within = subst (λ (bounds : Bounds). IsWithin e bounds) (sym p.0) stands.within;
-      there = subst (λ (entries : List RangeEntry). IsOneOf e entries) (sym p.1) stands.there;
-    }
+IsPageCopy page copy = (copy.reach.until ≡ 0) × (copy.entries.items ≡ page.entries.items)
 
 pub keeps_copied : (pages copies : List Page) → AllZip IsPageCopy pages copies → Keeps pages copies
-keeps_copied [] copies p e has = absurd has
-keeps_copied (page ∷ pages) [] p e has = absurd p
-keeps_copied (page ∷ pages) (copy ∷ copies) p e has =
+keeps_copied [] copies p ws e has = absurd has
+keeps_copied (page ∷ pages) [] p ws e has = absurd p
+keeps_copied (page ∷ pages) (copy ∷ copies) p ws e has =
     elim has [
-      | inl here ↦ inl (stands_copied e page copy p.0 here)
-      | inr there ↦ inr (keeps_copied pages copies p.1 e there)
+      | inl here ↦ inl (unsettled ws e copy p.0.0 (subst (IsOneOf e) (sym p.0.1) here.there))
+      | inr there ↦ inr (keeps_copied pages copies p.1 ws e there)
     ]

@@ -1,16 +1,19 @@
 -- The entries on pages after each change.
-use Rattle.std.proofs.Common.{◌≡◌, ◌≢◌, ◌⊎◌, ℕ, zero, suc, ◌<◌, true, nat_eq, List, [], ◌∷◌, ◌++◌, take, drop, length, Option, Some, None, IsSome}
-use Rattle.std.proofs.Common.{option_map, slice_index_or, slice_set, sym, subst, ◌∙◌, inl, inr, arith}
+use Rattle.std.proofs.Common.{◌≡◌, ◌≢◌, ◌⊎◌, ℕ, zero, suc, ◌<◌, ◌≤◌, Bool, true, ◌&&◌, nat_eq, List, [], ◌∷◌, ◌++◌, take, drop, length, map, Option, Some, None}
+use Rattle.std.proofs.Common.{IsSome, option_map, slice_index_or, slice_set, refl, sym, ap, subst, ◌∙◌, inl, inr, arith}
+use Rattle.std.specs.Prelude.{nat_lt}
 use Rattle.std.proofs.lemmas.Bool.{cases_eq, ne_eqb}
-use Rattle.std.proofs.lemmas.List.{get_or-set_same, get_or-set_other, map-append}
+use Rattle.std.proofs.lemmas.List.{get_or-set_same, get_or-set_other}
+use Rattle.std.proofs.lemmas.Option.{same_Some}
 use Rattle.stm_watch.specs.declared.page.RangeEntry.{RangeEntry}
 use Rattle.stm_watch.specs.declared.page.Page.{Page}
 use Rattle.stm_watch.specs.declared.watched.Watched.{Watched}
 use Rattle.stm_watch.specs.declared.watched.Watched.TheVariants.{Key, Range}
 use Rattle.stm_watch.specs.declared.watched.Watcher.{Watcher}
-use Rattle.stm_watch.specs.Kept.{watched_of}
-use Rattle.stm_watch.specs.Pages.{IsAny, HasEntry, Keeps, IsEntered, AreEntered, entry_of}
-use Rattle.stm_watch.proofs.At.{within, slot_of_more}
+use Rattle.stm_watch.specs.Keys.{is_watched}
+use Rattle.stm_watch.specs.Touch.{first_with, touch_key}
+use Rattle.stm_watch.specs.Pages.{IsAny, IsOneOf, StandsOn, HasEntry, Keeps, KeepsOthers, IsEntered, AreEntered, entry_of}
+use Rattle.stm_watch.proofs.At.{within, slot_of_map, slot_of_more}
 
 -- ---- one of a list
 
@@ -68,6 +71,11 @@ module _ {A : Type 0} (is : A → Type 0) where
       elim any [ inl here ↦ elim (to here) [ inl one ↦ inl one | inr other ↦ inr (inl other) ] | inr there ↦ inr (inr there) ]
   any-two (x ∷ xs) (suc i) y z d to any = elim any [ inl here ↦ inl here | inr there ↦ inr (any-two xs i y z d to there) ]
 
+  pub any-read : (xs : List A) (i : ℕ) (d : A) → i < length xs → is (slice_index_or xs i d) → IsAny is xs
+  any-read [] i d below so = absurd (omega arith)
+  any-read (x ∷ xs) zero d below so = inl so
+  any-read (x ∷ xs) (suc i) d below so = inr (any-read xs i d (omega arith) so)
+
   -- there is none
   pub any-none : (xs : List A) → nat_eq (length xs) 0 ≡ true → IsAny is xs → ⊥
   any-none [] empty any = any
@@ -79,30 +87,91 @@ any-map is so to (x ∷ xs) any = elim any [ inl here ↦ inl (to x here) | inr 
 
 -- ---- all watchers of ranges
 
-pub entered_kept : (old new : List Page) (w : Watched) (i : ℕ) → Keeps old new → IsEntered w i old → IsEntered w i new
-entered_kept old new (Key key) i keeps entered = tt
-entered_kept old new (Range first end) i keeps entered = keeps (entry_of first end i) entered
+-- an entry stands on a page that is looked at for each change
+pub unsettled : (ws : List (Option Watcher)) (e : RangeEntry) (page : Page) → page.reach.until ≡ 0 → IsOneOf e page.entries.items → StandsOn ws e page
+unsettled ws e page none there = record { met = λ w at idle. inl (omega (arith, none)); there = there }
 
-pub entered_same : (old new : List Page) (ws : List (Option Watched)) → Keeps old new → AreEntered old ws → AreEntered new ws
-entered_same old new ws keeps entered i w at = entered_kept old new w i keeps (entered i w at)
+pub entered_same : (old new : List Page) (ws : List (Option Watcher)) → ((e : RangeEntry) → HasEntry ws old e → HasEntry ws new e) → AreEntered old ws
+    → AreEntered new ws
+entered_same old new ws keeps entered i w at = by_watched w.watched (entered i w at)
+  where
+    by_watched : (v : Watched) → IsEntered v i ws old → IsEntered v i ws new
+    by_watched (Key key) has = tt
+    by_watched (Range first end) has = keeps (entry_of first end i) has
+
+-- one that is idle at a place was idle there before, and has seen what it had
+abbrev IsStill : List (Option Watcher) → List (Option Watcher) → ℕ → Type 0
+IsStill old new i =
+    (v : Watcher) → slice_index_or new i None ≡ Some v → v.first ≡ None
+    → (u : Watcher) × (slice_index_or old i None ≡ Some u) × (u.first ≡ None) × (u.seen ≡ v.seen)
+
+same_still : (old new : List (Option Watcher)) (i : ℕ) → slice_index_or new i None ≡ slice_index_or old i None → IsStill old new i
+same_still old new i same v at idle = (v, sym same ∙ at, idle, refl)
+
+entered_still : (pages : List Page) (old new : List (Option Watcher)) (w : Watched) (i : ℕ) → IsStill old new i → IsEntered w i old pages
+    → IsEntered w i new pages
+entered_still pages old new (Key key) i still entered = tt
+entered_still pages old new (Range first end) i still entered =
+    any-map (StandsOn old (entry_of first end i)) (StandsOn new (entry_of first end i))
+    (λ page stands. record {
+      met = λ v at idle.
+          let was = still v at idle in
+          elim (stands.met was.0 was.1 was.2) [ inl le ↦ inl (subst (λ (n : ℕ). page.reach.until ≤ n) was.3 le) | inr within ↦ inr within ];
+      there = stands.there;
+    })
+    pages entered
+
+-- after a change of a key
+pub entered_touched : (revision : ℕ) (key : List ℕ) (pages : List Page) (ws : List (Option Watcher)) → AreEntered pages ws
+    → AreEntered pages (map (option_map (touch_key revision key)) ws)
+entered_touched revision key pages ws entered i w at =
+    let was = before (slice_index_or ws i None) w (sym (slot_of_map (touch_key revision key) ws i) ∙ at) in
+    subst (λ (x : Watched). IsEntered x i (map (option_map (touch_key revision key)) ws) pages) was.2
+    (entered_still pages ws (map (option_map (touch_key revision key)) ws) was.0.watched i
+    (λ v is idle.
+    let had = before (slice_index_or ws i None) v (sym (slot_of_map (touch_key revision key) ws i) ∙ is) in
+    (had.0, had.1, had.4 idle, had.3))
+    (entered i was.0 was.1))
+  where
+    unmade : (b : Bool) (o : Option ℕ) → first_with revision b o ≡ None → o ≡ None
+    unmade b None none = refl
+    unmade b (Some n) none = absurd (cc)
+
+    before : (o : Option Watcher) (v : Watcher) → option_map (touch_key revision key) o ≡ Some v
+        → (u : Watcher) × (o ≡ Some u) × (u.watched ≡ v.watched) × (u.seen ≡ v.seen) × (v.first ≡ None → u.first ≡ None)
+    before None v is = absurd (cc)
+    before (Some u) v is =
+        let same : touch_key revision key u ≡ v = same_Some (touch_key revision key u) v is in (
+          u,
+          refl,
+          ap (λ (x : Watcher). x.watched) same,
+          ap (λ (x : Watcher). x.seen) same,
+          λ none. unmade (nat_lt u.seen revision && is_watched u.watched key) u.first (ap (λ (x : Watcher). x.first) same ∙ none),
+        )
 
 -- one watcher more
-pub entered_more : (pages : List Page) (ws : List (Option Watched)) (w : Watched) → IsEntered w (length ws) pages → AreEntered pages ws
-    → AreEntered pages (ws ++ Some w ∷ [])
+pub entered_more : (pages : List Page) (ws : List (Option Watcher)) (w : Watcher)
+    → ((all : List (Option Watcher)) → IsEntered w.watched (length ws) all pages) → AreEntered pages ws → AreEntered pages (ws ++ Some w ∷ [])
 entered_more pages ws w new entered i v at =
     elim (slot_of_more ws w v i at) [
-      | inl before ↦ entered i v before
-      | inr here ↦ subst (λ (x : Watched). IsEntered x i pages) here.1 (subst (λ (k : ℕ). IsEntered w k pages) (sym here.0) new)
+      | inl before ↦ entered_still pages ws (ws ++ Some w ∷ []) v.watched i (same_still ws (ws ++ Some w ∷ []) i (at ∙ sym before)) (entered i v before)
+      | inr here ↦ subst (λ (x : Watcher). IsEntered x.watched i (ws ++ Some w ∷ []) pages) here.1
+          (subst (λ (k : ℕ). IsEntered w.watched k (ws ++ Some w ∷ []) pages) (sym here.0) (new (ws ++ Some w ∷ [])))
     ]
 
-left : (old new : List Page) (w : Watched) (i place : ℕ) → i ≢ place → ((e : RangeEntry) → e.place ≢ place → HasEntry old e → HasEntry new e)
-    → IsEntered w i old → IsEntered w i new
-left old new (Key key) i place differs keeps entered = tt
-left old new (Range first end) i place differs keeps entered = keeps (entry_of first end i) differs entered
+-- those at other places
+others : (old new : List Page) (ws : List (Option Watcher)) (place : ℕ) (slot : Option Watcher) (i : ℕ) (w : Watcher) → KeepsOthers place old new
+    → AreEntered old ws → i ≢ place → slice_index_or (slice_set ws place slot) i None ≡ Some w → IsEntered w.watched i (slice_set ws place slot) new
+others old new ws place slot i w keeps entered differs at =
+    let same = get_or-set_other ws place i slot None differs in
+    entered_still new ws (slice_set ws place slot) w.watched i (same_still ws (slice_set ws place slot) i same) (kept w.watched (entered i w (sym same ∙ at)))
+  where
+    kept : (v : Watched) → IsEntered v i ws old → IsEntered v i ws new
+    kept (Key key) has = tt
+    kept (Range first end) has = keeps ws (entry_of first end i) differs has
 
 -- one watcher less
-pub entered_less : (old new : List Page) (ws : List (Option Watched)) (place : ℕ)
-    → ((e : RangeEntry) → e.place ≢ place → HasEntry old e → HasEntry new e) → IsSome (slice_index_or ws place None)
+pub entered_less : (old new : List Page) (ws : List (Option Watcher)) (place : ℕ) → KeepsOthers place old new → IsSome (slice_index_or ws place None)
     → AreEntered old ws → AreEntered new (slice_set ws place None)
 entered_less old new ws place keeps some entered i w at =
     elim (cases_eq i place) [
@@ -111,8 +180,22 @@ entered_less old new ws place keeps some entered i w at =
           let here : slice_index_or (slice_set ws place None) place None ≡ Some w =
           subst (λ (n : ℕ). slice_index_or (slice_set ws place None) n None ≡ Some w) same at in
           absurd (cc)
-      | inr differs ↦ left old new w i place differs keeps (entered i w (sym (get_or-set_other ws place i None None differs) ∙ at))
+      | inr differs ↦ others old new ws place None i w keeps entered differs at
     ]
 
-pub watched_more : (ws : List (Option Watcher)) (w : Watcher) → watched_of (ws ++ Some w ∷ []) ≡ watched_of ws ++ Some w.watched ∷ []
-watched_more ws w = map-append (option_map (λ (w : Watcher). w.watched)) ws (Some w ∷ [])
+-- one that was polled, and may be idle now
+pub entered_polled : (old new : List Page) (ws : List (Option Watcher)) (place : ℕ) (was is : Watcher) → slice_index_or ws place None ≡ Some was
+    → is.watched ≡ was.watched → Keeps old new
+    → ((one other : List (Option Watcher)) → IsEntered is.watched place one old → IsEntered is.watched place other new)
+    → AreEntered old ws → AreEntered new (slice_set ws place (Some is))
+entered_polled old new ws place was is there watched keeps woken entered i w at =
+    elim (cases_eq i place) [
+      | inl same ↦
+          let all : List (Option Watcher) = slice_set ws place (Some is) in
+          let here : is ≡ w = same_Some is w (sym (get_or-set_same ws place (Some is) None (within ws place (subst IsSome (sym there) refl)))
+          ∙ subst (λ (n : ℕ). slice_index_or all n None ≡ Some w) same at) in
+          subst (λ (n : ℕ). IsEntered w.watched n all new) (sym same)
+          (subst (λ (x : Watcher). IsEntered x.watched place all new) here
+          (woken ws all (subst (λ (x : Watched). IsEntered x place ws old) (sym watched) (entered place was there))))
+      | inr differs ↦ others old new ws place (Some is) i w (λ one e other. keeps one e) entered differs at
+    ]

@@ -1,5 +1,8 @@
 -- Keys in the order of their bytes, and the bounds of ranges.
-use Rattle.std.proofs.Common.{◌≡◌, ℕ, Bool, true, false, ◌&&◌, List, refl, sym, ap, ◌∙◌}
+use Rattle.std.proofs.Common.{◌≡◌, ◌⊎◌, ◌<◌, ℕ, Bool, true, false, ◌&&◌, ◌||◌, List, refl, sym, ap, ◌∙◌, inl, inr}
+use Rattle.std.specs.Prelude.{nat_lt}
+use Rattle.std.proofs.Math.Bool.{or-true}
+use Rattle.std.proofs.lemmas.Bool.{lt-ltb}
 use Rattle.std.proofs.lemmas.Cmp.{nat_list_cmp_total}
 use Rattle.std.specs.Cmp.{upto, tied_itself, alike_right}
 use Rattle.std.specs.Cmp.Lexicographic.{slice_cmp}
@@ -8,6 +11,7 @@ use Rattle.std.specs.declared.cmp.Ordering.TheVariants.{Less, Equal, Greater}
 use Rattle.std.specs.Ordering.{nat_cmp, is_lt, is_le, is_gt, ordering_reverse}
 use Rattle.stm_watch.specs.declared.page.Bounds.{Bounds}
 use Rattle.stm_watch.specs.declared.page.RangeEntry.{RangeEntry}
+use Rattle.stm_watch.specs.declared.page.Reach.{Reach}
 use Rattle.stm_watch.specs.declared.watched.Watched.TheVariants.{Range}
 use Rattle.stm_watch.specs.Keys.{is_watched}
 use Rattle.stm_watch.specs.Pages.{IsWithin}
@@ -63,7 +67,7 @@ lt_chain x y z lt le = lt_by x y z (slice_cmp nat_cmp x y) (slice_cmp nat_cmp y 
 
 -- ---- a key of a range
 
-both : (a b : Bool) → (a && b) ≡ true → (a ≡ true) × (b ≡ true)
+pub both : (a b : Bool) → (a && b) ≡ true → (a ≡ true) × (b ≡ true)
 both true true is = (refl, refl)
 both true false is = absurd (cc)
 both false b is = absurd (cc)
@@ -83,3 +87,13 @@ within_wider e old new lower higher within = record {
   low = le_chain new.low old.low e.first lower within.low;
   high = le_chain e.end old.high new.high within.high higher;
 }
+
+-- a page is looked at for a range within its bounds, and where the revision is past those of the bounds
+pub is_concerned : (e : RangeEntry) (reach : Reach) (revision : ℕ) (key : List ℕ) → is_watched (Range e.first e.end) key ≡ true
+    → (reach.until < revision) ⊎ IsWithin e reach.bounds
+    → (nat_lt reach.until revision || is_watched (Range reach.bounds.low reach.bounds.high) key) ≡ true
+is_concerned e reach revision key has looked =
+    elim looked [
+      | inl past ↦ ap (λ b. b || is_watched (Range reach.bounds.low reach.bounds.high) key) (lt-ltb reach.until revision past)
+      | inr within ↦ ap (λ b. nat_lt reach.until revision || b) (in_bounds e reach.bounds key within has) ∙ or-true (nat_lt reach.until revision)
+    ]

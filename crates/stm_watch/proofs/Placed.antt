@@ -2,9 +2,8 @@
 use Rattle.std.proofs.Common.{◌≡◌, ℕ, ◌-◌, Bool, true, false, cond, List, Option, Some, None, IsSome, IfSome, IsOk, option_map, slice_index_or, slice_set}
 use Rattle.std.proofs.Common.{Result, Ok, Err, OnErr, refl, sym, ap, subst, ◌∙◌, nat_eq}
 use Rattle.std.specs.declared.alloc.AllocError.{AllocError}
-use Rattle.std.proofs.lemmas.List.{map-set, set-get_or, get_or-set_same}
+use Rattle.std.proofs.lemmas.List.{set-get_or, get_or-set_same}
 use Rattle.std.proofs.lemmas.Option.{same_Some}
-use Rattle.std.proofs.Math.ListN.{get_or-map}
 use Rattle.stm_history.specs.History.{History}
 use Rattle.stm_watch.specs.Watching.{Watching}
 use Rattle.stm_watch.specs.Places.{WatchersView, with_places, is_lost, watching_of, watchings}
@@ -13,7 +12,6 @@ use Rattle.stm_watch.specs.declared.watchers.Batch.{Batch}
 use Rattle.stm_watch.specs.declared.refusal.PollRefusal.{PollRefusal}
 use Rattle.stm_watch.specs.declared.refusal.PollRefusal.TheVariants.{NoWatcher, Compacted}
 use Rattle.stm_watch.specs.Calls.{Stands, StandAll, Step, watcher_at, poll, poll_found, cancelled, is_one_lost, after_refused, view_refused}
-use Rattle.stm_watch.specs.Kept.{watched_of}
 use Rattle.stm_watch.specs.Pending.{first_pending, batch_of, after_poll}
 use Rattle.stm_watch.specs.Slots.{IsFollowed, IsPolled, SlotPolls, PlacePolls, followed, standing}
 use Rattle.stm_watch.proofs.At.{within}
@@ -24,21 +22,6 @@ use Rattle.stm_watch.proofs.Standing.{seen_at, watchings_set, watching_at, stand
 
 module _ (h : History) (i most : ℕ) (old new : List (Option Watcher)) (result : Result Batch AllocError) (did : PlacePolls h most i old result new)
     (there : IsSome (slice_index_or old i None)) where
-  kept_watched : (o slot : Option Watcher) (result : Result Batch AllocError) → SlotPolls h most o result slot
-      → option_map (λ (w : Watcher). w.watched) slot ≡ option_map (λ (w : Watcher). w.watched) o
-  kept_watched None slot (Ok batch) did = absurd did
-  kept_watched (Some w) slot (Ok batch) did = ap (option_map (λ (w : Watcher). w.watched)) did.1
-  kept_watched o slot (Err error) did = ap (option_map (λ (w : Watcher). w.watched)) did
-
-  -- what is watched stays
-  pub place_watched : watched_of new ≡ watched_of old
-  place_watched =
-      ap watched_of did.1
-      ∙ map-set (option_map (λ (w : Watcher). w.watched)) old i did.0
-      ∙ ap (slice_set (watched_of old) i) (kept_watched (slice_index_or old i None) did.0 result did.2
-      ∙ sym (get_or-map (option_map (λ (w : Watcher). w.watched)) old i None))
-      ∙ set-get_or (watched_of old) i None
-
   polled_there : (o slot : Option Watcher) (batch : Batch) → IsPolled h most o batch slot
       → (was : Watcher) × (is : Watcher) × (o ≡ Some was) × (slot ≡ Some is) × (is.watched ≡ was.watched)
   polled_there None slot batch did = absurd did
@@ -77,15 +60,6 @@ module _ (h : History) (i most : ℕ) (old new : List (Option Watcher)) (result 
       did.1
       ∙ ap (slice_set old i) (subst (λ r. SlotPolls h most (slice_index_or old i None) r did.0) same did.2)
       ∙ set-get_or old i None
-
-some_mapped : {A B : Type 0} (f : A → B) (o : Option A) → IsSome o → IsSome (option_map f o)
-some_mapped f None some = absurd (cc)
-some_mapped f (Some x) some = refl
-
-pub watched_there : (ws : List (Option Watcher)) (i : ℕ) → IsSome (slice_index_or ws i None) → IsSome (slice_index_or (watched_of ws) i None)
-watched_there ws i some =
-    subst IsSome (sym (get_or-map (option_map (λ (w : Watcher). w.watched)) ws i None))
-    (some_mapped (λ (w : Watcher). w.watched) (slice_index_or ws i None) some)
 
 -- what holds anyway holds where a call is refused
 pub on_any : {T E P : Type 0} (r : Result T E) → P → OnErr r P

@@ -3,7 +3,7 @@ use Rattle.std.proofs.Common.{◌≡◌, ◌⊎◌, ℕ, zero, suc, ◌<◌, ◌
 use Rattle.std.proofs.Common.{List, [], ◌∷◌, ◌++◌, length, map, Option, Some, None, IsSome, is_some, cond, unwrap_or, option_map, slice_index_or, slice_set}
 use Rattle.std.proofs.Common.{refl, sym, ap, subst, ◌∙◌, inl, inr, arith, length-append, append_assoc}
 use Rattle.std.specs.Prelude.{nat_lt}
-use Rattle.std.proofs.lemmas.Bool.{cases_Bool, cases_eq}
+use Rattle.std.proofs.lemmas.Bool.{cases_Bool, cases_eq, ltb-true}
 use Rattle.std.proofs.lemmas.List.{get_or-set_other, length-set, length-map, map-append, same_lists}
 use Rattle.std.proofs.lemmas.List.Folds.{list_any-append}
 use Rattle.std.proofs.lemmas.Option.{same_Some}
@@ -18,11 +18,13 @@ use Rattle.stm_watch.specs.declared.watched.Watched.TheVariants.{Key, Range}
 use Rattle.stm_watch.specs.declared.watched.Watcher.{Watcher}
 use Rattle.stm_watch.specs.Keys.{is_watched, is_any_watched}
 use Rattle.stm_watch.specs.declared.page.Page.{Page}
-use Rattle.stm_watch.specs.Kept.{Holds, AreCovered, list_in, watched_of, places_on, places_at}
-use Rattle.stm_watch.specs.Pages.{IsAny, IsOneOf, StandsOn, ReachesOn, IsTouched, AreEntered, entry_of}
+use Rattle.stm_watch.specs.Kept.{Holds, AreCovered, list_in, places_on, places_at}
+use Rattle.stm_watch.specs.declared.page.RangeEntry.{RangeEntry}
+use Rattle.stm_watch.specs.Pages.{IsAny, IsOneOf, StandsOn, ReachesOn, IsTouched, IsEntered, AreEntered, entry_of}
 use Rattle.stm_watch.specs.Touch.{touch, touch_key, touch_at, touch_each, first_with, wants}
 use Rattle.stm_watch.proofs.Entered.{any-left, any-right, any-parts, any-map}
-use Rattle.stm_watch.proofs.At.{read_at, slot_of_map}
+use Rattle.stm_watch.proofs.At.{not_some, read_at, slot_of_map}
+use Rattle.stm_watch.proofs.Ordered.{both}
 
 -- ---- one place
 
@@ -56,11 +58,10 @@ never revision (Some n) b = refl
 never revision None true = refl
 never revision None false = refl
 
--- a watcher of other keys stays as it is
-untouched : (revision : ℕ) (key : List ℕ) (w : Watcher) → is_watched w.watched key ≡ false → touch_key revision key w ≡ w
-untouched revision key w not_watched =
-    ap (λ b. record w { first = first_with revision (nat_lt w.seen revision && b) w.first }) not_watched
-    ∙ ap (λ (o : Option ℕ). record w { first = o }) (never revision w.first (nat_lt w.seen revision))
+-- a watcher that does not want to know of it stays as it is
+untouched : (revision : ℕ) (key : List ℕ) (w : Watcher) → (nat_lt w.seen revision && is_watched w.watched key) ≡ false → touch_key revision key w ≡ w
+untouched revision key w not =
+    ap (λ b. record w { first = first_with revision b w.first }) not ∙ ap (λ (o : Option ℕ). record w { first = o }) (never revision w.first true)
 
 module _ (revision : ℕ) (key : List ℕ) where
   -- ---- several places
@@ -273,16 +274,16 @@ module _ (revision : ℕ) (key : List ℕ) where
       by_first (Some n) b some = refl
 
   module _ (lists : Lists ℕ) (of_key : List ℕ → Option ℕ) (ranges ready : ℕ) (nodes : List (Option ℕ)) (pages : List Page) (ws new : List (Option Watcher))
-      (covered : AreCovered lists of_key ranges ready nodes ws) (entered : AreEntered pages (watched_of ws))
-      (touched : IsTouched revision key (λ i. IsAny (ReachesOn key i) pages) (touch_each revision key (places_at lists (of_key key)) ws) new) where
+      (covered : AreCovered lists of_key ranges ready nodes ws) (entered : AreEntered pages ws)
+      (touched : IsTouched revision key (λ i. IsAny (ReachesOn revision key i) pages) (touch_each revision key (places_at lists (of_key key)) ws) new) where
     abbrev own : List (Option Watcher)
     own = touch_each revision key (places_at lists (of_key key)) ws
 
     -- an idle watcher of the key is on the key's list, and one of a range that has the key on a page
     reached : (w : Watcher) (j : ℕ) (watched : Watched) → slice_index_or ws j None ≡ Some w → is_some w.first ≡ false → w.watched ≡ watched
-        → is_watched watched key ≡ true
+        → nat_lt w.seen revision ≡ true → is_watched watched key ≡ true
         → slice_index_or (touch_each revision key touched.places own) j None ≡ option_map (touch_key revision key) (slice_index_or ws j None)
-    reached w j (Key k) is idle what matches =
+    reached w j (Key k) is idle what begun matches =
         let had = covered.listed.stands j w is in
         let same : k ≡ key = (bytes_eq-Decides k key).0 matches in
         let on : of_key k ≡ Some had.0 =
@@ -293,11 +294,17 @@ module _ (revision : ℕ) (key : List ℕ) where
         each_after touched.places j own (slice_index_or ws j None)
         (ap (λ o. slice_index_or (touch_each revision key (places_at lists o) ws) j None) at
         ∙ each_among (places_on lists had.0) j ws (holds_one (entries_at lists had.0) had.1 j had.4))
-    reached w j (Range first end) is idle what matches =
-        let at : slice_index_or (watched_of ws) j None ≡ Some (Range first end) =
-        slot_of_map (λ (w : Watcher). w.watched) ws j ∙ ap (option_map (λ (w : Watcher). w.watched)) is ∙ ap Some what in
-        let on = any-map (StandsOn (entry_of first end j)) (ReachesOn key j) (λ page stands. (entry_of first end j, stands, (refl, matches))) pages
-        (entered j (Range first end) at) in
+    reached w j (Range first end) is idle what begun matches =
+        let e : RangeEntry = entry_of first end j in
+        let after = ltb-true w.seen revision begun in
+        let on = any-map (StandsOn ws e) (ReachesOn revision key j)
+        (λ page stands. (
+          e,
+          stands.there,
+          (refl, matches),
+          elim (stands.met w is (not_some w.first idle)) [ inl le ↦ inl (omega (arith, le, after)) | inr inside ↦ inr inside ],
+        ))
+        pages (subst (λ (x : Watched). IsEntered x j ws pages) what (entered j w is)) in
         each_among touched.places j own (touched.all j on)
         ∙ again (slice_index_or own j None) (slice_index_or ws j None) (each_either (places_at lists (of_key key)) j ws)
 
@@ -317,8 +324,8 @@ module _ (revision : ℕ) (key : List ℕ) where
         by_slot None is = either_same j (ap (option_map (touch_key revision key)) is ∙ sym is)
         by_slot (Some w) is = elim (cases_Bool (is_some w.first)) [
           | inl some ↦ either_same j (ap (option_map (touch_key revision key)) is ∙ ap Some (stays w some) ∙ sym is)
-          | inr idle ↦ elim (cases_Bool (is_watched w.watched key)) [
-            | inl matches ↦ reached w j w.watched is idle refl matches
+          | inr idle ↦ elim (cases_Bool (nat_lt w.seen revision && is_watched w.watched key)) [
+            | inl wants ↦ let parts = both (nat_lt w.seen revision) (is_watched w.watched key) wants in reached w j w.watched is idle refl parts.0 parts.1
             | inr other ↦ either_same j (ap (option_map (touch_key revision key)) is ∙ ap Some (untouched revision key w other) ∙ sym is)
           ]
         ]
@@ -335,14 +342,6 @@ module _ (revision : ℕ) (key : List ℕ) where
       where
         long : length (touch_each revision key touched.places own) ≡ length ws
         long = length_each touched.places own ∙ length_each (places_at lists (of_key key)) ws
-
--- what is watched stays
-pub watched_touched : (f : Watcher → Watcher) (ws : List (Option Watcher)) → ((w : Watcher) → (f w).watched ≡ w.watched)
-    → watched_of (map (option_map f) ws) ≡ watched_of ws
-watched_touched f [] same = refl
-watched_touched f (None ∷ ws) same = ap (λ l. None ∷ l) (watched_touched f ws same)
-watched_touched f (Some w ∷ ws) same =
-    ap (λ (x : Watched). Some x ∷ watched_of (map (option_map f) ws)) (same w) ∙ ap (λ l. Some w.watched ∷ l) (watched_touched f ws same)
 
 -- ---- one event after the other
 

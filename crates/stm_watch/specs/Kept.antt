@@ -1,5 +1,5 @@
 -- How lists and the numbers on them agree. No public clause cites this module.
-use Rattle.std.specs.Prelude.{◌≡◌, ◌≢◌, ◌⊎◌, ℕ, List, [], ◌∷◌, length, Option, Some, None, IsSome, is_some, option_map, map, ◌<◌, slice_index_or}
+use Rattle.std.specs.Prelude.{◌≡◌, ◌≢◌, ◌⊎◌, ℕ, List, [], ◌∷◌, length, Option, Some, None, IsSome, is_some, map, ◌<◌, slice_index_or}
 use Rattle.std.specs.Prelude.{if◌then◌else◌}
 use Rattle.std.specs.Vec.{vec_len, vec_capacity}
 use Rattle.stm_lists.specs.Lists.{Lists, entries_at, HasList}
@@ -13,10 +13,6 @@ use Rattle.stm_watch.specs.declared.watched.Watcher.{Watcher}
 abbrev pub Holds : List (ℕ × ℕ) → ℕ → ℕ → Type 0
 Holds [] node number = ⊥
 Holds (entry ∷ rest) node number = ((entry.0 ≡ node) × (entry.1 ≡ number)) ⊎ Holds rest node number
-
--- what each of these watchers watches
-abbrev pub watched_of : List (Option Watcher) → List (Option Watched)
-watched_of ws = map (option_map (λ (w : Watcher). w.watched)) ws
 
 -- ---- the lists on which watchers stand
 

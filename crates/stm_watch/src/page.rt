@@ -1,13 +1,16 @@
-//! A page: watchers of ranges that begin near each other, and the bounds of them all.
-ghost use Rattle.std.specs.Prelude.{◌≡◌, ◌≢◌, ◌⊎◌, ◌≤◌, ◌+◌, ◌++◌, ℕ, true, nat_eq, IfOk, OnOk, OnErr};
+//! A page: watchers of ranges that begin near each other, and the bounds of those that a change may concern.
+ghost use Rattle.std.specs.Prelude.{◌≡◌, ◌≢◌, ◌⊎◌, ◌≤◌, ◌+◌, ◌++◌, ◌||◌, List, Option, true, nat_eq, nat_lt, IfOk, OnOk, OnErr};
 ghost use Rattle.std.specs.Ordering.{nat_cmp, is_le, ordering_then};
 ghost use Rattle.std.specs.Cmp.Lexicographic.{slice_cmp};
 ghost use Rattle.std.specs.Vec.{vec_len, vec_capacity};
 ghost use Rattle.stm_watch.specs.declared.page.RangeEntry.{RangeEntry as Entry};
+ghost use Rattle.stm_watch.specs.declared.watched.Watched.TheVariants.{Range};
+ghost use Rattle.stm_watch.specs.declared.watched.Watcher.{Watcher as Kept};
 ghost use Rattle.stm_watch.specs.Keys.{is_watched};
-ghost use Rattle.stm_watch.specs.Pages.{IsOneOf, IsWithin, StandsOn, entry_of};
+ghost use Rattle.stm_watch.specs.Pages.{IsOneOf, IsWithin, IsMet, IsSeenAt, StandsOn, entry_of};
 
 use crate::copies::copy_entries;
+use crate::slots::Slots;
 use std::alloc::{AllocError, Global};
 use stm_history::Text;
 
@@ -32,6 +35,13 @@ impl RangeEntry {
             end: end.clone()?,
             place,
         })
+    }
+
+    /// Whether the entry is that of the watcher of this range at a place.
+    pub(crate) fn is(&self, first: &Text, end: &Text, place: usize) -> bool
+        ensures { result ≡ true → self.now ≡ entry_of first.now end.now place }
+    {
+        self.place == place && self.first == *first && self.end == *end
     }
 
     /// Whether the entry is the one with this first key and place, or stands before it. Entries stand in the order of
@@ -73,27 +83,12 @@ pub(crate) struct Bounds {
 }
 
 impl Bounds {
-    ghost use Rattle.stm_watch.specs.declared.watched.Watched.TheVariants.{Range};
-
-    /// The bounds of one range.
-    fn of(entry: &RangeEntry) -> Result<Bounds, AllocError>
-        ensures { IfOk result (λ bounds. IsWithin entry.now bounds) }
-    {
+    /// Bounds that no key is in, from which those of this and later ranges are widened.
+    fn from(entry: &RangeEntry) -> Result<Bounds, AllocError> {
         Ok(Bounds {
             low: entry.first.clone()?,
-            high: entry.end.clone()?,
+            high: entry.first.clone()?,
         })
-    }
-
-    /// The bounds of the ranges of these entries, of which this is one.
-    fn of_all(entries: &[RangeEntry], one: &RangeEntry) -> Result<Bounds, AllocError>
-        ensures { IfOk result (λ bounds. (e : Entry) → IsOneOf e entries.now → IsWithin e bounds) }
-    {
-        let mut bounds = Bounds::of(one)?;
-        for entry in entries {
-            bounds.widen(entry)?;
-        }
-        Ok(bounds)
     }
 
     /// The same bounds.
@@ -124,6 +119,54 @@ impl Bounds {
     }
 }
 
+/// Whom a change may concern: up to the revision `until` nobody but watchers of ranges within the bounds.
+#[derive(Drop)]
+pub(crate) struct Reach {
+    pub bounds: Bounds,
+    pub until: u64,
+}
+
+impl Reach {
+    /// That of these entries, of which this is the first, at a revision.
+    fn of_all(
+        entries: &[RangeEntry],
+        first: &RangeEntry,
+        slots: &Slots,
+        revision: u64,
+    ) -> Result<Reach, AllocError>
+        ensures { IfOk result (λ reach. (e : Entry) → IsOneOf e entries.now → IsMet slots.now e reach) }
+    {
+        let mut reach = Reach {
+            bounds: Bounds::from(first)?,
+            until: u64::MAX,
+        };
+        for entry in entries {
+            reach.include(entry, slots.idle_since(entry.place), revision)?;
+        }
+        Ok(reach)
+    }
+
+    /// Includes the watcher of an entry, which is idle since a revision, or is not.
+    fn include(
+        &mut self,
+        entry: &RangeEntry,
+        idle_since: Option<u64>,
+        revision: u64,
+    ) -> Result<(), AllocError>
+        ensures kept { (ws : List (Option Kept)) (e : Entry) → IsMet ws e self.old → IsMet ws e self.new }
+        ensures ok { OnOk result ((ws : List (Option Kept)) → IsSeenAt ws entry.now.place idle_since → IsMet ws entry.now self.new) }
+    {
+        let Some(seen) = idle_since else {
+            return Ok(());
+        };
+        if seen < revision {
+            return self.bounds.widen(entry);
+        }
+        self.until = self.until.min(seen);
+        Ok(())
+    }
+}
+
 /// Moves the upper half of these entries before those of another list, which has room for them.
 fn move_half(entries: &mut Vec<RangeEntry>, upper: &mut Vec<RangeEntry>)
     requires { vec_len entries.old + vec_len upper.old ≤ vec_capacity upper.old }
@@ -140,35 +183,44 @@ fn move_half(entries: &mut Vec<RangeEntry>, upper: &mut Vec<RangeEntry>)
     }
 }
 
-/// Watchers of ranges, and the bounds of their ranges.
-///
-/// Cancelled watchers leave the bounds as they were, so these may be wider than they need be.
+/// Watchers of ranges, and whom of them a change may concern.
 #[derive(Drop)]
 pub(crate) struct Page {
-    pub bounds: Bounds,
+    pub reach: Reach,
     pub entries: Vec<RangeEntry>,
 }
 
-/// The copy has the same bounds and the same entries.
+/// The copy has the same entries. What it reaches is found anew.
 impl Clone for Page {
-    ghost is_clone = { λ page copy. (copy.bounds ≡ page.bounds) × (copy.entries.items ≡ page.entries.items) };
+    ghost is_clone = { λ page copy. (copy.reach.until ≡ 0) × (copy.entries.items ≡ page.entries.items) };
 
     fn clone(&self) -> Result<Page, AllocError> {
-        let bounds = self.bounds.copied()?;
+        let bounds = self.reach.bounds.copied()?;
         let entries = copy_entries(&self.entries)?;
-        Ok(Page { bounds, entries })
+        Ok(Page::unsettled(bounds, entries))
     }
 }
 
 impl Page {
+    /// A page of these entries, of which nobody knows whom a change may concern.
+    fn unsettled(bounds: Bounds, entries: Vec<RangeEntry>) -> Page
+        ensures until { result.reach.until ≡ 0 }
+        ensures entries { result.entries.items ≡ entries.items }
+    {
+        Page {
+            reach: Reach { bounds, until: 0 },
+            entries,
+        }
+    }
+
     /// A page of one entry.
     pub(crate) fn of(alloc: Global, entry: RangeEntry) -> Result<Page, AllocError>
-        ensures { IfOk result (λ page. StandsOn entry page) }
+        ensures { IfOk result (λ page. (ws : List (Option Kept)) → StandsOn ws entry page) }
     {
-        let bounds = Bounds::of(&entry)?;
+        let bounds = Bounds::from(&entry)?;
         let mut entries = Vec::new(alloc);
         entries.push(entry)?;
-        Ok(Page { bounds, entries })
+        Ok(Page::unsettled(bounds, entries))
     }
 
     /// Whether the page has no entry.
@@ -200,21 +252,33 @@ impl Page {
             .partition_point(|entry| entry.is_up_to(first, place))
     }
 
+    /// Whether the entry of the watcher of this range at a place was found on the page.
+    pub(crate) fn has(&self, first: &Text, end: &Text, place: usize) -> bool
+        ensures { result ≡ true → IsOneOf (entry_of first.now end.now place) self.now.entries.items }
+    {
+        let count = self.count_up_to(first, place);
+        if count == 0 {
+            return false;
+        }
+        self.entries[count - 1].is(first, end, place)
+    }
+
     /// Adds an entry. A failed allocation leaves none out.
     pub(crate) fn add(&mut self, entry: RangeEntry) -> Result<(), AllocError>
-        ensures kept { (e : Entry) → StandsOn e self.old → StandsOn e self.new }
-        ensures ok { OnOk result (StandsOn entry self.new) }
+        ensures kept { (ws : List (Option Kept)) (e : Entry) → StandsOn ws e self.old → StandsOn ws e self.new }
+        ensures ok { OnOk result ((ws : List (Option Kept)) → StandsOn ws entry self.new) }
     {
-        self.bounds.widen(&entry)?;
         let at = self.count_up_to(&entry.first, entry.place);
         self.entries.insert(at, entry)?;
+        self.reach.until = 0;
         Ok(())
     }
 
     /// Takes the entry with this first key and place out, if it is there.
     pub(crate) fn remove(&mut self, first: &Text, place: usize)
-        ensures { (e : Entry) → e.place ≢ place → StandsOn e self.old → StandsOn e self.new }
+        ensures { (ws : List (Option Kept)) (e : Entry) → e.place ≢ place → StandsOn ws e self.old → StandsOn ws e self.new }
     {
+        self.reach.until = 0;
         let count = self.count_up_to(first, place);
         if count == 0 {
             return;
@@ -224,26 +288,37 @@ impl Page {
         }
     }
 
-    /// Moves the upper half of the entries to a page of its own. The bounds of both are those that the page had. Want
-    /// of memory changes nothing.
+    /// Moves the upper half of the entries to a page of its own. Want of memory changes nothing.
     pub(crate) fn split(&mut self) -> Result<Page, AllocError>
-        ensures ok { IfOk result (λ upper. (e : Entry) → StandsOn e self.old → StandsOn e self.new ⊎ StandsOn e upper) }
+        ensures ok { IfOk result (λ upper. (ws : List (Option Kept)) (e : Entry) → StandsOn ws e self.old → StandsOn ws e self.new ⊎ StandsOn ws e upper) }
         ensures err { OnErr result (self.new ≡ self.old) }
     {
-        let bounds = self.bounds.copied()?;
+        let bounds = self.reach.bounds.copied()?;
         let mut entries = Vec::with_capacity(*self.entries.allocator(), self.entries.len())?;
         move_half(&mut self.entries, &mut entries);
-        Ok(Page { bounds, entries })
+        self.reach.until = 0;
+        Ok(Page::unsettled(bounds, entries))
     }
 
-    /// Makes the bounds those of the entries, and no wider. A failed allocation changes nothing.
-    pub(crate) fn tighten(&mut self) -> Result<(), AllocError>
-        ensures { (e : Entry) → StandsOn e self.old → StandsOn e self.new }
+    /// Whether a change of a key at a revision may concern a watcher on the page.
+    pub(crate) fn may_concern(&self, revision: u64, key: &Text) -> bool
+        ensures { result ≡ (nat_lt self.now.reach.until revision || is_watched (Range self.now.reach.bounds.low self.now.reach.bounds.high) key.now) }
     {
-        let entries = self.entries.as_slice();
-        if let Some(one) = entries.first() {
-            self.bounds = Bounds::of_all(entries, one)?;
+        self.reach.until < revision || self.reach.bounds.may_have(key)
+    }
+
+    /// Finds out whom a change at a revision may concern, where one of this key may concern anybody. Where an allocation fails everything stays as it was.
+    pub(crate) fn settle(&mut self, slots: &Slots, revision: u64, key: &Text)
+        ensures { (e : Entry) → StandsOn slots.now e self.old → StandsOn slots.now e self.new }
+    {
+        if !self.may_concern(revision, key) {
+            return;
         }
-        Ok(())
+        let entries = self.entries.as_slice();
+        if let Some(first) = entries.first() {
+            if let Ok(reach) = Reach::of_all(entries, first, slots, revision) {
+                self.reach = reach;
+            }
+        }
     }
 }

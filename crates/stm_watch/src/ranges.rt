@@ -1,10 +1,12 @@
 //! The watchers of ranges, on pages.
-ghost use Rattle.std.specs.Prelude.{◌≡◌, ◌≢◌, ◌≤◌, ◌<◌, ◌+◌, [], OnOk, IfOk};
+ghost use Rattle.std.specs.Prelude.{◌≡◌, ◌≤◌, ◌<◌, List, [], Option, true, OnOk, IfOk};
 ghost use Rattle.std.specs.Vec.{vec_len};
 ghost use Rattle.stm_watch.specs.declared.page.RangeEntry.{RangeEntry as Entry};
-ghost use Rattle.stm_watch.specs.Pages.{HasEntry, IsEntered, Keeps};
+ghost use Rattle.stm_watch.specs.declared.watched.Watcher.{Watcher as Kept};
+ghost use Rattle.stm_watch.specs.Pages.{HasEntry, IsEntered, Keeps, KeepsOthers, entry_of};
 
 use crate::page::{Page, RangeEntry};
+use crate::slots::Slots;
 use crate::watched::Watched;
 use std::alloc::{AllocError, Global};
 use stm_history::Text;
@@ -40,39 +42,17 @@ impl Ranges {
         count.saturating_sub(1)
     }
 
-    /// Splits a page in two, with the bounds that it had.
-    fn split_page(&mut self, at: usize) -> Result<(), AllocError>
+    /// Splits a page in two.
+    fn split(&mut self, at: usize) -> Result<(), AllocError>
         requires { at < vec_len self.old.pages }
         ensures kept { Keeps self.old.pages.items self.new.pages.items }
         ensures more { vec_len self.old.pages ≤ vec_len self.new.pages }
-        ensures ok { OnOk result (at + 1 < vec_len self.new.pages) }
     {
         self.pages.reserve(1)?;
         let upper = self.pages[at].split()?;
         let Ok(()) = self.pages.insert(at + 1, upper) else {
             unreachable!()
         };
-        Ok(())
-    }
-
-    /// Tightens the bounds of a page.
-    fn tighten(&mut self, at: usize) -> Result<(), AllocError>
-        requires { at < vec_len self.old.pages }
-        ensures kept { Keeps self.old.pages.items self.new.pages.items }
-        ensures len { vec_len self.new.pages ≡ vec_len self.old.pages }
-    {
-        self.pages[at].tighten()
-    }
-
-    /// Splits a page in two, each with bounds of its own. A failed allocation leaves no entry out.
-    fn split(&mut self, at: usize) -> Result<(), AllocError>
-        requires { at < vec_len self.old.pages }
-        ensures kept { Keeps self.old.pages.items self.new.pages.items }
-        ensures more { vec_len self.old.pages ≤ vec_len self.new.pages }
-    {
-        self.split_page(at)?;
-        self.tighten(at)?;
-        self.tighten(at + 1)?;
         Ok(())
     }
 
@@ -93,7 +73,7 @@ impl Ranges {
     /// Adds the first page.
     fn add_page(&mut self, entry: RangeEntry) -> Result<(), AllocError>
         ensures kept { Keeps self.old.pages.items self.new.pages.items }
-        ensures ok { OnOk result (HasEntry self.new.pages.items entry) }
+        ensures ok { OnOk result ((ws : List (Option Kept)) → HasEntry ws self.new.pages.items entry) }
     {
         let page = Page::of(*self.pages.allocator(), entry)?;
         self.pages.push(page)?;
@@ -103,7 +83,7 @@ impl Ranges {
     /// Adds an entry. A failed allocation leaves none out.
     fn add_entry(&mut self, entry: RangeEntry) -> Result<(), AllocError>
         ensures kept { Keeps self.old.pages.items self.new.pages.items }
-        ensures ok { OnOk result (HasEntry self.new.pages.items entry) }
+        ensures ok { OnOk result ((ws : List (Option Kept)) → HasEntry ws self.new.pages.items entry) }
     {
         if self.pages.is_empty() {
             return self.add_page(entry);
@@ -116,7 +96,7 @@ impl Ranges {
     /// Adds the watcher at a place, if it watches a range. A failed allocation leaves no watcher out.
     pub(crate) fn add(&mut self, watched: &Watched, place: usize) -> Result<(), AllocError>
         ensures kept { Keeps self.old.pages.items self.new.pages.items }
-        ensures ok { OnOk result (IsEntered watched.now place self.new.pages.items) }
+        ensures ok { OnOk result ((ws : List (Option Kept)) → IsEntered watched.now place ws self.new.pages.items) }
     {
         if let Watched::Range { first, end } = watched {
             self.add_entry(RangeEntry::of(first, end, place)?)?;
@@ -127,7 +107,7 @@ impl Ranges {
     /// Takes an entry off a page, and the page with the last one.
     fn remove_from(&mut self, at: usize, first: &Text, place: usize)
         requires { at < vec_len self.old.pages }
-        ensures { (e : Entry) → e.place ≢ place → HasEntry self.old.pages.items e → HasEntry self.new.pages.items e }
+        ensures { KeepsOthers place self.old.pages.items self.new.pages.items }
     {
         self.pages[at].remove(first, place);
         if self.pages[at].is_empty() {
@@ -137,7 +117,7 @@ impl Ranges {
 
     /// Takes the watcher at a place out, if it watches a range. It takes no memory.
     pub(crate) fn remove(&mut self, watched: &Watched, place: usize)
-        ensures { (e : Entry) → e.place ≢ place → HasEntry self.old.pages.items e → HasEntry self.new.pages.items e }
+        ensures { KeepsOthers place self.old.pages.items self.new.pages.items }
     {
         let Watched::Range { first, .. } = watched else {
             return;
@@ -147,6 +127,55 @@ impl Ranges {
         }
         let at = self.page_of(first, place);
         self.remove_from(at, first, place);
+    }
+
+    /// Has it found out anew whom a change may concern on the page on which this entry stands, where it is found there.
+    fn wake_on_page(&mut self, first: &Text, end: &Text, place: usize) -> bool
+        ensures kept { Keeps self.old.pages.items self.new.pages.items }
+        ensures woken { result ≡ true → (ws : List (Option Kept)) → HasEntry ws self.new.pages.items (entry_of first.now end.now place) }
+    {
+        if self.pages.is_empty() {
+            return false;
+        }
+        let at = self.page_of(first, place);
+        if !self.pages[at].has(first, end, place) {
+            return false;
+        }
+        self.pages[at].reach.until = 0;
+        true
+    }
+
+    /// Has it found out anew for each page whom a change may concern.
+    fn wake_each(&mut self)
+        ensures { (old new : List (Option Kept)) (e : Entry) → HasEntry old self.old.pages.items e → HasEntry new self.new.pages.items e }
+    {
+        for index in 0..self.pages.len() {
+            self.pages[index].reach.until = 0;
+        }
+    }
+
+    /// Notes that the watcher at a place may be idle from now on. It takes no memory. As no contract says that pages stand in order, its entry may not
+    /// be found where it should stand; then it is found out anew for all pages.
+    pub(crate) fn wake(&mut self, watched: &Watched, place: usize)
+        ensures kept { Keeps self.old.pages.items self.new.pages.items }
+        ensures woken { (old new : List (Option Kept)) → IsEntered watched.now place old self.old.pages.items
+            → IsEntered watched.now place new self.new.pages.items }
+    {
+        let Watched::Range { first, end } = watched else {
+            return;
+        };
+        if !self.wake_on_page(first, end, place) {
+            self.wake_each();
+        }
+    }
+
+    /// Finds out whom a change of a key at a revision may concern, on each page where it may concern anybody. It takes no memory.
+    pub(crate) fn settle(&mut self, slots: &Slots, revision: u64, key: &Text)
+        ensures { (e : Entry) → HasEntry slots.now self.old.pages.items e → HasEntry slots.now self.new.pages.items e }
+    {
+        for at in 0..self.pages.len() {
+            self.pages[at].settle(slots, revision, key);
+        }
     }
 }
 

@@ -1,6 +1,8 @@
 //! The places of watchers: watcher 1 stands first.
 ghost use Rattle.std.specs.Prelude.{◌≡◌, ◌++◌, [], ◌∷◌, Some, None, OnOk, OnErr, IfOk, IfSome, IsSome, is_some, true, false, option_map, slice_set, slice_index_or, length};
 ghost use Rattle.std.specs.List.{list_any};
+ghost use Rattle.stm_watch.specs.declared.watched.Watcher.{Watcher as Kept};
+ghost use Rattle.stm_watch.specs.Pages.{IsSeenAt};
 ghost use Rattle.stm_watch.specs.Touch.{wants, touch_at};
 ghost use Rattle.stm_watch.specs.Slots.{IsFollowed, SlotPolls, PlacePolls, made_ready};
 
@@ -20,6 +22,22 @@ fn wants(slot: &Option<Watcher>, revision: u64, key: &Text) -> bool
     match slot {
         None => false,
         Some(watcher) => watcher.first.is_none() && watcher.wants(revision, key),
+    }
+}
+
+/// What the idle watcher at a place has seen, `None` where none is there.
+fn idle_since(slot: &Option<Watcher>) -> Option<u64>
+    ensures { (w : Kept) → slot.now ≡ Some w → w.first ≡ None → result ≡ Some w.seen }
+{
+    match slot {
+        None => None,
+        Some(watcher) => {
+            if watcher.first.is_some() {
+                None
+            } else {
+                Some(watcher.seen)
+            }
+        }
     }
 }
 
@@ -87,8 +105,6 @@ impl Model for Slots {
 }
 
 impl Slots {
-    ghost use Rattle.stm_watch.specs.declared.watched.Watcher.{Watcher as Kept};
-
     /// No places.
     pub(crate) fn new(alloc: Global) -> Slots
         ensures { result ≡ [] }
@@ -110,6 +126,16 @@ impl Slots {
         ensures { result ≡ is_some (slice_index_or self.now index None) }
     {
         index < self.watchers.len() && self.watchers[index].is_some()
+    }
+
+    /// What the idle watcher at a place has seen, `None` where none is there.
+    pub(crate) fn idle_since(&self, index: usize) -> Option<u64>
+        ensures { IsSeenAt self.now index result }
+    {
+        if index >= self.watchers.len() {
+            return None;
+        }
+        idle_since(&self.watchers[index])
     }
 
     /// Whether a watcher stands at one of the places.

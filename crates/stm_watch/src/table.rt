@@ -130,7 +130,7 @@ impl Table {
         touch_all(
             &mut self.slots,
             &mut self.index,
-            &self.ranges,
+            &mut self.ranges,
             revision,
             events,
         );
@@ -150,8 +150,10 @@ impl Table {
         ensures { PlacePolls keys.now.history most place self.old result self.new }
     {
         let batch = self.slots.poll(place, keys, most)?;
-        let list = self.index.list_for(self.slots.watcher(place));
+        let watcher = self.slots.watcher(place);
+        let list = self.index.list_for(watcher);
         self.index.move_to(place, list);
+        self.ranges.wake(&watcher.watched, place);
         Ok(batch)
     }
 }

@@ -85,13 +85,13 @@ fn touch_entries(
     }
 }
 
-/// Notes it for those on a page. A key that is not in the page's bounds is in none of its ranges.
+/// Notes it for those on a page, if it may concern one of them.
 fn touch_page(slots: &mut Slots, index: &mut Index, page: &Page, revision: u64, key: &Text)
     requires { Covers index.old slots.old }
-    ensures slots { IsTouched revision key.now (λ i. ReachesOn key.now i page.now) slots.old slots.new }
+    ensures slots { IsTouched revision key.now (λ i. ReachesOn revision key.now i page.now) slots.old slots.new }
     ensures covers { Covers index.new slots.new }
 {
-    if page.bounds.may_have(key) {
+    if page.may_concern(revision, key) {
         touch_entries(slots, index, page.entries.as_slice(), revision, key);
     }
 }
@@ -99,7 +99,7 @@ fn touch_page(slots: &mut Slots, index: &mut Index, page: &Page, revision: u64, 
 /// Notes it for those on these pages.
 fn touch_pages(slots: &mut Slots, index: &mut Index, pages: &[Page], revision: u64, key: &Text)
     requires { Covers index.old slots.old }
-    ensures slots { IsTouched revision key.now (λ i. IsAny (ReachesOn key.now i) pages.now) slots.old slots.new }
+    ensures slots { IsTouched revision key.now (λ i. IsAny (ReachesOn revision key.now i) pages.now) slots.old slots.new }
     ensures covers { Covers index.new slots.new }
 {
     for page in pages {
@@ -108,11 +108,12 @@ fn touch_pages(slots: &mut Slots, index: &mut Index, pages: &[Page], revision: u
 }
 
 /// Notes a change of a key at a new revision for all watchers that it concerns.
-fn touch_of(slots: &mut Slots, index: &mut Index, ranges: &Ranges, revision: u64, key: &Text)
-    requires { AreFound index.old ranges.now slots.old }
+fn touch_of(slots: &mut Slots, index: &mut Index, ranges: &mut Ranges, revision: u64, key: &Text)
+    requires { AreFound index.old ranges.old slots.old }
     ensures slots { slots.new ≡ map (option_map (touch_key revision key.now)) slots.old }
-    ensures covers { Covers index.new slots.new }
+    ensures found { AreFound index.new ranges.new slots.new }
 {
+    ranges.settle(slots, revision, key);
     touch_its_own(slots, index, revision, key);
     touch_pages(slots, index, ranges.pages.as_slice(), revision, key);
 }
@@ -121,13 +122,13 @@ fn touch_of(slots: &mut Slots, index: &mut Index, ranges: &Ranges, revision: u64
 pub(crate) fn touch_all(
     slots: &mut Slots,
     index: &mut Index,
-    ranges: &Ranges,
+    ranges: &mut Ranges,
     revision: u64,
     events: &[Event],
 )
-    requires { AreFound index.old ranges.now slots.old }
+    requires { AreFound index.old ranges.old slots.old }
     ensures slots { slots.new ≡ map (option_map (touch revision (map change_of_event events.now))) slots.old }
-    ensures found { AreFound index.new ranges.now slots.new }
+    ensures found { AreFound index.new ranges.new slots.new }
 {
     for event in events {
         touch_of(slots, index, ranges, revision, event.key());

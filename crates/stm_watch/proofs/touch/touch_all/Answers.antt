@@ -1,11 +1,9 @@
-use Rattle.std.proofs.Common.{◌≡◌, ◌∙◌, ◌+◌, ◌++◌, ◌∷◌, [], List, ap, map, option_map, refl, subst, sym, take}
+use Rattle.std.proofs.Common.{◌≡◌, ◌∙◌, ◌+◌, ◌++◌, ◌∷◌, [], List, ap, map, option_map, sym, take}
 use Rattle.std.proofs.lemmas.Grind.{take_at_read}
 use Rattle.stm_keys.specs.declared.event.Event.{Event}
 use Rattle.stm_keys.specs.Events.{change_of_event, key_of_event}
-use Rattle.stm_watch.specs.Kept.{watched_of}
-use Rattle.stm_watch.specs.Pages.{AreEntered}
 use Rattle.stm_watch.specs.Touch.{touch, touch_key}
-use Rattle.stm_watch.proofs.Touching.{touch_none, touch_next, watched_touched}
+use Rattle.stm_watch.proofs.Touching.{touch_none, touch_next}
 use Rattle.stm_watch.proofs.touch.touch_all.Goals as goal
 
 pub loop-event-init : goal.loop-event-init
@@ -25,10 +23,5 @@ loop-event-preserved c =
           ∙ ap (map (option_map (touch_key c.args.revision (key_of_event e)))) c.loop-event.invariant.noted
           ∙ touch_next c.args.revision e so_far c.args.slots.now
           ∙ ap (λ es. map (option_map (touch c.args.revision (map change_of_event es))) c.args.slots.now) (sym one);
-      found = record {
-        covers = c.touch_of.ensures.covers;
-        entered = subst (AreEntered c.args.ranges.now.pages.items)
-            (sym (ap watched_of c.touch_of.ensures.slots ∙ watched_touched (touch_key c.args.revision c.key.result.now) c.loop-event.slots (λ w. refl)))
-            c.loop-event.invariant.found.entered;
-      };
+      found = c.touch_of.ensures.found;
     }

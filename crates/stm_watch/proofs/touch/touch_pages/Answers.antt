@@ -8,7 +8,7 @@ use Rattle.stm_watch.proofs.touch.touch_pages.Goals as goal
 
 pub loop-page-init : goal.loop-page-init
 loop-page-init c = record {
-  touched = touched_none c.args.revision c.args.key.now (λ i. IsAny (ReachesOn c.args.key.now i) []) c.args.slots.now (λ i any. any);
+  touched = touched_none c.args.revision c.args.key.now (λ i. IsAny (ReachesOn c.args.revision c.args.key.now i) []) c.args.slots.now (λ i any. any);
   covers = c.requires;
 }
 
@@ -20,7 +20,7 @@ loop-page-preserved c =
     (take_at_read pages c.loop-page.page-index x c.loop-page-test.true).1
     ∙ ap (λ (y : Page). take c.loop-page.page-index pages ++ y ∷ []) (sym c.page-item.is) in
     record {
-      touched = touched_more c.args.revision c.args.key.now (ReachesOn c.args.key.now) (take c.loop-page.page-index pages)
+      touched = touched_more c.args.revision c.args.key.now (ReachesOn c.args.revision c.args.key.now) (take c.loop-page.page-index pages)
           (take (c.loop-page.page-index + 1) pages) x c.args.slots.now c.loop-page.slots c.touch_page.new.slots one c.loop-page.invariant.touched
           c.touch_page.ensures.slots;
       covers = c.touch_page.ensures.covers;
@@ -28,5 +28,5 @@ loop-page-preserved c =
 
 pub returns-clause-slots : goal.returns-clause-slots
 returns-clause-slots c =
-    subst (λ (xs : List Page). IsTouched c.args.revision c.args.key.now (λ i. IsAny (ReachesOn c.args.key.now i) xs) c.args.slots.now c.loop-page.slots)
+    subst (λ (xs : List Page). IsTouched c.args.revision c.args.key.now (λ i. IsAny (ReachesOn c.args.revision c.args.key.now i) xs) c.args.slots.now c.loop-page.slots)
     (take_all c.loop-page.page-index c.args.pages.now c.loop-page-test.false) c.loop-page.invariant.touched

@@ -5,11 +5,11 @@ use Rattle.stm_watch.proofs.Entered.{any-left, any-right}
 use Rattle.stm_watch.proofs.ranges.Ranges.add_page.Goals as goal
 
 pub returns-clause-kept : goal.returns-clause-kept
-returns-clause-kept c e has =
-    subst (λ (pages : List Page). HasEntry pages e) (sym c.in_ok-push.ensures.items)
-    (any-left (StandsOn e) c.args.self.now.pages.items (c.in_ok-page.page ∷ []) has)
+returns-clause-kept c ws e has =
+    subst (λ (pages : List Page). HasEntry ws pages e) (sym c.in_ok-push.ensures.items)
+    (any-left (StandsOn ws e) c.args.self.now.pages.items (c.in_ok-page.page ∷ []) has)
 
 pub returns-clause-ok : goal.returns-clause-ok
-returns-clause-ok c =
-    subst (λ (pages : List Page). HasEntry pages c.args.entry) (sym c.in_ok-push.ensures.items)
-    (any-right (StandsOn c.args.entry) c.args.self.now.pages.items (c.in_ok-page.page ∷ []) (inl c.in_ok-page.ensures))
+returns-clause-ok c ws =
+    subst (λ (pages : List Page). HasEntry ws pages c.args.entry) (sym c.in_ok-push.ensures.items)
+    (any-right (StandsOn ws c.args.entry) c.args.self.now.pages.items (c.in_ok-page.page ∷ []) (inl (c.in_ok-page.ensures ws)))

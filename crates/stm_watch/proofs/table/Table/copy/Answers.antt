@@ -1,6 +1,5 @@
 use Rattle.std.proofs.Common.{◌∙◌, sym, subst, List, Option}
 use Rattle.stm_watch.specs.declared.watched.Watcher.{Watcher}
-use Rattle.stm_watch.specs.Kept.{watched_of}
 use Rattle.stm_watch.specs.Pages.{AreFound}
 use Rattle.stm_watch.proofs.Entered.{entered_same}
 use Rattle.stm_watch.proofs.table.Table.copy.Goals as goal
@@ -10,7 +9,8 @@ invariant_of-result c =
     subst (λ (ws : List (Option Watcher)). AreFound c.in_ok-index.index c.in_ok-ranges.ranges ws) (sym c.in_ok-slots.ensures)
     (record {
       covers = c.in_ok-index.ensures c.self.inside.slots c.self.invariant.covers;
-      entered = entered_same c.self.inside.ranges.pages.items c.in_ok-ranges.ranges.pages.items (watched_of c.self.inside.slots) c.in_ok-ranges.ensures
+      entered = entered_same c.self.inside.ranges.pages.items c.in_ok-ranges.ranges.pages.items c.self.inside.slots
+          (c.in_ok-ranges.ensures c.self.inside.slots)
           c.self.invariant.entered;
     })
 

@@ -6,7 +6,8 @@ use Rattle.stm_watch.specs.declared.watched.Watcher.{Watcher}
 use Rattle.stm_watch.specs.Kept.{Covers, idle_list}
 use Rattle.stm_watch.specs.Pages.{AreEntered, AreFound}
 use Rattle.stm_watch.specs.Slots.{IsFollowed, PlacePolls}
-use Rattle.stm_watch.proofs.Placed.{place_watched, place_refused, polled_some, polled_slot}
+use Rattle.stm_watch.proofs.Entered.{entered_polled}
+use Rattle.stm_watch.proofs.Placed.{place_refused, polled_some, polled_slot}
 use Rattle.stm_watch.proofs.table.Table.poll.Goals as goal
 
 pub poll-requires-clause-there : goal.poll-requires-clause-there
@@ -35,8 +36,8 @@ returns-in_err-batch c =
 
 -- a batch
 
-pub watcher-requires : goal.watcher-requires
-watcher-requires c =
+pub watcher-watcher-requires : goal.watcher-watcher-requires
+watcher-watcher-requires c =
     let some = subst (λ ws. IsSome (slice_index_or ws c.args.place None)) (sym c.self.view_is) c.requires.there in
     polled_some c.args.keys.now.history c.args.place c.args.most c.self.inside.slots c.poll.new.self c.poll.result c.poll.ensures some
     c.in_ok-batch.batch c.in_ok-batch.was
@@ -45,7 +46,7 @@ pub list_for-list-requires : goal.list_for-list-requires
 list_for-list-requires c =
     let some = subst (λ ws. IsSome (slice_index_or ws c.args.place None)) (sym c.self.view_is) c.requires.there in
     let found = polled_slot c.args.keys.now.history c.args.place c.args.most c.self.inside.slots c.poll.new.self c.poll.result c.poll.ensures some
-    c.in_ok-batch.batch c.in_ok-batch.was c.watcher.result.now c.watcher.ensures in
+    c.in_ok-batch.batch c.in_ok-batch.was c.watcher-watcher.result.now c.watcher-watcher.ensures in
     subst (λ (x : Watched). IsSome (idle_list c.self.inside.index x)) (sym found.3) (c.self.invariant.covers.waiting c.args.place found.0 found.1)
 
 pub move_to-requires-clause-there : goal.move_to-requires-clause-there
@@ -54,21 +55,21 @@ move_to-requires-clause-there c =
     (c.self.inside.slots, c.self.invariant.covers, some)
 
 pub move_to-requires-clause-list : goal.move_to-requires-clause-list
-move_to-requires-clause-list c = c.self.invariant.covers.listed.there c.watcher.result.now c.list_for-list.result c.list_for-list.ensures
+move_to-requires-clause-list c = c.self.invariant.covers.listed.there c.watcher-watcher.result.now c.list_for-list.result c.list_for-list.ensures
 
 pub invariant_of-self-2 : goal.invariant_of-self-2
 invariant_of-self-2 c =
     let some = subst (λ ws. IsSome (slice_index_or ws c.args.place None)) (sym c.self.view_is) c.requires.there in
     let found = polled_slot c.args.keys.now.history c.args.place c.args.most c.self.inside.slots c.poll.new.self c.poll.result c.poll.ensures some
-    c.in_ok-batch.batch c.in_ok-batch.was c.watcher.result.now c.watcher.ensures in
+    c.in_ok-batch.batch c.in_ok-batch.was c.watcher-watcher.result.now c.watcher-watcher.ensures in
     let waits = subst (λ (x : Watched). IsSome (idle_list c.self.inside.index x)) (sym found.3)
     (c.self.invariant.covers.waiting c.args.place found.0 found.1) in
     record {
       covers = subst (λ (ws : List (Option Watcher)). Covers c.move_to.new.self ws) (sym found.2)
-          (c.move_to.ensures.covers c.self.inside.slots c.watcher.result.now c.self.invariant.covers some c.list_for-list.ensures waits);
-      entered = subst (AreEntered c.self.inside.ranges.pages.items)
-          (sym (place_watched c.args.keys.now.history c.args.place c.args.most c.self.inside.slots c.poll.new.self c.poll.result c.poll.ensures some))
-          c.self.invariant.entered;
+          (c.move_to.ensures.covers c.self.inside.slots c.watcher-watcher.result.now c.self.invariant.covers some c.list_for-list.ensures waits);
+      entered = subst (AreEntered c.wake.new.self.pages.items) (sym found.2)
+          (entered_polled c.self.inside.ranges.pages.items c.wake.new.self.pages.items c.self.inside.slots c.args.place found.0 c.watcher-watcher.result.now found.1
+          found.3 c.wake.ensures.kept c.wake.ensures.woken c.self.invariant.entered);
     }
 
 pub returns : goal.returns

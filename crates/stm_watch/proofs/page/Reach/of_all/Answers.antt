@@ -2,9 +2,9 @@ use Rattle.std.proofs.Common.{◌≡◌, ◌∙◌, ◌+◌, ◌++◌, ◌∷◌
 use Rattle.std.proofs.lemmas.Grind.{take_at_read}
 use Rattle.std.proofs.lemmas.List.{take_all}
 use Rattle.stm_watch.specs.declared.page.RangeEntry.{RangeEntry}
-use Rattle.stm_watch.specs.Pages.{IsOneOf, IsWithin}
+use Rattle.stm_watch.specs.Pages.{IsOneOf, IsMet}
 use Rattle.stm_watch.proofs.Entered.{any-parts}
-use Rattle.stm_watch.proofs.page.Bounds.of_all.Goals as goal
+use Rattle.stm_watch.proofs.page.Reach.of_all.Goals as goal
 
 pub loop-entry-init : goal.loop-entry-init
 loop-entry-init c e any = absurd any
@@ -17,8 +17,12 @@ loop-entry-preserved c e any =
     (take_at_read entries c.loop-entry.entry-index x c.loop-entry-test.true).1
     ∙ ap (λ (y : RangeEntry). take c.loop-entry.entry-index entries ++ y ∷ []) (sym c.entry-item.is) in
     elim (any-parts (λ y. y ≡ e) (take c.loop-entry.entry-index entries) (x ∷ []) (subst (IsOneOf e) one any)) [
-      | inl before ↦ c.widen.ensures.kept e (c.loop-entry.invariant e before)
-      | inr last ↦ elim last [ inl here ↦ subst (λ (y : RangeEntry). IsWithin y c.widen.new.self) here c.in_ok-widen.ensures.ok | inr nothing ↦ absurd nothing ]
+      | inl before ↦ c.include.ensures.kept c.args.slots.now e (c.loop-entry.invariant e before)
+      | inr last ↦ elim last [
+        | inl here ↦ subst (λ (y : RangeEntry). IsMet c.args.slots.now y c.include.new.self) here
+            (c.in_ok-include.ensures.ok c.args.slots.now c.idle_since.ensures)
+        | inr nothing ↦ absurd nothing
+      ]
     ]
 
 pub returns : goal.returns

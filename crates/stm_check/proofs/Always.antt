@@ -23,7 +23,6 @@ use Rattle.stm_entries.specs.Alone.{seen_at, applied_run}
 use Rattle.stm_entries.specs.Replayed.{without_moment}
 use Rattle.stm_events.specs.FirstReads.{keys_first_read}
 use Rattle.stm_events.specs.declared.event.WorldEvent.{WorldEvent}
-use Rattle.stm_events.specs.declared.event.WorldEvent.TheVariants.{Start, Step, Txn, Grant, Keep, Revoke, Advance, Compact}
 use Rattle.stm_events.specs.contracts.line.ReportLine as reports
 use Rattle.stm_events.specs.contracts.refusal.Denied as refused
 use Rattle.stm_events.specs.contracts.reply.Reply as replies
@@ -35,6 +34,7 @@ use Rattle.stm_events.specs.declared.reply.CommittedRead.{CommittedRead}
 use Rattle.stm_events.specs.declared.reply.Reply.{Reply}
 use Rattle.stm_events.specs.declared.reply.Reply.TheVariants.{Committed}
 use Rattle.stm_events.specs.Replies.{reads_in, denied}
+use Rattle.stm_events.specs.Called.{Call, Watch, Poll, Cancel, Asked, Starts, Steps, Calls, asked, called}
 use Rattle.stm_check.specs.declared.cause.WrongCause.{WrongCause}
 use Rattle.stm_check.specs.declared.cause.WrongCause.TheVariants.{Count, Event, Replay, Final}
 use Rattle.stm_check.specs.declared.checking.Checked.{Checked}
@@ -44,7 +44,7 @@ use Rattle.stm_check.specs.Fits.{fits}
 use Rattle.stm_check.specs.Judged.{IsJudgedFrom}
 use Rattle.stm_check.specs.Laws.{JudgedAlways}
 use Rattle.stm_check.specs.Point.{Point, after_line}
-use Rattle.stm_check.specs.Replays.{IsTrulyReported, AreTrulyReported, AnswersFit, keys_reported, IsRightCommit, IsCommitOf, StartReplays, StepReplays, Replays}
+use Rattle.stm_check.specs.Replays.{IsTrulyReported, AreTrulyReported, AnswersFit, keys_reported, IsRightCommit, IsCommitOf, StartReplays, StepReplays, CallReplays, AskedReplays}
 use Rattle.stm_check.specs.Runners.{running}
 use Rattle.stm_check.specs.Runs.{run_in, revision_reached}
 use Rattle.stm_check.specs.StoreLines.{final_lines}
@@ -211,21 +211,21 @@ step s o (Err denial) = both (is_absent o) (equal_replies (denied NoRunner) (Err
 step s o (Ok (Committed id revision attempts output trace answers)) = commit s o revision attempts output trace answers
 step s o other = inl tt
 
-replayed : (s : Standing) (runners : List Runner) (event : WorldEvent) (replied : Result Reply Denied) → Decided (Replays s runners event replied)
-replayed s runners (Start program level limit) replied = start limit replied
-replayed s runners (Step id) replied = step s (running id runners) replied
-replayed s runners (Txn txn) replied = equal_replies _ replied
-replayed s runners (Grant id ttl) replied = equal_replies _ replied
-replayed s runners (Keep id) replied = equal_replies _ replied
-replayed s runners (Revoke id) replied = equal_replies _ replied
-replayed s runners (Advance moment) replied = equal_replies _ replied
-replayed s runners (Compact revision) replied = equal_replies _ replied
-replayed s runners _ replied = inl tt
+call : (s : Standing) (c : Call) (replied : Result Reply Denied) → Decided (CallReplays s c replied)
+call s (Watch keys from) replied = inl tt
+call s (Poll watcher most) replied = inl tt
+call s (Cancel watcher) replied = inl tt
+call s c replied = equal_replies (called s c).reply replied
+
+replayed : (s : Standing) (runners : List Runner) (a : Asked) (replied : Result Reply Denied) → Decided (AskedReplays s runners a replied)
+replayed s runners (Starts program level limit) replied = start limit replied
+replayed s runners (Steps id) replied = step s (running id runners) replied
+replayed s runners (Calls c) replied = call s c replied
 
 -- ---- lines
 
 line_replayed : (p : Point) (event : WorldEvent) (l : ReportLine) → Decided (IsReplayed p event l)
-line_replayed p event (line.Event n replied) = replayed p.standing p.runners event replied
+line_replayed p event (line.Event n replied) = replayed p.standing p.runners (asked event) replied
 line_replayed p event other = inr (λ never. never)
 
 right_or_wrong : (n : ℕ) (p : Point) (event : WorldEvent) (l : ReportLine) (b : Bool) → fits n p.runners event l ≡ b →

@@ -189,7 +189,7 @@ reported_once level h program answers one other a b =
 
 pub commit_led : (s : Standing) (r : Runner) (run : Run) (revision : ℕ) (output : List Value) (trace : List TraceItem) (answers : List CommittedRead) →
     IsRunReported r.level s.history r.program answers run → run.end ≡ DoneEnd →
-    with_writes s run ≡ led_by (Program r.program r.level (reads_in s.history answers) output trace revision ∷ []) s s.moment
+    with_writes s run ≡ led_by (Program r.program r.level (reads_in s.history answers) output trace revision ∷ []) s
 commit_led s r run revision output trace answers reported done =
     let left : left_by_run (run_over (seen_at r.level (reads_in s.history answers) s.history) r.program.statements) (without_moment s)
     ≡ with_history (without_moment s) (history_left s.history (applied_run (without_moment s) run)) =

@@ -2,8 +2,8 @@
 -- have, and of a runner that runs or of the event's watcher.
 use Rattle.std.specs.Prelude.{ℕ, nat_eq, Bool, true, false, ◌&&◌, not, is_some, List, Option, Some, None, Result, Ok, Err}
 use Rattle.stm_events.specs.declared.event.WorldEvent.{WorldEvent}
-use Rattle.stm_events.specs.declared.event.WorldEvent.TheVariants.{Start, Step, Txn, Grant, Keep, Revoke, Advance}
-use Rattle.stm_events.specs.declared.event.WorldEvent.TheVariants.{Compact, WatchKey, WatchRange, Poll, Cancel}
+use Rattle.stm_events.specs.Called as call
+use Rattle.stm_events.specs.Called.{Call, Asked}
 use Rattle.stm_events.specs.declared.line.ReportLine.{ReportLine}
 use Rattle.stm_events.specs.declared.line.ReportLine.TheVariants as line
 use Rattle.stm_events.specs.declared.refusal.Denied.{Denied}
@@ -26,49 +26,33 @@ is_started_next runners limit other = false
 abbrev pub is_step_of : List Runner → ℕ → Reply → Bool
 is_step_of runners id r = is_number id (runner_of r) && is_some (running id runners)
 
--- a watch is reported with the number of a watcher, whichever it is
-abbrev pub is_watching : Reply → Bool
-is_watching (reply.Watching watcher) = true
-is_watching other = false
-
--- a poll is reported of its own watcher, which may be lost
-abbrev pub is_batch_of : ℕ → Reply → Bool
-is_batch_of id (reply.Batch watcher upto events) = nat_eq watcher id
-is_batch_of id (reply.Lost watcher floor) = nat_eq watcher id
-is_batch_of id other = false
-
--- a cancellation is reported of its own watcher
-abbrev pub is_cancelled_of : ℕ → Reply → Bool
-is_cancelled_of id (reply.Cancelled watcher) = nat_eq watcher id
-is_cancelled_of id other = false
+-- each call has replies of its own kind: a watch is reported with the number of a watcher, whichever it is; a poll of its own watcher, which may be
+-- lost; a cancellation of its own watcher
+abbrev pub is_answer_to : Call → Reply → Bool
+is_answer_to (call.Txn txn) (reply.Txn succeeded revision answers) = true
+is_answer_to (call.Grant id ttl) (reply.Granted reported) = true
+is_answer_to (call.Keep id) (reply.Kept reported) = true
+is_answer_to (call.Revoke id) (reply.Revoked reported revision) = true
+is_answer_to (call.Advance moment) (reply.Advanced reported expired) = true
+is_answer_to (call.Compact revision) (reply.Compacted reported) = true
+is_answer_to (call.Watch keys from) (reply.Watching watcher) = true
+is_answer_to (call.Poll id most) (reply.Batch watcher upto events) = nat_eq watcher id
+is_answer_to (call.Poll id most) (reply.Lost watcher floor) = nat_eq watcher id
+is_answer_to (call.Cancel id) (reply.Cancelled watcher) = nat_eq watcher id
+is_answer_to c other = false
 
 -- each kind of reply is one to an event of its own word
-abbrev pub can_reply : List Runner → WorldEvent → Reply → Bool
-can_reply runners (Start program level limit) r = is_started_next runners limit r
-can_reply runners (Step id) r = is_step_of runners id r
-can_reply runners (Txn txn) (reply.Txn succeeded revision answers) = true
-can_reply runners (Txn txn) other = false
-can_reply runners (Grant id ttl) (reply.Granted reported) = true
-can_reply runners (Grant id ttl) other = false
-can_reply runners (Keep id) (reply.Kept reported) = true
-can_reply runners (Keep id) other = false
-can_reply runners (Revoke id) (reply.Revoked reported revision) = true
-can_reply runners (Revoke id) other = false
-can_reply runners (Advance moment) (reply.Advanced reported expired) = true
-can_reply runners (Advance moment) other = false
-can_reply runners (Compact revision) (reply.Compacted reported) = true
-can_reply runners (Compact revision) other = false
-can_reply runners (WatchKey key from) r = is_watching r
-can_reply runners (WatchRange first end from) r = is_watching r
-can_reply runners (Poll watcher most) r = is_batch_of watcher r
-can_reply runners (Cancel watcher) r = is_cancelled_of watcher r
+abbrev pub can_reply : List Runner → Asked → Reply → Bool
+can_reply runners (call.Starts program level limit) r = is_started_next runners limit r
+can_reply runners (call.Steps id) r = is_step_of runners id r
+can_reply runners (call.Calls c) r = is_answer_to c r
 
 -- and any event can be refused
-abbrev pub can_have : List Runner → WorldEvent → Result Reply Denied → Bool
-can_have runners event (Ok r) = can_reply runners event r
-can_have runners event (Err refused) = true
+abbrev pub can_have : List Runner → Asked → Result Reply Denied → Bool
+can_have runners a (Ok r) = can_reply runners a r
+can_have runners a (Err refused) = true
 
 -- a line can stand in the place of the event of this number
 abbrev pub fits : ℕ → List Runner → WorldEvent → ReportLine → Bool
-fits n runners event (line.Event m r) = nat_eq m n && can_have runners event r
+fits n runners event (line.Event m r) = nat_eq m n && can_have runners (call.asked event) r
 fits n runners event other = false

@@ -1,26 +1,27 @@
 -- What a check knows at a point of a report: the store that the lines before it lead to, the moment, how many entries there were, and
 -- the runners.
 --
--- The store is the replay of the entries that the lines reported. A moment is no part of a replay, and is kept beside it, in seconds; nor is
--- the floor, which compactions raise: what they drop in a store stays here, where answers that were given before are looked up. Watchers change
--- no store, and a check has none.
-use Rattle.std.specs.Prelude.{ℕ, ◌+◌, nat_lt, if◌then◌else◌, List, [], ◌∷◌, length, Option, Some, None, Result, Ok, Err}
-use Rattle.stm_history.specs.History.{History, now}
-use Rattle.stm_outcome.specs.declared.txn.Txn.{Txn as StoreTxn}
-use Rattle.stm_txn.specs.Standing.{Standing, Setup, opening, raised}
+-- The store is the replay of the entries that the lines reported. A moment is no part of a replay, nor is the floor, which compactions raise:
+-- they are what the event's call leaves. What a compaction drops in a store stays here, where answers that were given before are looked up.
+-- Watchers change no store, and a check has none.
+use Rattle.std.specs.Prelude.{ℕ, ◌+◌, List, [], ◌∷◌, length, Option, Some, None, Result, Ok}
+use Rattle.stm_history.specs.History.{History}
+use Rattle.stm_steps.specs.declared.value.Value.{Value}
+use Rattle.stm_steps.specs.declared.trace_item.TraceItem.{TraceItem}
+use Rattle.stm_txn.specs.Standing.{Standing, Setup, opening}
 use Rattle.stm_entries.specs.declared.entry.Entry.{Entry}
-use Rattle.stm_entries.specs.declared.entry.Entry.TheVariants.{Program, Foreign, Grant as GrantEntry, Renew, Revoke as RevokeEntry}
-use Rattle.stm_entries.specs.Entered.{expiries}
+use Rattle.stm_entries.specs.declared.entry.Entry.TheVariants.{Program}
 use Rattle.stm_entries.specs.Replayed.{Replayed, without_moment}
 use Rattle.stm_entries.specs.Replay.{replay}
 use Rattle.stm_events.specs.declared.event.WorldEvent.{WorldEvent}
-use Rattle.stm_events.specs.declared.event.WorldEvent.TheVariants.{Step, Txn, Grant, Keep, Revoke, Advance, Compact}
-use Rattle.stm_events.specs.Replies.{reads_in, store_after_call}
+use Rattle.stm_events.specs.Called.{Call, Watch, Poll, Cancel, Asked, Starts, Steps, Calls, asked, called, entered_by}
+use Rattle.stm_events.specs.Replies.{reads_in}
 use Rattle.stm_events.specs.declared.line.ReportLine.{ReportLine}
 use Rattle.stm_events.specs.declared.line.ReportLine.TheVariants as line
 use Rattle.stm_events.specs.declared.refusal.Denied.{Denied}
+use Rattle.stm_events.specs.declared.reply.CommittedRead.{CommittedRead}
 use Rattle.stm_events.specs.declared.reply.Reply.{Reply}
-use Rattle.stm_events.specs.declared.reply.Reply.TheVariants as reply
+use Rattle.stm_events.specs.declared.reply.Reply.TheVariants.{Committed}
 use Rattle.stm_check.specs.declared.runner.Runner.{Runner}
 use Rattle.stm_check.specs.Runners.{running, runners_after}
 
@@ -34,79 +35,62 @@ pub record Point : Type 0 where
 abbrev pub beginning : Setup → Point
 beginning start = record { standing = opening start; entries = 0; runners = [] }
 
--- ---- what the reply to an event adds
+-- ---- what an event and the reply to it add
 
-abbrev pub committed_entry : History → Result Reply Denied → Runner → List Entry
-committed_entry h (Ok (reply.Committed runner revision attempts output trace answers)) r =
-    Program r.program r.level (reads_in h answers) output trace revision ∷ []
-committed_entry h other r = []
+-- of the replies to a step only a commit is an entry, of a runner that runs
+abbrev pub commit_entry : History → ℕ → List Value → List TraceItem → List CommittedRead → Option Runner → List Entry
+commit_entry h revision output trace answers None = []
+commit_entry h revision output trace answers (Some r) = Program r.program r.level (reads_in h answers) output trace revision ∷ []
 
-abbrev pub commit_entries : History → Result Reply Denied → Option Runner → List Entry
-commit_entries h replied None = []
-commit_entries h replied (Some r) = committed_entry h replied r
+abbrev pub step_entries : History → Option Runner → Result Reply Denied → List Entry
+step_entries h runner (Ok (Committed id revision attempts output trace answers)) = commit_entry h revision output trace answers runner
+step_entries h runner other = []
 
--- another client's transaction is entered where the revision went up
-abbrev pub txn_entries : ℕ → StoreTxn → Result Reply Denied → List Entry
-txn_entries before txn (Ok (reply.Txn succeeded revision answers)) = if nat_lt before revision then Foreign txn ∷ [] else []
-txn_entries before txn other = []
+abbrev pub entries_asked : Standing → List Runner → Asked → Result Reply Denied → List Entry
+entries_asked s runners (Starts program level limit) replied = []
+entries_asked s runners (Steps id) replied = step_entries s.history (running id runners) replied
+entries_asked s runners (Calls c) replied = entered_by c s (called s c).next replied
 
-abbrev pub grant_entries : ℕ → ℕ → ℕ → Result Reply Denied → List Entry
-grant_entries id ttl moment (Ok (reply.Granted reported)) = GrantEntry id ttl moment ∷ []
-grant_entries id ttl moment other = []
-
-abbrev pub keep_entries : ℕ → ℕ → Result Reply Denied → List Entry
-keep_entries id moment (Ok (reply.Kept reported)) = Renew id moment ∷ []
-keep_entries id moment other = []
-
-abbrev pub revoke_entries : ℕ → Result Reply Denied → List Entry
-revoke_entries id (Ok (reply.Revoked reported revision)) = RevokeEntry id ∷ []
-revoke_entries id other = []
-
--- each expiry is entered, also of an advance that was refused then
-abbrev pub advance_entries : Result Reply Denied → List Entry
-advance_entries (Ok (reply.Advanced reported expired)) = expiries expired
-advance_entries (Err refused) = expiries refused.expired
-advance_entries other = []
-
--- what the reply to an event reports as entries: a start, a compaction and what is about watchers are none
+-- what the reply to an event reports as entries: no start is one
 abbrev pub entries_reported : Standing → List Runner → WorldEvent → Result Reply Denied → List Entry
-entries_reported s runners (Step id) replied = commit_entries s.history replied (running id runners)
-entries_reported s runners (Txn txn) replied = txn_entries (now s.history) txn replied
-entries_reported s runners (Grant id ttl) replied = grant_entries id ttl s.moment replied
-entries_reported s runners (Keep id) replied = keep_entries id s.moment replied
-entries_reported s runners (Revoke id) replied = revoke_entries id replied
-entries_reported s runners (Advance moment) replied = advance_entries replied
-entries_reported s runners other replied = []
+entries_reported s runners event replied = entries_asked s runners (asked event) replied
 
--- only an advance moves the moment, unless it would go back
-abbrev pub moment_after : Standing → WorldEvent → ℕ
-moment_after s (Advance moment) = if nat_lt moment s.moment then s.moment else moment
-moment_after s other = s.moment
+-- the store that a call leaves; of those about watchers a check makes none
+abbrev pub left_by : Call → Standing → Standing
+left_by (Watch keys from) s = s
+left_by (Poll watcher most) s = s
+left_by (Cancel watcher) s = s
+left_by c s = (called s c).next
 
--- a store with the history and the leases of a replay, at a moment
-abbrev pub with_replayed : Replayed → ℕ → Standing → Standing
-with_replayed r moment s = record s { history = r.history; live = r.live; moment = moment }
+abbrev pub left_asked : Asked → Standing → Standing
+left_asked (Calls c) s = left_by c s
+left_asked other s = s
+
+-- a store with the history and the leases of a replay
+abbrev pub with_replayed : Replayed → Standing → Standing
+with_replayed r s = record s { history = r.history; live = r.live }
 
 -- the store that these entries lead to
-abbrev pub led_by : List Entry → Standing → ℕ → Standing
-led_by entries s moment = with_replayed (replay entries (without_moment s)) moment s
+abbrev pub led_by : List Entry → Standing → Standing
+led_by entries s = with_replayed (replay entries (without_moment s)) s
 
--- a compaction that was reported raises the floor, and no other reply does
-abbrev pub raised_by : WorldEvent → Result Reply Denied → Standing → Standing
-raised_by (Compact revision) (Ok (reply.Compacted reported)) s = store_after_call s (raised s revision)
-raised_by other replied s = s
+-- the store after the reply to a call
+abbrev pub standing_called : Standing → Call → Result Reply Denied → Standing
+standing_called s c replied = with_replayed (replay (entered_by c s (called s c).next replied) (without_moment s)) (left_by c s)
 
 -- the store after the reply to an event
+abbrev pub standing_asked : Standing → List Runner → Asked → Result Reply Denied → Standing
+standing_asked s runners a replied = with_replayed (replay (entries_asked s runners a replied) (without_moment s)) (left_asked a s)
+
 abbrev pub standing_after : Standing → List Runner → WorldEvent → Result Reply Denied → Standing
-standing_after s runners event replied =
-    with_replayed (replay (entries_reported s runners event replied) (without_moment s)) (moment_after s event) (raised_by event replied s)
+standing_after s runners event replied = standing_asked s runners (asked event) replied
 
 -- the point after the reply to an event
 abbrev pub after : Point → WorldEvent → Result Reply Denied → Point
 after p event replied = record {
   standing = standing_after p.standing p.runners event replied;
   entries = p.entries + length (entries_reported p.standing p.runners event replied);
-  runners = runners_after event replied p.runners;
+  runners = runners_after (asked event) replied p.runners;
 }
 
 -- ---- lines in the place of an event: only one of an event has a reply

@@ -3,8 +3,7 @@ use Rattle.std.specs.Prelude.{ℕ, ◌+◌, ◌-◌, nat_eq, false, true, if◌t
 use Rattle.std.specs.Prelude.{slice_get, slice_set}
 use Rattle.stm_program.specs.Syntax.{ProgramTree}
 use Rattle.stm_program.specs.declared.level.Level.{Level}
-use Rattle.stm_events.specs.declared.event.WorldEvent.{WorldEvent}
-use Rattle.stm_events.specs.declared.event.WorldEvent.TheVariants.{Start, Step}
+use Rattle.stm_events.specs.Called.{Asked, Starts, Steps, Calls}
 use Rattle.stm_events.specs.declared.refusal.Denied.{Denied}
 use Rattle.stm_events.specs.declared.reply.Reply.{Reply}
 use Rattle.stm_events.specs.declared.reply.Reply.TheVariants as reply
@@ -57,7 +56,7 @@ abbrev pub after_start : Runner → Result Reply Denied → List Runner → List
 after_start r (Ok (reply.Started runner)) runners = runners ++ r ∷ []
 after_start r other runners = runners
 
-abbrev pub runners_after : WorldEvent → Result Reply Denied → List Runner → List Runner
-runners_after (Start program level limit) replied runners = after_start (begun program level limit) replied runners
-runners_after (Step id) replied runners = after_step id replied runners
-runners_after event replied runners = runners
+abbrev pub runners_after : Asked → Result Reply Denied → List Runner → List Runner
+runners_after (Starts program level limit) replied runners = after_start (begun program level limit) replied runners
+runners_after (Steps id) replied runners = after_step id replied runners
+runners_after (Calls c) replied runners = runners

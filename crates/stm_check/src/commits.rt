@@ -274,7 +274,7 @@ pub(crate) fn replay_commit(
         reported.entry.output.now reported.entry.trace.now reported.entry.answers.now) }
     ensures next { IfOk result (λ b. IsTrue b → store.new.standing
         ≡ led_by (ProgramEntry runner.now.program runner.now.level (reads_in store.old.standing.history reported.entry.answers.now)
-        reported.entry.output.now reported.entry.trace.now reported.entry.revision ∷ []) store.old.standing store.old.standing.moment) }
+        reported.entry.output.now reported.entry.trace.now reported.entry.revision ∷ []) store.old.standing) }
 {
     if !is_next_attempt(runner, reported.attempts) {
         return Ok(false);

@@ -1,28 +1,38 @@
 //! How many entries the reply to an event reports.
 ghost use Rattle.std.specs.Prelude.{◌≡◌, ◌+◌, length, IfOk};
-ghost use Rattle.stm_history.specs.History.{History};
+ghost use Rattle.stm_history.specs.History.{History, now};
 ghost use Rattle.stm_outcome.specs.declared.txn.Txn.{Txn as StoreTxn};
-ghost use Rattle.stm_check.specs.Point.{commit_entries, txn_entries, advance_entries, entries_reported};
+ghost use Rattle.stm_txn.specs.Standing.{Standing};
+ghost use Rattle.stm_entries.specs.declared.entry.Entry.{Entry};
+ghost use Rattle.stm_entries.specs.Entered.{if_changed, expiries};
+ghost use Rattle.stm_events.specs.Called.{Txn as TxnCall, Calls, asked, called, if_reported, expired_reported};
+ghost use Rattle.stm_check.specs.Point.{step_entries, entries_reported};
 ghost use Rattle.stm_check.specs.Runners.{running};
 
 use crate::runner::{Runner, is_running};
 use std::alloc::AllocError;
 use stm_events::{Denied, Reply, WorldEvent};
-use stm_txn::Store;
 
-/// How many entries the reply to a transaction reports, made at this revision.
-fn count_txn(before: u64, reply: &Result<Reply, Denied>) -> u64
-    ensures { (txn : StoreTxn) → result ≡ length (txn_entries before txn reply.now) }
+/// How many entries a transaction is, by the revisions of the store before and after it: one where it changed something.
+fn count_txn(before: u64, after: u64) -> u64
+    ensures { (s next : Standing) (txn : StoreTxn) → now s.history ≡ before → now next.history ≡ after → result ≡ length (if_changed s next txn) }
+{
+    if before < after { 1 } else { 0 }
+}
+
+/// How many entries the reply to a call of one lease reports.
+fn count_taken(reply: &Result<Reply, Denied>) -> u64
+    ensures { (entry : Entry) → result ≡ length (if_reported reply.now entry) }
 {
     match reply {
-        Ok(Reply::Txn { revision, .. }) => { if before < *revision { 1 } else { 0 } }
-        _ => 0,
+        Ok(_) => 1,
+        Err(_) => 0,
     }
 }
 
 /// How many entries the reply to an advance reports.
 fn count_advance(reply: &Result<Reply, Denied>) -> u64
-    ensures { result ≡ length (advance_entries reply.now) }
+    ensures { result ≡ length (expiries (expired_reported reply.now)) }
 {
     match reply {
         Ok(Reply::Advanced { expired, .. }) => expired.len() as u64,
@@ -33,7 +43,7 @@ fn count_advance(reply: &Result<Reply, Denied>) -> u64
 
 /// How many entries the reply to a step reports.
 fn count_step(runners: &[Runner], id: u64, reply: &Result<Reply, Denied>) -> u64
-    ensures { (h : History) → result ≡ length (commit_entries h reply.now (running id runners.now)) }
+    ensures { (h : History) → result ≡ length (step_entries h (running id runners.now) reply.now) }
 {
     match reply {
         Ok(Reply::Committed { .. }) => { if is_running(runners, id) { 1 } else { 0 } }
@@ -41,30 +51,24 @@ fn count_step(runners: &[Runner], id: u64, reply: &Result<Reply, Denied>) -> u64
     }
 }
 
-/// How many entries the reply to an event reports, before the store has made the event's call.
+/// How many entries the reply to an event reports, which led the store from one revision to another.
 pub(crate) fn count_reported(
-    store: &Store,
+    before: u64,
+    after: u64,
     runners: &[Runner],
     event: &WorldEvent,
     reply: &Result<Reply, Denied>,
 ) -> u64
-    ensures { result ≡ length (entries_reported store.now.standing runners.now event.now reply.now) }
+    ensures { (s : Standing) → now s.history ≡ before
+        → ((txn : StoreTxn) → asked event.now ≡ Calls (TxnCall txn) → now (called s (TxnCall txn)).next.history ≡ after)
+        → result ≡ length (entries_reported s runners.now event.now reply.now) }
 {
     match event {
         WorldEvent::Step { runner } => count_step(runners, *runner, reply),
-        WorldEvent::Txn { .. } => count_txn(store.keys().revision(), reply),
-        WorldEvent::Grant { .. } => match reply {
-            Ok(Reply::Granted { .. }) => 1,
-            _ => 0,
-        },
-        WorldEvent::Keep { .. } => match reply {
-            Ok(Reply::Kept { .. }) => 1,
-            _ => 0,
-        },
-        WorldEvent::Revoke { .. } => match reply {
-            Ok(Reply::Revoked { .. }) => 1,
-            _ => 0,
-        },
+        WorldEvent::Txn { .. } => count_txn(before, after),
+        WorldEvent::Grant { .. } => count_taken(reply),
+        WorldEvent::Keep { .. } => count_taken(reply),
+        WorldEvent::Revoke { .. } => count_taken(reply),
         WorldEvent::Advance { .. } => count_advance(reply),
         _ => 0,
     }

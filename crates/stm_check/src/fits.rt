@@ -1,7 +1,8 @@
 //! Whether the reply of a line is of a kind that an event can have.
-ghost use Rattle.std.specs.Prelude.{◌≡◌};
+ghost use Rattle.std.specs.Prelude.{◌≡◌, ℕ};
+ghost use Rattle.stm_events.specs.Called.{Poll, Cancel, asked};
 ghost use Rattle.stm_events.specs.Replies.{runner_of};
-ghost use Rattle.stm_check.specs.Fits.{is_number, is_started_next, is_step_of, is_watching, is_batch_of, is_cancelled_of, can_reply, can_have};
+ghost use Rattle.stm_check.specs.Fits.{is_number, is_started_next, is_step_of, is_answer_to, can_reply, can_have};
 
 use crate::runner::{Runner, is_running, next_number};
 use stm_events::{Denied, Reply, WorldEvent};
@@ -50,19 +51,9 @@ fn is_step_of(runners: &[Runner], id: u64, reply: &Reply) -> bool
     is_number(id, runner_of(reply)) && is_running(runners, id)
 }
 
-/// Whether a reply reports a watch.
-fn is_watching(reply: &Reply) -> bool
-    ensures { result ≡ is_watching reply.now }
-{
-    match reply {
-        Reply::Watching { .. } => true,
-        _ => false,
-    }
-}
-
 /// Whether a reply reports a poll of this watcher, or that it is lost.
 fn is_batch_of(id: u64, reply: &Reply) -> bool
-    ensures { result ≡ is_batch_of id reply.now }
+    ensures { (most : ℕ) → result ≡ is_answer_to (Poll id most) reply.now }
 {
     match reply {
         Reply::Batch { watcher, .. } => *watcher == id,
@@ -73,7 +64,7 @@ fn is_batch_of(id: u64, reply: &Reply) -> bool
 
 /// Whether a reply reports that this watcher was given up.
 fn is_cancelled_of(id: u64, reply: &Reply) -> bool
-    ensures { result ≡ is_cancelled_of id reply.now }
+    ensures { result ≡ is_answer_to (Cancel id) reply.now }
 {
     match reply {
         Reply::Cancelled { watcher } => *watcher == id,
@@ -83,37 +74,19 @@ fn is_cancelled_of(id: u64, reply: &Reply) -> bool
 
 /// Whether a reply is of a kind that an event can have, and of a runner that runs.
 fn can_reply(runners: &[Runner], event: &WorldEvent, reply: &Reply) -> bool
-    ensures { result ≡ can_reply runners.now event.now reply.now }
+    ensures { result ≡ can_reply runners.now (asked event.now) reply.now }
 {
     match event {
         WorldEvent::Start { limit, .. } => is_started_next(runners, *limit, reply),
         WorldEvent::Step { runner } => is_step_of(runners, *runner, reply),
-        WorldEvent::Txn { .. } => match reply {
-            Reply::Txn { .. } => true,
-            _ => false,
-        },
-        WorldEvent::Grant { .. } => match reply {
-            Reply::Granted { .. } => true,
-            _ => false,
-        },
-        WorldEvent::Keep { .. } => match reply {
-            Reply::Kept { .. } => true,
-            _ => false,
-        },
-        WorldEvent::Revoke { .. } => match reply {
-            Reply::Revoked { .. } => true,
-            _ => false,
-        },
-        WorldEvent::Advance { .. } => match reply {
-            Reply::Advanced { .. } => true,
-            _ => false,
-        },
-        WorldEvent::Compact { .. } => match reply {
-            Reply::Compacted { .. } => true,
-            _ => false,
-        },
-        WorldEvent::WatchKey { .. } => is_watching(reply),
-        WorldEvent::WatchRange { .. } => is_watching(reply),
+        WorldEvent::Txn { .. } => matches!(reply, Reply::Txn { .. }),
+        WorldEvent::Grant { .. } => matches!(reply, Reply::Granted { .. }),
+        WorldEvent::Keep { .. } => matches!(reply, Reply::Kept { .. }),
+        WorldEvent::Revoke { .. } => matches!(reply, Reply::Revoked { .. }),
+        WorldEvent::Advance { .. } => matches!(reply, Reply::Advanced { .. }),
+        WorldEvent::Compact { .. } => matches!(reply, Reply::Compacted { .. }),
+        WorldEvent::WatchKey { .. } => matches!(reply, Reply::Watching { .. }),
+        WorldEvent::WatchRange { .. } => matches!(reply, Reply::Watching { .. }),
         WorldEvent::Poll { watcher, .. } => is_batch_of(*watcher, reply),
         WorldEvent::Cancel { watcher } => is_cancelled_of(*watcher, reply),
     }
@@ -125,7 +98,7 @@ pub(crate) fn can_have(
     event: &WorldEvent,
     reply: &Result<Reply, Denied>,
 ) -> bool
-    ensures { result ≡ can_have runners.now event.now reply.now }
+    ensures { result ≡ can_have runners.now (asked event.now) reply.now }
 {
     match reply {
         Ok(reply) => can_reply(runners, event, reply),

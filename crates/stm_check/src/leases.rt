@@ -5,8 +5,9 @@ ghost use Rattle.stm_entries.specs.Replayed.{Replayed, without_moment};
 ghost use Rattle.stm_entries.specs.LiveLeases.{HasLeases};
 ghost use Rattle.stm_entries.specs.Replay.{replay};
 ghost use Rattle.stm_entries.specs.Entered.{expiries};
+ghost use Rattle.stm_events.specs.Called.{expired_reported};
 ghost use Rattle.stm_check.specs.declared.runner.Runner.{Runner as Run};
-ghost use Rattle.stm_check.specs.Point.{advance_entries, entries_reported};
+ghost use Rattle.stm_check.specs.Point.{entries_reported};
 
 use std::alloc::AllocError;
 use std::collections::BTreeMap;
@@ -25,7 +26,7 @@ fn expire(leases: &mut BTreeMap<u64, LiveLease>, expired: &[Expired])
 
 /// Takes over what the reply to an advance reports of the live leases.
 fn note_advance(leases: &mut BTreeMap<u64, LiveLease>, reply: &Result<Reply, Denied>)
-    ensures { (r : Replayed) → HasLeases leases.old r.live → HasLeases leases.new (replay (advance_entries reply.now) r).live }
+    ensures { (r : Replayed) → HasLeases leases.old r.live → HasLeases leases.new (replay (expiries (expired_reported reply.now)) r).live }
 {
     match reply {
         Ok(Reply::Advanced { expired, .. }) => expire(leases, expired.as_slice()),
@@ -46,25 +47,25 @@ pub(crate) fn note_leases(
 {
     match event {
         WorldEvent::Grant { id, ttl } => match reply {
-            Ok(Reply::Granted { .. }) => {
+            Ok(_) => {
                 let lease = LiveLease {
                     ttl: *ttl,
                     renewed: moment,
                 };
                 begin_lease(leases, *id, lease)
             }
-            _ => Ok(()),
+            Err(_) => Ok(()),
         },
         WorldEvent::Keep { id } => match reply {
-            Ok(Reply::Kept { .. }) => renew_lease(leases, *id, moment),
-            _ => Ok(()),
+            Ok(_) => renew_lease(leases, *id, moment),
+            Err(_) => Ok(()),
         },
         WorldEvent::Revoke { id } => match reply {
-            Ok(Reply::Revoked { .. }) => {
+            Ok(_) => {
                 end_lease(leases, *id);
                 Ok(())
             }
-            _ => Ok(()),
+            Err(_) => Ok(()),
         },
         WorldEvent::Advance { .. } => {
             note_advance(leases, reply);

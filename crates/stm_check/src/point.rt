@@ -1,6 +1,6 @@
 //! What a check knows at a point of a report, and what the line of an event makes of it.
 ghost use Rattle.std.specs.Prelude.{◌≡◌, ◌↔◌, IsTrue, IfOk, IfSome, Some, None, Ok, option_copied};
-ghost use Rattle.stm_check.specs.Point.{commit_entries, led_by, standing_after, beginning, after, after_line};
+ghost use Rattle.stm_check.specs.Point.{step_entries, led_by, standing_after, beginning, after, after_line};
 ghost use Rattle.stm_check.specs.Replays.{StartReplays, StepReplays, Replays};
 ghost use Rattle.stm_check.specs.Wrong.{IsRight, IsWrong};
 ghost use Rattle.stm_entries.specs.LiveLeases.{HasLeases};
@@ -51,7 +51,7 @@ fn taken_step_replays(
 ) -> Result<bool, AllocError>
     ensures right { IfOk result (λ b. IsTrue b ↔ StepReplays store.old.standing (option_copied runner.entry) (Ok reply.now)) }
     ensures next { IfOk result (λ b. IsTrue b → store.new.standing
-        ≡ led_by (commit_entries store.old.standing.history (Ok reply.now) (option_copied runner.entry)) store.old.standing store.old.standing.moment) }
+        ≡ led_by (step_entries store.old.standing.history (option_copied runner.entry) (Ok reply.now)) store.old.standing) }
 {
     match reply {
         Reply::Committed {
@@ -87,7 +87,7 @@ fn step_replays(
 ) -> Result<bool, AllocError>
     ensures right { IfOk result (λ b. IsTrue b ↔ StepReplays store.old.standing (option_copied runner.entry) reply.now) }
     ensures next { IfOk result (λ b. IsTrue b → store.new.standing
-        ≡ led_by (commit_entries store.old.standing.history reply.now (option_copied runner.entry)) store.old.standing store.old.standing.moment) }
+        ≡ led_by (step_entries store.old.standing.history (option_copied runner.entry) reply.now) store.old.standing) }
 {
     match reply {
         Ok(taken) => taken_step_replays(alloc, store, runner, taken),
@@ -148,8 +148,10 @@ impl Point {
         ensures leases { IfOk result (λ b. IsTrue b → HasLeases self.old.leases self.old.store.standing.live
             → HasLeases self.new.leases self.new.store.standing.live) }
     {
-        let more = count_reported(&self.store, self.runners.as_slice(), event, reply);
+        // (the store's type says that it takes at most 128 operations)
+        let _few = self.store.limit();
         let moment = self.store.moment();
+        let before = self.store.keys().revision();
         if !replays(
             self.alloc,
             &mut self.store,
@@ -159,6 +161,8 @@ impl Point {
         )? {
             return Ok(false);
         }
+        let revision = self.store.keys().revision();
+        let more = count_reported(before, revision, self.runners.as_slice(), event, reply);
         self.entries = add_count(self.entries, more)?;
         note(&mut self.runners, event, reply)?;
         note_leases(&mut self.leases, moment, event, reply)?;

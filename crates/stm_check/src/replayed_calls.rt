@@ -1,12 +1,10 @@
 //! Whether a reply is what a call of the store comes to. The call is made.
 ghost use Rattle.std.specs.Prelude.{◌≡◌, ◌≢◌, ◌↔◌, IsTrue, IfOk, OnOk, Ok, Err};
-ghost use Rattle.stm_check.specs.Point.{led_by, moment_after, txn_entries, grant_entries, keep_entries, revoke_entries, advance_entries, raised_by};
-ghost use Rattle.stm_history.specs.History.{now};
-ghost use Rattle.stm_txn.specs.Standing.{transacted, granted, kept_alive, revoked, advanced, raised};
+ghost use Rattle.stm_check.specs.Point.{standing_called};
+ghost use Rattle.stm_check.specs.Replays.{CallReplays};
 ghost use Rattle.stm_outcome.specs.declared.refusal.Refusal.TheVariants.{OutOfMemory};
-ghost use Rattle.stm_events.specs.Replies.{event_refusal, denied, txn_reply, reply_to, advance_reply};
-ghost use Rattle.stm_events.specs.declared.reply.Reply.TheVariants.{Granted, Kept, Revoked, Compacted};
-ghost use Rattle.stm_events.specs.declared.event.WorldEvent.TheVariants.{Advance as AdvanceEvent, Compact as CompactEvent};
+ghost use Rattle.stm_events.specs.Called as call;
+ghost use Rattle.stm_events.specs.Replies.{event_refusal, denied, txn_reply};
 
 use std::alloc::{AllocError, Global};
 use stm_events::{Denied, EventRefusal, Reply, are_same_outcomes, is_txn_reply};
@@ -80,8 +78,8 @@ pub(crate) fn replay_txn(
     txn: &Txn,
     reply: &Result<Reply, Denied>,
 ) -> Result<bool, AllocError>
-    ensures right { IfOk result (λ b. IsTrue b ↔ reply_to txn_reply (transacted store.old.standing txn.now) ≡ reply.now) }
-    ensures next { IfOk result (λ b. IsTrue b → store.new.standing ≡ led_by (txn_entries (now store.old.standing.history) txn.now reply.now) store.old.standing store.old.standing.moment) }
+    ensures right { IfOk result (λ b. IsTrue b ↔ CallReplays store.old.standing (call.Txn txn.now) reply.now) }
+    ensures next { IfOk result (λ b. IsTrue b → store.new.standing ≡ standing_called store.old.standing (call.Txn txn.now) reply.now) }
 {
     // (the store's type says that it takes at most 128 operations)
     let _few = store.limit();
@@ -99,8 +97,8 @@ pub(crate) fn replay_grant(
     ttl: u64,
     reply: &Result<Reply, Denied>,
 ) -> Result<bool, AllocError>
-    ensures right { IfOk result (λ b. IsTrue b ↔ reply_to (λ _. Granted id) (granted store.old.standing id ttl) ≡ reply.now) }
-    ensures next { IfOk result (λ b. IsTrue b → store.new.standing ≡ led_by (grant_entries id ttl store.old.standing.moment reply.now) store.old.standing store.old.standing.moment) }
+    ensures right { IfOk result (λ b. IsTrue b ↔ CallReplays store.old.standing (call.Grant id ttl) reply.now) }
+    ensures next { IfOk result (λ b. IsTrue b → store.new.standing ≡ standing_called store.old.standing (call.Grant id ttl) reply.now) }
 {
     match store.grant(id, ttl) {
         Ok(()) => Ok(is_reply(reply, Ok(Reply::Granted { id }))),
@@ -115,8 +113,8 @@ pub(crate) fn replay_keep(
     id: u64,
     reply: &Result<Reply, Denied>,
 ) -> Result<bool, AllocError>
-    ensures right { IfOk result (λ b. IsTrue b ↔ reply_to (λ _. Kept id) (kept_alive store.old.standing id) ≡ reply.now) }
-    ensures next { IfOk result (λ b. IsTrue b → store.new.standing ≡ led_by (keep_entries id store.old.standing.moment reply.now) store.old.standing store.old.standing.moment) }
+    ensures right { IfOk result (λ b. IsTrue b ↔ CallReplays store.old.standing (call.Keep id) reply.now) }
+    ensures next { IfOk result (λ b. IsTrue b → store.new.standing ≡ standing_called store.old.standing (call.Keep id) reply.now) }
 {
     match store.keep_alive(id) {
         Ok(()) => Ok(is_reply(reply, Ok(Reply::Kept { id }))),
@@ -131,8 +129,8 @@ pub(crate) fn replay_revoke(
     id: u64,
     reply: &Result<Reply, Denied>,
 ) -> Result<bool, AllocError>
-    ensures right { IfOk result (λ b. IsTrue b ↔ reply_to (Revoked id) (revoked store.old.standing id) ≡ reply.now) }
-    ensures next { IfOk result (λ b. IsTrue b → store.new.standing ≡ led_by (revoke_entries id reply.now) store.old.standing store.old.standing.moment) }
+    ensures right { IfOk result (λ b. IsTrue b ↔ CallReplays store.old.standing (call.Revoke id) reply.now) }
+    ensures next { IfOk result (λ b. IsTrue b → store.new.standing ≡ standing_called store.old.standing (call.Revoke id) reply.now) }
 {
     match store.revoke(id) {
         Ok(revision) => Ok(is_reply(reply, Ok(Reply::Revoked { id, revision }))),
@@ -146,8 +144,8 @@ pub(crate) fn replay_advance(
     moment: u64,
     reply: &Result<Reply, Denied>,
 ) -> Result<bool, AllocError>
-    ensures right { IfOk result (λ b. IsTrue b ↔ advance_reply moment (advanced store.old.standing moment).expired (advanced store.old.standing moment).cause ≡ reply.now) }
-    ensures next { IfOk result (λ b. IsTrue b → store.new.standing ≡ led_by (advance_entries reply.now) store.old.standing (moment_after store.old.standing (AdvanceEvent moment))) }
+    ensures right { IfOk result (λ b. IsTrue b ↔ CallReplays store.old.standing (call.Advance moment) reply.now) }
+    ensures next { IfOk result (λ b. IsTrue b → store.new.standing ≡ standing_called store.old.standing (call.Advance moment) reply.now) }
 {
     match store.advance(moment) {
         Ok(expired) => {
@@ -171,8 +169,8 @@ pub(crate) fn replay_compact(
     revision: u64,
     reply: &Result<Reply, Denied>,
 ) -> Result<bool, AllocError>
-    ensures right { IfOk result (λ b. IsTrue b ↔ reply_to (λ _. Compacted revision) (raised store.old.standing revision) ≡ reply.now) }
-    ensures next { IfOk result (λ b. IsTrue b → store.new.standing ≡ raised_by (CompactEvent revision) reply.now store.old.standing) }
+    ensures right { IfOk result (λ b. IsTrue b ↔ CallReplays store.old.standing (call.Compact revision) reply.now) }
+    ensures next { IfOk result (λ b. IsTrue b → store.new.standing ≡ standing_called store.old.standing (call.Compact revision) reply.now) }
 {
     match store.raise_floor(revision) {
         Ok(()) => Ok(is_reply(reply, Ok(Reply::Compacted { revision }))),

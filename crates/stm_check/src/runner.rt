@@ -1,5 +1,6 @@
 //! The runs of runners, as the replies to events say.
 ghost use Rattle.std.specs.Prelude.{◌≡◌, ◌++◌, ◌∷◌, [], is_some, option_copied, OnOk};
+ghost use Rattle.stm_events.specs.Called.{asked};
 ghost use Rattle.stm_check.specs.Runners.{next_runner, started_in, running, with_conflict, ended, with_runner, begun, after_step, runners_after};
 
 use std::alloc::AllocError;
@@ -144,7 +145,7 @@ pub(crate) fn note(
     event: &WorldEvent,
     reply: &Result<Reply, Denied>,
 ) -> Result<(), AllocError>
-    ensures { OnOk result (runners.new.items ≡ runners_after event.now reply.now runners.old.items) }
+    ensures { OnOk result (runners.new.items ≡ runners_after (asked event.now) reply.now runners.old.items) }
 {
     match event {
         WorldEvent::Start {

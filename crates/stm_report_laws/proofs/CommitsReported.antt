@@ -9,10 +9,12 @@ use Rattle.stm_steps.specs.declared.value.Value.{Value}
 use Rattle.stm_steps.specs.declared.trace_item.TraceItem.{TraceItem}
 use Rattle.stm_steps.specs.declared.run.End.{End}
 use Rattle.stm_steps.specs.declared.run.Run.{Run}
+use Rattle.stm_steps.specs.declared.run.End.TheVariants.{Done as DoneEnd, Aborted as AbortedEnd, Faulted as FaultedEnd}
 use Rattle.stm_steps.specs.declared.run.Answered.{Answered}
+use Rattle.stm_steps.specs.declared.run.Answered.TheVariants.{Ended, Wants}
 use Rattle.stm_meaning.specs.Answer.{Lookup}
 use Rattle.stm_meaning.specs.Meaning.{run_over}
-use Rattle.stm_txn.specs.Standing.{Standing, with_history as with_standing_history}
+use Rattle.stm_txn.specs.Standing.{Standing}
 use Rattle.stm_program.specs.Levels.{is_comparing}
 use Rattle.stm_compile.specs.Answers.{AreTrue, answer_in, look_up, said, state_now}
 use Rattle.stm_entries.specs.Replayed.{Replayed, without_moment}
@@ -22,11 +24,13 @@ use Rattle.stm_events.specs.declared.reply.CommittedRead.{CommittedRead}
 use Rattle.stm_events.specs.Replies.{committed_read, reads_in}
 use Rattle.stm_events.specs.FirstReads.{keys_first_read}
 use Rattle.stm_world.specs.Asked.{keys_read}
+use Rattle.stm_world.specs.Log.{with_commit}
 use Rattle.stm_world.specs.Right.{Situation, IsCommitted}
+use Rattle.stm_world.specs.Task.{Task}
 use Rattle.stm_check.specs.Point.{led_by}
 use Rattle.stm_check.specs.Replays.{AreTrulyReported, AnswersFit, keys_reported, IsRightCommit}
 use Rattle.stm_check.specs.Runs.{IsRunReported, revision_reached}
-use Rattle.stm_check.proofs.CommitLemmas.{right_commit, commit_led}
+use Rattle.stm_check.proofs.CommitLemmas.{right_commit}
 use Rattle.stm_report_laws.proofs.RunsReported.{run_with}
 use Rattle.stm_report_laws.proofs.CallsReported.{unwatched}
 
@@ -117,19 +121,21 @@ commit_right at revision attempts conflicts output trace answers e =
       may_be_sent = e.may_be_sent;
     })
 
+-- ---- the store after it
+
+end_live : (run : Run) (end : End) (r : Replayed) → (left_by run end r).live ≡ r.live
+end_live run DoneEnd r = refl
+end_live run (AbortedEnd text) r = refl
+end_live run (FaultedEnd fault) r = refl
+
+run_live : (a : Answered) (r : Replayed) → (left_by_run a r).live ≡ r.live
+run_live (Ended run) r = end_live run run.end r
+run_live (Wants key trace) r = refl
+
 -- the entry of the line leads to what the program's run leaves
-pub commit_store : (at : Situation) (revision attempts conflicts : ℕ) (output : List Value) (trace : List TraceItem) (answers : List CommittedRead) →
-    IsCommitLine at revision attempts conflicts output trace answers →
-    led_by (Program at.task.program at.task.level (reads_in at.store.history answers) output trace revision ∷ []) (unwatched at.store) at.store.moment
-    ≡ unwatched (with_standing_history at.store
-    (left_by_run (run_over (seen_at at.task.level (reads_in at.store.history answers) at.store.history) at.task.program.statements)
-    (without_moment at.store)).history)
-commit_store at revision attempts conflicts output trace answers e =
-    let s : Standing = at.store in
-    let run : Run = e.right.commits.run in
-    let reported : IsRunReported at.task.level s.history at.task.program answers run =
-    run_is_reported at revision attempts conflicts output trace answers e in
-    sym (commit_led (unwatched s) (run_with conflicts at.task) run revision output trace answers reported e.right.commits.is_done)
-    ∙ ap (λ (r : Replayed). unwatched (with_standing_history s r.history))
-    (sym (ap (λ (a : Answered). left_by_run a (without_moment s)) reported.is_run
-    ∙ ap (λ (end : End). left_by run end (without_moment s)) e.right.commits.is_done))
+pub commit_store : (s : Standing) (task : Task) (revision : ℕ) (output : List Value) (trace : List TraceItem) (answers : List CommittedRead) →
+    led_by (Program task.program task.level (reads_in s.history answers) output trace revision ∷ []) (unwatched s)
+    ≡ unwatched (with_commit s answers (Some task))
+commit_store s task revision output trace answers =
+    let a : Answered = run_over (seen_at task.level (reads_in s.history answers) s.history) task.program.statements in
+    λ k. record (unwatched s) { history = (left_by_run a (without_moment s)).history; live = run_live a (without_moment s) k }

@@ -40,13 +40,8 @@ pub none_are_reported : RunsAreReported [] []
 none_are_reported = record { count = refl; runs = λ id. none_by (nat_eq id 0) }
 
 -- which runner a reply begins, ends, or reports a conflict of
-pub record SaysOfRuns (reply : Result Reply Denied) (begins ends fails : Option ℕ) : Type 0 where
-  pub begins_is : runner_started reply ≡ begins
-  pub ends_is : runner_ended reply ≡ ends
-  pub fails_is : runner_in_conflict reply ≡ fails
-
-abbrev pub SaysNothing : Result Reply Denied → Type 0
-SaysNothing reply = SaysOfRuns reply None None None
+abbrev pub SaysOfRuns : Result Reply Denied → Option ℕ → Option ℕ → Option ℕ → Type 0
+SaysOfRuns reply begins ends fails = (runner_started reply ≡ begins) × (runner_ended reply ≡ ends) × (runner_in_conflict reply ≡ fails)
 
 -- what a log says of a runner, by what its last line says
 reported_by : (line : Line) (log : List Line) (begins ends fails : Option ℕ) → SaysOfRuns line.reply begins ends fails → (id : ℕ) →
@@ -54,12 +49,12 @@ reported_by : (line : Line) (log : List Line) (begins ends fails : Option ℕ) �
     ≡ runs_with (cond (is_id id fails) (failures id log + 1) (failures id log))
     (cond (is_id id ends || is_over id log) None (cond (is_id id begins) (task_in line.event) (begun id log)))
 reported_by line log begins ends fails says id =
-    λ i. runs_with (cond (is_id id (says.fails_is i)) (failures id log + 1) (failures id log))
-    (cond (is_id id (says.ends_is i) || is_over id log) None (cond (is_id id (says.begins_is i)) (task_in line.event) (begun id log)))
+    λ i. runs_with (cond (is_id id (says.2 i)) (failures id log + 1) (failures id log))
+    (cond (is_id id (says.1 i) || is_over id log) None (cond (is_id id (says.0 i)) (task_in line.event) (begun id log)))
 
 count_by : (line : Line) (log : List Line) (begins ends fails : Option ℕ) → SaysOfRuns line.reply begins ends fails →
     started (line ∷ log) ≡ cond (is_start begins) (started log + 1) (started log)
-count_by line log begins ends fails says = ap (λ (o : Option ℕ). cond (is_start o) (started log + 1) (started log)) says.begins_is
+count_by line log begins ends fails says = ap (λ (o : Option ℕ). cond (is_start o) (started log + 1) (started log)) says.0
 
 -- of one runner, and of the others
 by_id : (P : ℕ → Type 0) (id : ℕ) → P id → ((other : ℕ) → nat_eq id other ≡ false → P other) → (other : ℕ) → P other
@@ -69,7 +64,8 @@ by_id P id mine others other =
       | false ↦ λ is. others other is
     ] refl
 
-pub same_runs : (line : Line) (log : List Line) (rs : List Runner) → SaysNothing line.reply → RunsAreReported log rs → RunsAreReported (line ∷ log) rs
+pub same_runs : (line : Line) (log : List Line) (rs : List Runner) → SaysOfRuns line.reply None None None → RunsAreReported log rs →
+    RunsAreReported (line ∷ log) rs
 same_runs line log rs says reported = record {
   count = reported.count ∙ sym (count_by line log None None None says);
   runs = λ id. reported.runs id ∙ sym (reported_by line log None None None says id);

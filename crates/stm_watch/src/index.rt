@@ -172,6 +172,13 @@ impl Index {
         self.nodes[index] = Some(moved);
     }
 
+    /// How many watchers are ready.
+    pub(crate) fn ready_count(&self) -> usize
+        requires { (ws : List (Option Kept)) × Covers self.now ws }
+    {
+        self.lists.len(self.ready)
+    }
+
     /// The number of a watcher that is ready, if there is one.
     pub(crate) fn next_ready(&self) -> Option<u64>
         requires { (ws : List (Option Kept)) × Covers self.now ws }

@@ -307,11 +307,20 @@ impl Page {
         self.reach.until < revision || self.reach.bounds.may_have(key)
     }
 
-    /// Finds out whom a change at a revision may concern, where one of this key may concern anybody. Where an allocation fails everything stays as it was.
-    pub(crate) fn settle(&mut self, slots: &Slots, revision: u64, key: &Text)
+    /// Forgets whom a change may concern, where one of this key may concern anybody: one of them was made ready.
+    pub(crate) fn unsettle(&mut self, key: &Text)
+        ensures { (ws : List (Option Kept)) (e : Entry) → StandsOn ws e self.old → StandsOn ws e self.new }
+    {
+        if self.reach.bounds.may_have(key) {
+            self.reach.until = 0;
+        }
+    }
+
+    /// Finds out whom a change at a revision may concern, where that is not known. Where an allocation fails everything stays as it was.
+    pub(crate) fn settle(&mut self, slots: &Slots, revision: u64)
         ensures { (e : Entry) → StandsOn slots.now e self.old → StandsOn slots.now e self.new }
     {
-        if !self.may_concern(revision, key) {
+        if self.reach.until >= revision {
             return;
         }
         let entries = self.entries.as_slice();

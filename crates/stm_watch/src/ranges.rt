@@ -169,12 +169,21 @@ impl Ranges {
         }
     }
 
-    /// Finds out whom a change of a key at a revision may concern, on each page where it may concern anybody. It takes no memory.
-    pub(crate) fn settle(&mut self, slots: &Slots, revision: u64, key: &Text)
+    /// Forgets whom a change may concern, on each page where one of this key may concern anybody.
+    pub(crate) fn unsettle(&mut self, key: &Text)
+        ensures { Keeps self.old.pages.items self.new.pages.items }
+    {
+        for at in 0..self.pages.len() {
+            self.pages[at].unsettle(key);
+        }
+    }
+
+    /// Finds out whom a change at a revision may concern, on each page of which that is not known. It takes no memory.
+    pub(crate) fn settle(&mut self, slots: &Slots, revision: u64)
         ensures { (e : Entry) → HasEntry slots.now self.old.pages.items e → HasEntry slots.now self.new.pages.items e }
     {
         for at in 0..self.pages.len() {
-            self.pages[at].settle(slots, revision, key);
+            self.pages[at].settle(slots, revision);
         }
     }
 }

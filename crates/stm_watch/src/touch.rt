@@ -4,7 +4,7 @@ ghost use Rattle.indexmap.specs.IndexMap.{get_by_text};
 ghost use Rattle.stm_keys.specs.Events.{change_of_event};
 ghost use Rattle.stm_lists.specs.Lists.{Place, StandsAt, list_at};
 ghost use Rattle.stm_watch.specs.Kept.{Covers, places_on, places_at};
-ghost use Rattle.stm_watch.specs.Pages.{AreFound, IsAny, IsTouched, Reaches, ReachesOn};
+ghost use Rattle.stm_watch.specs.Pages.{AreFound, IsAny, IsTouched, Keeps, Reaches, ReachesOn};
 ghost use Rattle.stm_watch.specs.Touch.{touch, touch_key, touch_at, touch_each};
 
 use crate::index::Index;
@@ -107,15 +107,36 @@ fn touch_pages(slots: &mut Slots, index: &mut Index, pages: &[Page], revision: u
     }
 }
 
+/// Notes it for those on pages. Where that makes one ready, the bounds of its page are to leave it out.
+fn touch_ranges(
+    slots: &mut Slots,
+    index: &mut Index,
+    ranges: &mut Ranges,
+    revision: u64,
+    key: &Text,
+)
+    requires { Covers index.old slots.old }
+    ensures slots { IsTouched revision key.now (λ i. IsAny (ReachesOn revision key.now i) ranges.old.pages.items) slots.old slots.new }
+    ensures covers { Covers index.new slots.new }
+    ensures kept { Keeps ranges.old.pages.items ranges.new.pages.items }
+{
+    let before = index.ready_count();
+    touch_pages(slots, index, ranges.pages.as_slice(), revision, key);
+    let after = index.ready_count();
+    if after > before {
+        ranges.unsettle(key);
+    }
+}
+
 /// Notes a change of a key at a new revision for all watchers that it concerns.
 fn touch_of(slots: &mut Slots, index: &mut Index, ranges: &mut Ranges, revision: u64, key: &Text)
     requires { AreFound index.old ranges.old slots.old }
     ensures slots { slots.new ≡ map (option_map (touch_key revision key.now)) slots.old }
     ensures found { AreFound index.new ranges.new slots.new }
 {
-    ranges.settle(slots, revision, key);
+    ranges.settle(slots, revision);
     touch_its_own(slots, index, revision, key);
-    touch_pages(slots, index, ranges.pages.as_slice(), revision, key);
+    touch_ranges(slots, index, ranges, revision, key);
 }
 
 /// Notes a new revision with these events for all watchers that it concerns.

@@ -396,6 +396,14 @@ ready_leaves id r q ready outcome j after same reported leaves =
     same leaves in
     commit_leaves id r found.0 ready outcome (workplace j r) after found.1 (mine found.0 found.1)
 
+-- the same of a commit that may have been reported
+pub ready_leaves_quietly : (id : ℕ) (r q last : Runner) (ready : ReadyRun) (o : Option StepOutcome) (j : JournalState) → q ≡ r → next_for r ≡ Ready ready →
+    IfSome o (λ outcome. (run : Run) → IsReady q run ready → Leaves id (Ok outcome) (workplace j q) (workplace j last) (commit id q q.known.reads run)) →
+    IfSome o (λ outcome. Leaves id (Ok outcome) (workplace j r) (workplace j last) (step_live id r))
+ready_leaves_quietly id r q last ready None j same reported leaves = tt
+ready_leaves_quietly id r q last ready (Some outcome) j same reported leaves =
+    ready_leaves id r q ready (Ok outcome) j (workplace j last) same reported leaves
+
 -- the run that is ready is the run on its answers
 pub ready_runs : (r : Runner) (run : Run) (ready : ReadyRun) → IsReady r run ready → run_on ready.program ready.answers ≡ EndedRun run
 ready_runs r run ready x = ap (λ (p : ReadyRun). run_on p.program p.answers) x.is ∙ x.is_run

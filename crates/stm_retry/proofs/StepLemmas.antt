@@ -1,7 +1,7 @@
 -- The parts of a runner's step, as the code has them at hand.
 use Rattle.std.proofs.Common.{◌≡◌, ◌≢◌, ℕ, ◌+◌, ◌<◌, List, [], ◌∷◌, ◌++◌, length, map, Option, Some, None, Result, Ok, Err, Bool, true, false, cond, refl, sym}
 use Rattle.std.proofs.Common.{◌∙◌, ap, subst, ◌⊎◌, inl, inr}
-use Rattle.std.specs.Prelude.{nat_eq, nat_lt, slice_get, IsOk, is_ok, IfOk, OnOk, OnErr}
+use Rattle.std.specs.Prelude.{nat_eq, nat_lt, slice_get, IsOk, is_ok, IfOk, IfSome, OnOk, OnErr}
 use Rattle.std.specs.declared.alloc.AllocError.{AllocError}
 use Rattle.std.proofs.lemmas.List.Elements.{All-nil, All-cons, All-head, All-tail}
 use Rattle.stm_history.specs.declared.key_state.ReadAnswer.{ReadAnswer}

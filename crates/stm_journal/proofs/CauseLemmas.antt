@@ -26,7 +26,7 @@ use Rattle.stm_journal.specs.declared.verdict.Verdict.TheVariants.{Committed}
 use Rattle.stm_journal.specs.declared.refusal.CommitRefusal.{CommitRefusal}
 use Rattle.stm_journal.specs.declared.refusal.CommitRefusal.TheVariants.{Store, Unvouched as UnvouchedRefusal}
 use Rattle.stm_journal.specs.JournalState.{JournalState, JournalStep, journal_of, gone_on}
-use Rattle.stm_journal.specs.Causes.{cause_unvouched, cause_failed, cause_wrong, cause_of, unless_wrong, checked, IsClear, IsSentAs, TurnsDown}
+use Rattle.stm_journal.specs.Causes.{cause_unvouched, cause_failed, cause_wrong, cause_of, unless_wrong, checked, IsClear, IsForeseenBy, TurnsDown}
 use Rattle.stm_journal.specs.Verdicts.{txn_of, entry_of, taken, taken_by_store, failed_with, decided, sent_as, sent, SentReturns, SendsAs}
 use Rattle.stm_journal.specs.Verdicts.{first_unvouched, refused_by_store, unless_unvouched, verdict_of, CommitReturns, CommitsAs, CanGoOn}
 use Rattle.stm_journal.proofs.Sending.{IsCompared, verdict_compared, verdict_at_fault, verdict_taken}
@@ -210,15 +210,21 @@ wrong_for (Some c) failed cause is = cc
 wrong_for None failed cause is = absurd (cc)
 
 -- its transaction is wrong as a whole
-pub sent_wrong : (s : Standing) (es : List Entry) (ready : ReadyRun) (cause : Refusal) → checked s ready ≡ Err cause →
-    SendsAs (λ journal. sent journal ready) (Err cause) s es s es
-sent_wrong s es ready cause is = λ start.
+pub foreseen_wrong : (s : Standing) (ready : ReadyRun) (cause : Refusal) → checked s ready ≡ Err cause → IsForeseenBy s ready (Err cause)
+foreseen_wrong s ready cause is = λ journal same.
     let fault = wrong_for (fault_of s.limit (txn_of ready)) (first_failed (key_now s.history) 0 (txn_of ready).compares) cause is in
-    let failed = first_failed (key_now s.history) 0 (txn_of ready).compares in (
-      inr (ap (λ (o : Option Refusal). sent_as (journal_of s es start) ready
-          (unless o (branch_outcome (terms_of s) failed (chosen failed (txn_of ready))))) fault),
+    let failed = first_failed (key_now journal.standing.history) 0 (txn_of ready).compares in (
+      inr (ap (λ (o : Option Refusal). sent_as journal ready
+          (unless o (branch_outcome (terms_of journal.standing) failed (chosen failed (txn_of ready)))))
+          (ap (λ (x : Standing). fault_of x.limit (txn_of ready)) same ∙ fault)),
       refl,
     )
+
+-- nothing turns it down
+pub foreseen_clear : (s : Standing) (ready : ReadyRun) → checked s ready ≡ Ok None → IsForeseenBy s ready (Ok None)
+foreseen_clear s ready is = λ journal same.
+    let clear = checked_clear s ready None is in
+    subst (λ (x : Standing). IsClear x ready) (sym same) (record { right = clear.0; compared = clear.1 })
 
 -- what was found is reported
 made_failed : (s : Standing) (ready : ReadyRun) (done : Done) → outcome (terms_of s) (txn_of ready) ≡ Ok done →
@@ -242,25 +248,20 @@ sent_as_taken s next es more ready result clear reported = λ start.
 sent_failed_to : Verdict → JournalState → Result (JournalStep Verdict) Refusal
 sent_failed_to verdict next = Ok record { answer = verdict; next = next }
 
-pub sent_failed : (s : Standing) (ready : ReadyRun) (f : FailedCompare) (verdict : Verdict) → fault_of s.limit (txn_of ready) ≡ None →
-    first_failed (key_now s.history) 0 (txn_of ready).compares ≡ Some f →
-    verdict ≡ failed_with ready f (map (answer_now s.history) (reread_keys ready.level ready.answers)) → IsSentAs s ready (Ok verdict)
+pub foreseen_failed : (s : Standing) (ready : ReadyRun) (f : FailedCompare) (verdict : Verdict) → checked s ready ≡ Ok (Some f) →
+    verdict ≡ failed_with ready f (map (answer_now s.history) (reread_keys ready.level ready.answers)) → IsForeseenBy s ready (Ok (Some verdict))
 unfolding sent_failed_to
-sent_failed s ready f verdict right fails reported = λ journal same.
+foreseen_failed s ready f verdict is reported = λ journal same.
+    let found = checked_clear s ready (Some f) is in
     ap (sent_as journal ready)
     (failed_compare_reads (terms_of journal.standing) (txn_of ready) (reread_keys ready.level ready.answers) f refl
-    (ap (λ (x : Standing). fault_of x.limit (txn_of ready)) same ∙ right)
-    (ap (λ (x : Standing). first_failed (key_now x.history) 0 (txn_of ready).compares) same ∙ fails))
+    (ap (λ (x : Standing). fault_of x.limit (txn_of ready)) same ∙ found.0)
+    (ap (λ (x : Standing). first_failed (key_now x.history) 0 (txn_of ready).compares) same ∙ found.1))
     ∙ ap (λ (x : Standing). sent_failed_to (failed_with ready f (map (answer_now x.history) (reread_keys ready.level ready.answers))) journal) same
     ∙ ap (λ (v : Verdict). sent_failed_to v journal) (sym reported)
 
-pub sent_out : (s : Standing) (ready : ReadyRun) (result : Result Verdict Refusal) → result ≡ Err OutOfMemory → IsSentAs s ready result
-sent_out s ready result is = λ journal same.
-    subst (λ (r : Result Verdict Refusal). SentReturns (sent journal ready) journal r journal) (sym is) (inl refl, refl)
-
-pub sent_there : (s : Standing) (es : List Entry) (ready : ReadyRun) (result : Result Verdict Refusal) → IsSentAs s ready result →
-    SendsAs (λ journal. sent journal ready) result s es s es
-sent_there s es ready result reported = λ start. reported (journal_of s es start) refl
+pub foreseen_out : (s : Standing) (ready : ReadyRun) → IsForeseenBy s ready (Err OutOfMemory)
+foreseen_out s ready = λ journal same. (inl refl, refl)
 
 -- ---- a commit that is turned down
 

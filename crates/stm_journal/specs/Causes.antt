@@ -57,9 +57,15 @@ pub record IsClear (s : Standing) (ready : ReadyRun) : Type 0 where
   pub right : fault_of s.limit (txn_of ready) ≡ None
   pub compared : first_failed (key_now s.history) 0 (txn_of ready).compares ≡ None
 
--- It is reported so for every journal that has this store, and that journal stays as it was.
-abbrev pub IsSentAs : Standing → ReadyRun → Result Verdict Refusal → Type 0
-IsSentAs s ready result = (journal : JournalState) → journal.standing ≡ s → SentReturns (sent journal ready) journal result journal
+-- What is foreseen of it, and changes nothing: that it is turned down so, or that nothing turns it down before anything is written
+abbrev pub IsForeseen : JournalState → ReadyRun → Result (Option Verdict) Refusal → Type 0
+IsForeseen journal ready (Ok None) = IsClear journal.standing ready
+IsForeseen journal ready (Ok (Some verdict)) = SentReturns (sent journal ready) journal (Ok verdict) journal
+IsForeseen journal ready (Err cause) = SentReturns (sent journal ready) journal (Err cause) journal
+
+-- it is foreseen so for every journal that has this store
+abbrev pub IsForeseenBy : Standing → ReadyRun → Result (Option Verdict) Refusal → Type 0
+IsForeseenBy s ready foreseen = (journal : JournalState) → journal.standing ≡ s → IsForeseen journal ready foreseen
 
 -- It is turned down so in every journal that has this store, and that journal stays as it was.
 abbrev pub TurnsDown : Standing → ReadyRun → Result Verdict CommitRefusal → Type 0

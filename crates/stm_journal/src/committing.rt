@@ -1,13 +1,10 @@
 //! The commit of an attempt.
-ghost use Rattle.std.specs.Prelude.{◌≡◌, None, Some, Err, IfOk};
-ghost use Rattle.stm_history.specs.History.{key_now};
-ghost use Rattle.stm_outcome.specs.Checks.{fault_of};
-ghost use Rattle.stm_outcome.specs.Compares.{first_failed};
+ghost use Rattle.std.specs.Prelude.{◌≡◌, Some, Ok, Err, IfOk, IfSome};
 ghost use Rattle.stm_attempt.specs.ReadyRun.{IsRunOnItsAnswers};
 ghost use Rattle.stm_journal.specs.declared.causes.Cause.TheVariants.{Unvouched as IsUnvouched};
 ghost use Rattle.stm_journal.specs.declared.refusal.CommitRefusal.TheVariants.{Unvouched as RefusesValue};
-ghost use Rattle.stm_journal.specs.Causes.{cause_of, IsClear, IsSentAs, TurnsDown};
-ghost use Rattle.stm_journal.specs.Verdicts.{txn_of, taken_by_store, sent, refused_by_store, SendsAs, CommitsAs, CanGoOn};
+ghost use Rattle.stm_journal.specs.Causes.{cause_of, checked, IsClear, IsForeseenBy, TurnsDown};
+ghost use Rattle.stm_journal.specs.Verdicts.{taken_by_store, sent, refused_by_store, SendsAs, CommitsAs, CanGoOn};
 
 use crate::causes::{Cause, check};
 use crate::commit_entry::parts_of;
@@ -56,20 +53,36 @@ fn make(
 
 // ---- an attempt whose answers are the store's own
 
-/// Reports the commit of an attempt of which this compare fails. Nothing is written.
+/// Foresees the commit of an attempt of which this compare fails.
 fn turn_down_trusted(
     alloc: Global,
     store: &Store,
     ready: &Ready,
     failed: FailedCompare,
-) -> Result<Verdict, Refusal>
-    requires right { fault_of store.now.standing.limit (txn_of ready.now) ≡ None }
-    requires fails { first_failed (key_now store.now.standing.history) 0 (txn_of ready.now).compares ≡ Some failed }
-    ensures verdict { IsSentAs store.now.standing ready.now result }
-    ensures answers { IfOk result CanGoOn }
+) -> Result<Option<Verdict>, Refusal>
+    requires { checked store.now.standing ready.now ≡ Ok (Some failed) }
+    ensures verdict { IsForeseenBy store.now.standing ready.now result }
+    ensures answers { IfOk result (λ o. IfSome o CanGoOn) }
 {
     let verdict = fail(alloc, store, ready, failed)?;
-    Ok(verdict)
+    Ok(Some(verdict))
+}
+
+/// Foresees the commit of an attempt whose answers are the store's own: the verdict or the refusal where it is turned down, `None` where nothing turns it down
+/// before anything is written.
+pub(crate) fn foresee(
+    alloc: Global,
+    store: &Store,
+    ready: &Ready,
+) -> Result<Option<Verdict>, Refusal>
+    ensures verdict { IsForeseenBy store.now.standing ready.now result }
+    ensures answers { IfOk result (λ o. IfSome o CanGoOn) }
+{
+    match check(store, ready) {
+        Ok(None) => Ok(None),
+        Ok(Some(failed)) => turn_down_trusted(alloc, store, ready, failed),
+        Err(fault) => Err(fault),
+    }
 }
 
 /// Commits an attempt whose answers are the store's own.
@@ -85,16 +98,15 @@ pub(crate) fn commit_trusted(
 {
     // (the attempt's type says that it is a run on its answers)
     let _is_run = ready.answers.as_slice();
-    match check(store, &ready) {
+    match foresee(alloc, store, &ready) {
         Ok(None) => make(alloc, store, entries, ready),
-        Ok(Some(failed)) => {
-            let reported = turn_down_trusted(alloc, store, &ready, failed);
+        Ok(Some(verdict)) => {
             drop(ready);
-            reported
+            Ok(verdict)
         }
-        Err(fault) => {
+        Err(cause) => {
             drop(ready);
-            Err(fault)
+            Err(cause)
         }
     }
 }

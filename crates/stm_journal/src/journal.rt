@@ -1,5 +1,5 @@
 //! A store with what changed it.
-ghost use Rattle.std.specs.Prelude.{◌≡◌, ◌≤◌, ◌<◌, length, All, None, Ok as OkOf, IfOk, IfErr, OnErr};
+ghost use Rattle.std.specs.Prelude.{◌≡◌, ◌≤◌, ◌<◌, length, All, None, Ok as OkOf, IfOk, IfErr, IfSome, OnErr};
 ghost use Rattle.stm_history.specs.History.{now};
 ghost use Rattle.stm_watch.specs.declared.watched.Watched.TheVariants.{Key, Range};
 ghost use Rattle.stm_outcome.specs.Commits.{AreNamed};
@@ -10,6 +10,7 @@ ghost use Rattle.stm_attempt.specs.ReadyRun.{IsRunOnItsAnswers};
 ghost use Rattle.stm_journal.specs.JournalState.{journal_of, made_over, with_store, JournalReturns};
 ghost use Rattle.stm_journal.specs.Fetched.{fetch_of, fetch_reported, IsFetch, fetch_all_reported, IsRefusalOfAll};
 ghost use Rattle.stm_journal.specs.Fetching.{OnlyReads, fetched, reported_alone, FetchReturns};
+ghost use Rattle.stm_journal.specs.Causes.{IsForeseen};
 ghost use Rattle.stm_journal.specs.Verdicts.{sent, SentReturns, verdict_of, CommitReturns, CanGoOn};
 ghost use Rattle.stm_journal.specs.Entering.{made, granted_in, renewed_in, revoked_in, IsAdvanced, HasStopped};
 
@@ -210,6 +211,18 @@ impl Journal {
     {
         let prepared = prepare_copy(alloc, ready)?;
         self.commit_prepared(alloc, prepared)
+    }
+
+    /// Says what `commit_trusted` comes to where it turns an attempt down, and changes nothing: the verdict that a compare fails, or the refusal. `None`: no
+    /// compare fails, and the transaction is not wrong as a whole.
+    pub fn foresee(&self, alloc: Global, ready: &Ready) -> Result<Option<Verdict>, Refusal>
+        ensures verdict { IsForeseen self.now ready.now result }
+        ensures answers { IfOk result (λ o. IfSome o CanGoOn) }
+        ensures run { IsRunOnItsAnswers ready.now }
+    {
+        // (the attempt's type says that it is a run on its answers)
+        let _is_run = ready.answers.as_slice();
+        committing::foresee(alloc, &self.store, ready)
     }
 
     /// Commits an attempt whose answers are those that this store gave, by one transaction, and enters it. No value is looked at.

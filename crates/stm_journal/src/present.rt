@@ -23,12 +23,12 @@ fn listed_keys(alloc: Global, keys: &Keys) -> Result<Vec<String>, AllocError>
 
 /// The keys that are present, ascending by bytes.
 ///
-/// They are copied and sorted once. It fails only where an allocation failed.
+/// They are copied and sorted once. Most stand in ascending runs, as a scenario put them, which the sort merges. It fails only where an allocation failed.
 pub fn present_keys(alloc: Global, keys: &Keys) -> Result<Vec<String>, AllocError>
     ensures present { IfOk result (λ present. ArePresent keys.now.history (map string_bytes present.items)) }
     ensures computed { IfOk result (λ present. map string_bytes present.items ≡ keys_present keys.now.history) }
 {
     let mut present = listed_keys(alloc, keys)?;
-    present.sort_unstable();
+    present.sort()?;
     Ok(present)
 }

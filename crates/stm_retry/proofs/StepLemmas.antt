@@ -1,7 +1,7 @@
 -- The parts of a runner's step, as the code has them at hand.
 use Rattle.std.proofs.Common.{◌≡◌, ◌≢◌, ℕ, ◌+◌, ◌<◌, List, [], ◌∷◌, ◌++◌, length, map, Option, Some, None, Result, Ok, Err, Bool, true, false, cond, refl, sym}
 use Rattle.std.proofs.Common.{◌∙◌, ap, subst, ◌⊎◌, inl, inr}
-use Rattle.std.specs.Prelude.{nat_eq, nat_lt, slice_get, IsOk, is_ok, IfOk, OnOk, OnErr}
+use Rattle.std.specs.Prelude.{nat_eq, nat_lt, slice_get, IsOk, is_ok, IfOk, IfSome, OnOk, OnErr}
 use Rattle.std.specs.declared.alloc.AllocError.{AllocError}
 use Rattle.std.proofs.lemmas.List.Elements.{All-nil, All-cons, All-head, All-tail}
 use Rattle.stm_history.specs.declared.key_state.ReadAnswer.{ReadAnswer}
@@ -395,6 +395,14 @@ ready_leaves id r q ready outcome j after same reported leaves =
     let mine = subst (λ (x : Runner). (run : Run) → IsReady x run ready → Leaves id outcome (workplace j x) after (commit id x x.known.reads run))
     same leaves in
     commit_leaves id r found.0 ready outcome (workplace j r) after found.1 (mine found.0 found.1)
+
+-- the same of a commit that may have been reported
+pub ready_leaves_quietly : (id : ℕ) (r q last : Runner) (ready : ReadyRun) (o : Option StepOutcome) (j : JournalState) → q ≡ r → next_for r ≡ Ready ready →
+    IfSome o (λ outcome. (run : Run) → IsReady q run ready → Leaves id (Ok outcome) (workplace j q) (workplace j last) (commit id q q.known.reads run)) →
+    IfSome o (λ outcome. Leaves id (Ok outcome) (workplace j r) (workplace j last) (step_live id r))
+ready_leaves_quietly id r q last ready None j same reported leaves = tt
+ready_leaves_quietly id r q last ready (Some outcome) j same reported leaves =
+    ready_leaves id r q ready (Ok outcome) j (workplace j last) same reported leaves
 
 -- the run that is ready is the run on its answers
 pub ready_runs : (r : Runner) (run : Run) (ready : ReadyRun) → IsReady r run ready → run_on ready.program ready.answers ≡ EndedRun run

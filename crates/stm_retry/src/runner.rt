@@ -20,7 +20,8 @@ use std::marker::Model;
 use std::mem;
 use stm_alike::{are_level, are_same_answers};
 use stm_attempt::{Attempt, Next};
-use stm_history::{ReadAnswer, Sequence, mod_rev_of};
+use stm_history::{ReadAnswer, Sequence, found_mod_rev, mod_rev_of};
+use stm_keys::Keys;
 use stm_program::{Level, Program};
 
 /// A run of a program that has not ended.
@@ -115,6 +116,19 @@ impl Runner {
             return false;
         }
         is_same_program(&self.program, &other.program)
+    }
+
+    /// Whether the keys that its attempt has read are as they were read, or the level compares none. No contract says so.
+    pub(crate) fn seems_up_to_date(&self, keys: &Keys) -> bool {
+        if !self.level.is_comparing() {
+            return true;
+        }
+        for answer in self.attempt.reads() {
+            if found_mod_rev(keys.get(answer.key.as_str())) != mod_rev_of(&answer.kv) {
+                return false;
+            }
+        }
+        true
     }
 
     /// A runner whose run has sent no commit, and may send at most `limit`. It takes no memory.

@@ -328,8 +328,45 @@ pub(crate) fn step_live(
     }
 }
 
-/// Makes one step of a runner, if it changes nothing in the journal and fetches no list: the fetch of a key, or the end of a run that aborts or
-/// faults. `None` says that it does something else; then the runner may have gone on with its program.
+/// Sends the commit of a run that is done, if the journal turns it down: nothing is changed in that. `None` says that it does not.
+fn fail_quietly(
+    alloc: Global,
+    journal: &Journal,
+    id: u64,
+    runner: &mut Runner,
+    ready: Ready,
+) -> Result<Option<StepOutcome>, AllocError>
+    requires named { AreNamed ready.answers }
+    requires is_ready { (run : ARun) × IsReady runner.old.runner run ready }
+    ensures { IfOk result (λ o. IfSome o (λ outcome. (run : ARun) → IsReady runner.old.runner run ready → Leaves id (Ok outcome)
+        (workplace journal.now runner.old.runner) (workplace journal.now runner.new.runner) (commit_of id runner.old.runner runner.old.runner.known.reads run))) }
+{
+    let foreseen = journal.foresee(alloc, &ready);
+    drop(ready);
+    match foreseen {
+        Ok(
+            Some(
+                Verdict::Failed {
+                    key,
+                    seen,
+                    now,
+                    answers,
+                },
+            ),
+        ) => {
+            let reported = fail_commit(alloc, id, runner, key, seen, now, answers)?;
+            Ok(Some(reported))
+        }
+        Ok(_) => Ok(None),
+        Err(cause) => {
+            let reported = end_refused(id, cause)?;
+            Ok(Some(reported))
+        }
+    }
+}
+
+/// Makes one step of a runner, if it changes nothing in the journal and fetches no list: the fetch of a key, a commit that is turned down, or the end of a
+/// run that aborts or faults. `None` says that it does something else; then the runner may have gone on with its program.
 pub(crate) fn step_live_quietly(
     alloc: Global,
     journal: &Journal,
@@ -348,8 +385,11 @@ pub(crate) fn step_live_quietly(
         }
         Next::Aborted(run) => Ok(Some(StepOutcome::Ends(reply_at_end(id, run)))),
         Next::Faulted(run) => Ok(Some(StepOutcome::Ends(reply_at_end(id, run)))),
+        Next::Ready(ready) => {
+            let reported = fail_quietly(alloc, journal, id, runner, ready)?;
+            Ok(reported)
+        }
         Next::FetchAll { .. } => Ok(None),
-        Next::Ready(_) => Ok(None),
     }
 }
 

@@ -15,6 +15,7 @@ use std::alloc::{AllocError, Global};
 use std::marker::Model;
 use std::sync::Arc;
 use stm_journal::Journal;
+use stm_keys::Keys;
 
 /// One runner for a world and its copies, until one of them makes a step of it.
 ///
@@ -121,9 +122,9 @@ impl SharedRunner {
         self.ahead == Ahead::FetchesAtBase
     }
 
-    /// Whether the next step is known to send the commit. No contract says so.
-    pub(crate) fn commits(&self) -> bool {
-        self.ahead == Ahead::Commits
+    /// Whether the next step seems to commit, on these keys. No contract says so.
+    pub(crate) fn seems_to_commit(&self, keys: &Keys) -> bool {
+        self.ahead == Ahead::Commits && self.runner.seems_up_to_date(keys)
     }
 }
 

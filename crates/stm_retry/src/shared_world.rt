@@ -19,7 +19,7 @@ ghost use Rattle.stm_retry.specs.Quiet.{is_commit};
 
 use crate::alike::{are_slots_alike, hint_of};
 use crate::kept_world::copy_runners;
-use crate::slots::{Slot, commits, fetches_at_base, is_running};
+use crate::slots::{Slot, fetches_at_base, is_running, seems_to_commit};
 use crate::world::{World, is_out_of_memory};
 use std::alloc::{AllocError, Global};
 use std::marker::Model;
@@ -164,7 +164,7 @@ impl SharedWorld {
         Ok(over(base, runners))
     }
 
-    /// The world after a step of a runner, and the reply. Where the step is known to send a commit, it is taken in a copy at once.
+    /// The world after a step of a runner, and the reply. Where the step seems to commit, it is taken in a copy at once.
     fn after_step(
         &self,
         alloc: Global,
@@ -174,7 +174,7 @@ impl SharedWorld {
         requires { event.now ≡ Step id }
         ensures { IfOk result (λ p. IsStep (step event.now self.now) p.1 p.0) }
     {
-        if commits(self.runners.as_slice(), id) {
+        if seems_to_commit(self.runners.as_slice(), self.store().keys(), id) {
             return self.after_loud_step(alloc, event, id);
         }
         match self.after_quiet_step(id)? {

@@ -9,6 +9,7 @@ use crate::shared_runner::SharedRunner;
 use std::alloc::AllocError;
 use std::marker::Model;
 use std::mem;
+use stm_keys::Keys;
 
 /// The place of a runner. It is kept when the run has ended, and then no runner stands there.
 #[derive(Drop)]
@@ -83,11 +84,11 @@ impl Slot {
         }
     }
 
-    /// Whether its next step is known to send the commit. No contract says so.
-    fn commits(&self) -> bool {
+    /// Whether its next step seems to commit, on these keys. No contract says so.
+    fn seems_to_commit(&self, keys: &Keys) -> bool {
         match &self.runner {
             None => false,
-            Some(runner) => runner.commits(),
+            Some(runner) => runner.seems_to_commit(keys),
         }
     }
 
@@ -160,10 +161,10 @@ pub(crate) fn fetches_at_base(slots: &[Slot], id: u64) -> bool
     }
 }
 
-/// Whether the next step of the runner with this number is known to send its commit. No contract says so.
-pub(crate) fn commits(slots: &[Slot], id: u64) -> bool {
+/// Whether the next step of the runner with this number seems to commit, on these keys. No contract says so.
+pub(crate) fn seems_to_commit(slots: &[Slot], keys: &Keys, id: u64) -> bool {
     if 1 <= id && id <= slots.len() as u64 {
-        slots[(id - 1) as usize].commits()
+        slots[(id - 1) as usize].seems_to_commit(keys)
     } else {
         false
     }

@@ -116,6 +116,7 @@ pub(crate) fn said_of_event(spot: Spot<'_>) -> &'static str {
 /// What is said of a token among the operations of a transaction; nothing of others.
 pub(crate) fn said_of_operation(spot: Spot<'_>) -> &'static str {
     match spot.kind() {
+        Some(TokenKind::Symbol(Symbol::Comma)) => "operations stand one behind another, without it",
         Some(TokenKind::Word(Word::If)) => {
             "compares stand before the braces: txn if COMPARE && .. { .. } else { .. }"
         }

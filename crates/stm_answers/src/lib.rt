@@ -1,12 +1,16 @@
-//! What a search prints, in words for people.
+//! What a search, jobs and a store print, in words for people.
 //!
-//! The lines are those of the command `explore` (docs/FORMATS.md). Nothing is promised of the words, which may change.
+//! The lines are those of the commands `explore`, `threads` and `store` (docs/FORMATS.md). Nothing is promised of the words, which may change.
 #![tactic(auto)]
 
+mod jobs;
 mod outcomes;
 mod parts;
 mod rules;
+mod stored;
 mod words;
 
+pub use jobs::job_line_in_words;
 pub use stm_compiling::NamedRunner;
+pub use stored::store_line_in_words;
 pub use words::in_words;

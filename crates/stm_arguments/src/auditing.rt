@@ -3,8 +3,8 @@ ghost use Rattle.std.specs.Prelude.{◌≡◌};
 ghost use Rattle.clap.specs.Words.{found_of, rows_of};
 ghost use Rattle.stm_arguments.specs.Asking.{IsAudit};
 
-use crate::tables::{Form, Table, with_command};
-use crate::words::word_of;
+use crate::tables::{EXPLAIN, Form, Table, with_command};
+use crate::words::{flag_of, word_of};
 use clap::{ArgMatches, Command};
 use std::alloc::{AllocError, Global};
 
@@ -44,6 +44,8 @@ failed device.";
 pub struct AuditWords<'a> {
     /// The path of the trace; standard input, where there is none.
     pub trace: Option<&'a str>,
+    /// Whether a fault is explained.
+    pub explain: bool,
 }
 
 /// The command `audit`.
@@ -51,11 +53,14 @@ const AUDIT: Table = Table {
     name: "audit",
     about: "Says of transactions that committed elsewhere whether each kept its level's promise",
     example: EXAMPLE,
-    arguments: &[(
-        "FILE",
-        Form::Optional,
-        "The file of the trace, in the place of standard input",
-    )],
+    arguments: &[
+        (
+            "FILE",
+            Form::Optional,
+            "The file of the trace, in the place of standard input",
+        ),
+        EXPLAIN,
+    ],
     rules: &[],
 };
 
@@ -73,5 +78,6 @@ pub(crate) fn audit_of<'a>(found: &ArgMatches<'a>) -> AuditWords<'a>
 {
     AuditWords {
         trace: word_of(found, "FILE"),
+        explain: flag_of(found, "explain"),
     }
 }

@@ -20,6 +20,7 @@ _stmrun() {
         "explore --after") words="" ;;
         "explore --format") words="lines text" ;;
         "explore --width") words="" ;;
+        "audit --format") words="lines text" ;;
         "run --store") compopt -o default; return ;;
         "run --level") words="SerializableSnapshot Serializable RepeatableReads ReadCommitted" ;;
         "run --attempts") words="" ;;
@@ -35,7 +36,7 @@ _stmrun() {
             threads) case "$word" in -*) ;; *) compopt -o default; return ;; esac; words="--workers --store --ends --repeat --format --explain --explain=never --help" ;;
             recipe) words="transfer deposit enqueue dequeue reserve_slot release_slot --help" ;;
             explore) case "$word" in -*) ;; *) compopt -o default; return ;; esac; words="--keeps --level --budget --after --witness --serial --strict --format --width --explain --explain=never --help" ;;
-            audit) case "$word" in -*) ;; *) compopt -o default; return ;; esac; words="--explain --explain=never --help" ;;
+            audit) case "$word" in -*) ;; *) compopt -o default; return ;; esac; words="--format --explain --explain=never --help" ;;
             show) case "$word" in -*) ;; *) compopt -o default; return ;; esac; words="--program --explain --explain=never --help" ;;
             compile) case "$word" in -*) ;; *) compopt -o default; return ;; esac; words="--explain --explain=never --help" ;;
             run) case "$word" in -*) ;; *) compopt -o default; return ;; esac; words="--store --level --attempts --explain --explain=never --help" ;;

@@ -43,6 +43,7 @@ complete -c stmrun -n '__fish_seen_subcommand_from explore' -a '--explain=never'
 complete -c stmrun -n '__fish_seen_subcommand_from explore' -l help -d 'Print help'
 complete -c stmrun -n __fish_use_subcommand -a audit -d 'Says of transactions that committed elsewhere whether each kept its levels promise'
 complete -c stmrun -n '__fish_seen_subcommand_from audit' -F
+complete -c stmrun -n '__fish_seen_subcommand_from audit' -l format -d 'The form of what is printed' -x -a 'lines text'
 complete -c stmrun -n '__fish_seen_subcommand_from audit' -l explain -d 'Explains faults, of an input or of a run'
 complete -c stmrun -n '__fish_seen_subcommand_from audit' -a '--explain=never'
 complete -c stmrun -n '__fish_seen_subcommand_from audit' -l help -d 'Print help'

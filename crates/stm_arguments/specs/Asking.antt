@@ -71,7 +71,8 @@ IsExplore rows words =
     × HasFlag rows (codes "explain") words.explain
 
 abbrev pub IsAudit : List Row → AuditWords → Type 0
-IsAudit rows words = HasWord rows (codes "FILE") words.trace × HasFlag rows (codes "explain") words.explain
+IsAudit rows words =
+    HasWord rows (codes "FILE") words.trace × HasWord rows (codes "format") words.format × HasFlag rows (codes "explain") words.explain
 
 abbrev pub IsShow : List Row → ShowWords → Type 0
 IsShow rows words =

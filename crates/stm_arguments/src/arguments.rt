@@ -209,10 +209,12 @@ fn asked_by<'a>(
     }
 }
 
-/// Options that there are not, by which people ask for a final, and for a rule.
+/// Options that there are not, by which people ask for a final, for a rule, and for outcomes.
 const FINAL: &str = "--finally";
 
 const RULE: &str = "--rule";
+
+const OUTCOMES: &str = "--outcomes";
 
 /// Whether one of these words is an option.
 fn have(words: &[String], option: &str) -> bool {
@@ -228,6 +230,14 @@ fn name_a_rule(words: &[String]) -> bool {
     }
 }
 
+/// Whether words have a file in the place of the command.
+fn begin_with_a_file(words: &[String]) -> bool {
+    match words {
+        [_, word, ..] => word.as_str().ends_with(".stm") || word.as_str().ends_with(".json"),
+        _ => false,
+    }
+}
+
 /// How to ask for what these words ask for, and are refused; nothing, where that is not known.
 fn tip_for(words: &[String]) -> &'static str {
     if have(words, FINAL) {
@@ -235,6 +245,12 @@ fn tip_for(words: &[String]) -> &'static str {
     }
     if have(words, RULE) {
         return "explore FILE.stm asks the rules of a source, and --keeps FILE.stm:NAME one of them alone";
+    }
+    if have(words, OUTCOMES) {
+        return "explore prints the outcomes of a file without rules, and with --witness those of any file, each with its schedule";
+    }
+    if begin_with_a_file(words) {
+        return "a command stands before the file: explore FILE goes through every interleaving, and script FILE plays one";
     }
     if name_a_rule(words) {
         return "a rule that is a file of its own is asked by --keeps: explore SCENARIO --keeps RULE.json";

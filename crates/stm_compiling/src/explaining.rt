@@ -478,7 +478,10 @@ fn said_of_dot(source: &[u8], spot: Spot<'_>) -> &'static str {
 fn said_of_character(source: &[u8], spot: Spot<'_>, at: usize, character: &str) -> &'static str {
     match character {
         ":" => said_of_colon(spot, sets_at(source, at)),
-        "'" | "`" => "texts stand in double quotes",
+        "'" | "`" | "\u{201c}" | "\u{201d}" | "\u{2018}" | "\u{2019}" => {
+            "texts stand in double quotes"
+        }
+        "\u{feff}" => "a source has no mark of a byte order",
         "[" if spot.place() == Place::Events => {
             "there are no arrays, and a scenario that is JSON needs no compile"
         }

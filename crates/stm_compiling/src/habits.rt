@@ -84,6 +84,7 @@ fn said_of_symbol(spot: Spot<'_>, symbol: Symbol) -> &'static str {
         Symbol::Semicolon => "events stand one behind another, without it",
         Symbol::RightBrace | Symbol::RightParenthesis => "no bracket is open before it",
         Symbol::Arithmetic(Operator::Div) => "a comment begins with //",
+        Symbol::Arithmetic(Operator::Sub) => "a name has letters, digits and _ alone",
         Symbol::Comma if spot.event() == Some(Event::Step) => {
             "runners stand one behind another, without it"
         }

@@ -165,6 +165,28 @@ fn program_in(
     read
 }
 
+/// The number of the first runner that a report in lines says was started.
+fn first_started(report: &str) -> Option<&str> {
+    let (_, behind) = report.split_once(",\"started\",")?;
+    let (number, _) = behind.split_once(']')?;
+    Some(number)
+}
+
+/// Says of a report in which a step found no runner that the store's runners go on counting, where they do: a source means its own by their names.
+fn say_unstepped(rt: &HostRuntime, report: &[u8]) {
+    if !has_part(report, ",\"refused\",\"NoRunner\",") {
+        return;
+    }
+    match first_started(str::from_utf8(report).unwrap_or("")) {
+        None | Some("1") => {}
+        Some(number) => {
+            let _ = eprintln!(rt;
+                "stmrun: a step found no runner: a source's names stand for 1, 2 and so on, and the first start here is runner {number} of the store"
+            );
+        }
+    }
+}
+
 /// Goes on with the scenario of a path, or that on standard input, over the store of a file.
 fn run_script(
     rt: &HostRuntime,
@@ -176,11 +198,14 @@ fn run_script(
     let file = scenario_at(rt, words.scenario.unwrap_or("-"), explain)?;
     let (text, scenario) = scenario_of(rt, &file, explain)?;
     let (mut records, bytes) = opened(rt, store)?;
-    let mut out = Std::new(Noting::new(rt.stdout()));
+    let mut out = Std::new(Noting::new(Keeping::new(rt.alloc(), rt.stdout())));
     let kept = script_kept(format, &mut records, bytes, &text, &scenario, &mut out);
-    say_unwritten(rt, out.device.failure);
+    say_unwritten(rt, out.device.failure.take());
     match kept {
-        Ok(()) => Ok(()),
+        Ok(()) => {
+            say_unstepped(rt, out.device.into_device().into_bytes().as_slice());
+            Ok(())
+        }
         Err(fault) => Err(say_fault(rt, store, &fault, records.disk.failure())),
     }
 }

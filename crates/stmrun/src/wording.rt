@@ -1,10 +1,10 @@
-//! What jobs and a store print, in words.
+//! What jobs, a store and an audit print, in words.
 
 use crate::found::print;
 use crate::noting::{Kept, Noting};
 use crate::sources::out_of_memory;
 use std::alloc::{AllocError, Global};
-use stm_answers::{NamedRunner, job_line_in_words, store_line_in_words};
+use stm_answers::{NamedRunner, audit_line_in_words, job_line_in_words, store_line_in_words};
 use stm_commands::Std;
 
 /// The name of the form in which lines are words.
@@ -17,6 +17,8 @@ pub(crate) enum Lines<'a> {
     OfJobs(&'a [NamedRunner]),
     /// Those of a store.
     OfStore,
+    /// Those of an audit.
+    OfAudit,
 }
 
 /// An output that is kept.
@@ -35,6 +37,7 @@ fn line_in_words(
     match lines {
         Lines::OfJobs(runners) => job_line_in_words(alloc, line, runners),
         Lines::OfStore => store_line_in_words(alloc, line),
+        Lines::OfAudit => audit_line_in_words(alloc, line),
     }
 }
 

@@ -1,8 +1,8 @@
 //! What is said of an `else` of a look-up, or of a definition that has one, where there may be none.
 
 use crate::spots::Spot;
-use crate::wanted::{is_behind_condition_word, is_behind_operator};
-use stm_tokens::{Operator, Symbol, Token, TokenKind, Word};
+use crate::wanted::{is_behind_condition_word, is_behind_operator, is_behind_sign};
+use stm_tokens::{Symbol, Token, TokenKind, Word};
 
 /// Whether a `&&` or `||` stands before a token in its condition.
 fn is_behind_connective(spot: Spot<'_>) -> bool {
@@ -61,21 +61,11 @@ fn is_value(spot: Spot<'_>, name: &str) -> bool {
     (is_behind_operator(spot) || is_behind_condition_word(spot)) && is_given(spot, name)
 }
 
-/// Whether a minus stands before a token, and no value before that.
-fn is_negated(spot: Spot<'_>) -> bool {
-    let count = spot.before.len().saturating_sub(1);
-    let (before, _) = spot.before.split_at(count);
-    let from = spot.from;
-    let minus = Spot { before, from };
-    spot.is_behind_symbol(0, Symbol::Arithmetic(Operator::Sub))
-        && (is_behind_operator(minus) || is_behind_condition_word(minus))
-}
-
-/// What is said of an `else` of a look-up, or of the name of a definition that has one, where there may be none, and of a value behind the sign of a number;
-/// nothing of other tokens.
+/// What is said of an `else` of a look-up, or of the name of a definition that has one, where there may be none; nothing of other tokens, and of a name
+/// behind the sign of a number.
 pub(crate) fn said_of_else(spot: Spot<'_>) -> &'static str {
-    if is_negated(spot) {
-        return "a minus stands before the digits of a number alone: 0 - VALUE";
+    if is_behind_sign(spot) {
+        return "";
     }
     match spot.kind() {
         Some(TokenKind::Word(Word::Else)) if spot.is_behind_symbol(0, Symbol::RightParenthesis) => {

@@ -326,7 +326,7 @@ fn is_behind_else_of_look_up(spot: Spot<'_>) -> bool {
 }
 
 /// Whether the sign of a number stands before a place: a `-` where a value may begin.
-fn is_behind_sign(spot: Spot<'_>) -> bool {
+pub(crate) fn is_behind_sign(spot: Spot<'_>) -> bool {
     match spot.back(1) {
         Some(TokenKind::Symbol(symbol)) => {
             *symbol != Symbol::RightParenthesis

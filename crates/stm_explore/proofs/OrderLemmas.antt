@@ -10,14 +10,14 @@ use Rattle.stm_schedules.specs.declared.moves.Move.{Move}
 use Rattle.stm_schedules.specs.declared.outcome.Outcome.{Outcome}
 use Rattle.stm_schedules.specs.Outcomes.{Comes, Ends}
 use Rattle.stm_schedules.specs.Places.{Place}
-use Rattle.stm_visited.specs.Answers.{IsVisited, OpenIsSpent}
+use Rattle.stm_visited.specs.Answers.{IsVisited}
 use Rattle.stm_visited.specs.declared.visited.Visited.{Visited}
 use Rattle.stm_visited.specs.declared.visited.Visited.TheVariants.{Always, Broken, Open}
 use Rattle.stm_explore.specs.declared.turns.TurnPlace.{TurnPlace}
 use Rattle.stm_explore.specs.declared.orders.Compared.{Compared}
 use Rattle.stm_explore.specs.declared.orders.Compared.TheVariants.{Serial as AllSerial, Odd, Undecided as NotKnown}
 use Rattle.stm_explore.specs.declared.orders.SerialAnswer.TheVariants.{Serial, Anomaly, Undecided}
-use Rattle.stm_explore.specs.Orders.{Answers, AreCompared, IsExplained, IsSought, IsWithin, UnknownIsSpent, explained_by}
+use Rattle.stm_explore.specs.Orders.{Answers, AreCompared, IsExplained, IsSought, IsWithin, explained_by}
 use Rattle.stm_explore.specs.Turns.{IsSerial, counted, turn_steps}
 use Rattle.stm_explore.specs.Witnesses.{AreOrdered, AreWitnesses, IsWitness}
 use Rattle.stm_explore.proofs.TurnLemmas.{no_order, order_found, start_of}
@@ -40,11 +40,6 @@ pub is_explained : (it : Outcome) (p : Place) (ends : Ends) (v : Visited Move) �
 is_explained it p ends (Always longest) none = none
 is_explained it p ends (Broken order) is = (order, is)
 is_explained it p ends (Open kept) unknown = tt
-
-pub unknown_is_spent : (left : ℕ) (v : Visited Move) → OpenIsSpent left v → UnknownIsSpent left (explained_by v)
-unknown_is_spent left (Always longest) spent = tt
-unknown_is_spent left (Broken order) spent = tt
-unknown_is_spent left (Open kept) spent = spent
 
 -- ---- one more
 

@@ -63,21 +63,3 @@ abbrev pub Answers : List Outcome → List (List Move) → Compared → SerialAn
 Answers outcomes schedules compared answer =
     (p : Place) (ends : Ends) → AreAllOutcomes p ends outcomes → AreWitnesses p ends outcomes schedules → AreOrdered schedules → AreCompared p ends outcomes compared
     → IsSerialAnswer p ends answer
-
--- ---- the budget: what is not known is so only where nothing is left of it
-
-abbrev pub UnknownIsSpent : ℕ → Explained → Type 0
-UnknownIsSpent left Yes = Unit {0}
-UnknownIsSpent left No = Unit {0}
-UnknownIsSpent left Unknown = left ≡ 0
-
-abbrev pub UndecidedIsSpent : ℕ → Compared → Type 0
-UndecidedIsSpent left AllSerial = Unit {0}
-UndecidedIsSpent left (Odd i) = Unit {0}
-UndecidedIsSpent left (NotKnown i) = left ≡ 0
-
-abbrev pub OpenAnswerIsSpent : ℕ → SerialAnswer → Type 0
-OpenAnswerIsSpent left (Serial count) = Unit {0}
-OpenAnswerIsSpent left (Anomaly it schedule) = Unit {0}
-OpenAnswerIsSpent left (OpenAt gone_through) = left ≡ 0
-OpenAnswerIsSpent left (Undecided it schedule) = left ≡ 0

@@ -1,9 +1,8 @@
 //! Whether whole schedules come to what serial orders come to.
-ghost use Rattle.std.specs.Prelude.{◌≡◌, ◌<◌, ◌≤◌, ℕ, None, filter, length, slice_index_or, IfOk};
-ghost use Rattle.stm_visited.specs.Answers.{IsVisited, OpenIsSpent};
-ghost use Rattle.stm_explore.specs.Explored.{AreAllOutcomes, AreOutcomes, OpenOutcomesAreSpent, OutcomesAreWitnessed};
+ghost use Rattle.std.specs.Prelude.{◌≡◌, ◌<◌, None, filter, length, slice_index_or, IfOk};
+ghost use Rattle.stm_visited.specs.Answers.{IsVisited};
+ghost use Rattle.stm_explore.specs.Explored.{AreAllOutcomes, AreOutcomes, OutcomesAreWitnessed};
 ghost use Rattle.stm_explore.specs.Orders.{Answers, AreCompared, IsExplained, IsSerialAnswer, IsSought, IsWithin, explained_by};
-ghost use Rattle.stm_explore.specs.Orders.{OpenAnswerIsSpent, UndecidedIsSpent, UnknownIsSpent};
 ghost use Rattle.stm_explore.specs.Turns.{counted, counts, turn_steps};
 ghost use Rattle.stm_explore.specs.Witnesses.{AreOrdered, AreWitnesses};
 
@@ -119,9 +118,7 @@ fn seek<O: Observer>(
     start: TurnPlace,
     budget: &mut Budget<O>,
 ) -> Result<Visited<Move>, AllocError>
-    ensures visited { IfOk result (IsVisited (turn_steps turns.now.wanted.now turns.now.goal.now turns.now.gathered.others.now) start) }
-    ensures left { budget.new.left ≤ budget.old.left }
-    ensures spent { IfOk result (OpenIsSpent budget.new.left) }
+    ensures { IfOk result (IsVisited (turn_steps turns.now.wanted.now turns.now.goal.now turns.now.gathered.others.now) start) }
 {
     let mut quiet = Budget {
         left: budget.left,
@@ -141,9 +138,7 @@ fn find_order<O: Observer>(
     outcome: &Outcome,
     budget: &mut Budget<O>,
 ) -> Result<Visited<Move>, AllocError>
-    ensures sought { IfOk result (IsSought outcome.now (record { world = world.now; others = others.now }) ends.now) }
-    ensures left { budget.new.left ≤ budget.old.left }
-    ensures spent { IfOk result (OpenIsSpent budget.new.left) }
+    ensures { IfOk result (IsSought outcome.now (record { world = world.now; others = others.now }) ends.now) }
 {
     let goal = counted(alloc, outcome)?;
     let start = start_in_turn(alloc, world, ends)?;
@@ -184,9 +179,7 @@ fn explain<O: Observer>(
     outcome: &Outcome,
     budget: &mut Budget<O>,
 ) -> Result<Explained, AllocError>
-    ensures explained { IfOk result (IsExplained outcome.now (record { world = world.now; others = others.now }) ends.now) }
-    ensures left { budget.new.left ≤ budget.old.left }
-    ensures spent { IfOk result (UnknownIsSpent budget.new.left) }
+    ensures { IfOk result (IsExplained outcome.now (record { world = world.now; others = others.now }) ends.now) }
 {
     let visited = find_order(alloc, others, world, ends, outcome, budget)?;
     Ok(explained_by(&visited))
@@ -212,9 +205,7 @@ fn compare<O: Observer>(
     outcomes: &[Outcome],
     budget: &mut Budget<O>,
 ) -> Result<Compared, AllocError>
-    ensures compared { IfOk result (AreCompared (record { world = world.now; others = others.now }) ends.now outcomes.now) }
-    ensures left { budget.new.left ≤ budget.old.left }
-    ensures spent { IfOk result (UndecidedIsSpent budget.new.left) }
+    ensures { IfOk result (AreCompared (record { world = world.now; others = others.now }) ends.now outcomes.now) }
 {
     for i in 0..outcomes.len() {
         let explained = explain(alloc, others, world, ends, &outcomes[i], budget)?;
@@ -243,8 +234,7 @@ fn answer_of(
     compared: Compared,
 ) -> SerialAnswer
     requires { IsWithin outcomes schedules compared }
-    ensures answers { Answers outcomes schedules compared result }
-    ensures same { (left : ℕ) → UndecidedIsSpent left compared → OpenAnswerIsSpent left result }
+    ensures { Answers outcomes schedules compared result }
 {
     match compared {
         Compared::Serial => SerialAnswer::Serial {
@@ -273,9 +263,7 @@ fn answer_about<O: Observer>(
 ) -> Result<SerialAnswer, AllocError>
     requires all { AreAllOutcomes (record { world = world.now; others = others.now }) ends.now outcomes }
     requires witnessed { AreWitnesses (record { world = world.now; others = others.now }) ends.now outcomes schedules × AreOrdered schedules }
-    ensures answer { IfOk result (IsSerialAnswer (record { world = world.now; others = others.now }) ends.now) }
-    ensures left { budget.new.left ≤ budget.old.left }
-    ensures spent { IfOk result (OpenAnswerIsSpent budget.new.left) }
+    ensures { IfOk result (IsSerialAnswer (record { world = world.now; others = others.now }) ends.now) }
 {
     let world = shared_copy(alloc, world)?;
     let compared = compare(alloc, others, &world, ends, outcomes.as_slice(), budget)?;
@@ -293,10 +281,7 @@ fn answer_by<O: Observer>(
 ) -> Result<SerialAnswer, AllocError>
     requires all { AreOutcomes (record { world = world.now; others = others.now }) ends.now found }
     requires witnessed { OutcomesAreWitnessed (record { world = world.now; others = others.now }) ends.now found }
-    requires spent { OpenOutcomesAreSpent budget.old.left found }
-    ensures answer { IfOk result (IsSerialAnswer (record { world = world.now; others = others.now }) ends.now) }
-    ensures left { budget.new.left ≤ budget.old.left }
-    ensures spent { IfOk result (OpenAnswerIsSpent budget.new.left) }
+    ensures { IfOk result (IsSerialAnswer (record { world = world.now; others = others.now }) ends.now) }
 {
     match found {
         Outcomes::Found {
@@ -315,9 +300,7 @@ fn look<O: Observer>(
     ends: &[Option<RunnerEnd>],
     budget: &mut Budget<O>,
 ) -> Result<SerialAnswer, AllocError>
-    ensures answer { IfOk result (IsSerialAnswer (record { world = world.now; others = others.now }) ends.now) }
-    ensures left { budget.new.left ≤ budget.old.left }
-    ensures spent { IfOk result (OpenAnswerIsSpent budget.new.left) }
+    ensures { IfOk result (IsSerialAnswer (record { world = world.now; others = others.now }) ends.now) }
 {
     let found = gather_outcomes(alloc, world, others, ends, budget)?;
     answer_by(alloc, world, others, ends, found, budget)
@@ -327,7 +310,7 @@ fn look<O: Observer>(
 /// bring.
 ///
 /// First all outcomes are found, as by `find_outcomes`, and then for each in turn a serial order that comes to it. At most as many moves are made in all as
-/// `budget` has left: it keeps those that are not, and an answer is `Open` or `Undecided` only where none is left. Its observer is notified of how far the first search is. `ends` has what is known of the runners' ends
+/// `budget` has left: it keeps those that are not. Its observer is notified of how far the first search is. `ends` has what is known of the runners' ends
 /// before, by the runners' numbers, as `ends_reported` returns it.
 ///
 /// It fails only when out of memory. The world is left as it was.
@@ -338,9 +321,7 @@ pub fn find_anomaly<O: Observer>(
     ends: &[Option<RunnerEnd>],
     budget: &mut Budget<O>,
 ) -> Result<SerialAnswer, AllocError>
-    ensures answer { IfOk result (IsSerialAnswer (record { world = world.now; others = others.now }) ends.now) }
-    ensures left { budget.new.left ≤ budget.old.left }
-    ensures spent { IfOk result (OpenAnswerIsSpent budget.new.left) }
+    ensures { IfOk result (IsSerialAnswer (record { world = world.now; others = others.now }) ends.now) }
 {
     let answer = look(alloc, world, others, ends, budget);
     budget.observer.ended();

@@ -9,4 +9,4 @@ returns g c =
     subst (λ (answers : List Answer). AreFoundPatiently c.args.waits.now c.args.when c.args.rules.now (record { world = c.args.world.now; others = c.args.others.now })
     c.args.ends.now answers) (sym c.in_ok-answers.ensures)
     (are_patient c.args.waits.now c.args.when c.args.rules.now (record { world = c.args.world.now; others = c.args.others.now }) c.args.ends.now c.in_ok-all.all.items
-    c.in_ok-all.ensures)
+    c.in_ok-all.ensures.explored)

@@ -1,5 +1,5 @@
 """A reader of sources, from front to back: what a source is, or its first fault."""
-from cursor import HIGHEST, Names
+from cursor import HIGHEST, Names, is_numbered
 from kinds import KindFault, check_body, kind_of
 from lowering import ArgumentFault, lowered_program, measured_program, value_nodes
 from statements import Statements
@@ -252,7 +252,7 @@ class Reader(Statements):
             token = self.name()
             if token.value in EVENTS:
                 raise self.wrong("Syntax", token)
-            if token.value in self.runners or token.value in names:
+            if token.value in self.runners or token.value in names or is_numbered(token.value):
                 raise self.wrong("Name", token)
             names.append(token.value)
             if not self.has_sign(","):

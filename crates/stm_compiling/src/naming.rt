@@ -82,11 +82,12 @@ pub(crate) fn is_awaited(spot: Spot<'_>) -> bool {
     false
 }
 
-/// Whether a name is to be given to a program, or to what stands beside the starts.
+/// Whether a name is to be given to a program, to what stands beside the starts, or to a constant.
 fn is_of_a_program(spot: Spot<'_>) -> bool {
     spot.is_behind_word(0, Word::Program)
         || spot.is_behind_word(0, Word::Rule)
         || spot.is_behind_word(0, Word::Finally)
+        || spot.is_behind_word(0, Word::Let)
 }
 
 /// Whether a place is in the value of a definition with parameters.
@@ -131,7 +132,7 @@ fn said_in_event(spot: Spot<'_>) -> &'static str {
     if is_behind_number_name(spot) {
         return "is no constant above: a number stands here, or the name of one";
     }
-    "cannot be given here: another runner has this name"
+    "cannot be given here: another runner has this name, or it is one of v0 to v15, which are variables"
 }
 
 /// Whether the sign of an assignment stands behind a name.

@@ -26,6 +26,7 @@ use Rattle.stm_terms.specs.Outcome.{Outcome, Read, bad, ◌>>=◌}
 use Rattle.stm_terms.specs.Cursor.{place, unexpected, after_symbol, after_name, expect_name, next_name, next_number}
 use Rattle.stm_terms.specs.declared.constants.Constants.{Constants}
 use Rattle.stm_terms.specs.Constants.{text_at}
+use Rattle.stm_terms.specs.Scope.{numbered_variable}
 use Rattle.stm_source.specs.declared.definitions.Definitions.{Definitions}
 use Rattle.stm_source.specs.Bulk.{program_bulk, event_left}
 use Rattle.stm_source.specs.Definitions.{ReadProgram, look_of, no_arguments, named_program, definition_named}
@@ -168,10 +169,11 @@ step_at story tokens = turn_at story tokens >>= λ x. turns_from (length x.1) x.
 
 -- ---- starts
 
--- a name of a runner that is none of these
+-- a name of a runner that is none of these, nor that of a variable
 abbrev pub new_name_by : List (List ℕ) → List Token → Option (List ℕ × List Token) → Read (List ℕ)
 new_name_by names tokens None = Err (unexpected tokens)
-new_name_by names tokens (Some p) = if list_any (bytes_eq p.0) names then bad (place tokens) cause.Name else Ok p
+new_name_by names tokens (Some p) =
+    if list_any (bytes_eq p.0) names || is_some (numbered_variable p.0) then bad (place tokens) cause.Name else Ok p
 
 abbrev pub new_name_at : List (List ℕ) → List Token → Read (List ℕ)
 new_name_at names tokens = new_name_by names tokens (name_of_runner tokens (next_name tokens))

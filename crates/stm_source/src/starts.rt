@@ -18,7 +18,7 @@ use stm_history::Sequence;
 use stm_program::{Level, Program};
 use stm_terms::{
     Names, SourceCause, SourceError, after_name, after_symbol, fault, next_name, next_number,
-    place, unexpected,
+    numbered_variable, place, unexpected,
 };
 use stm_texts::{HIGHEST_LIMIT, MOST_EVENTS};
 use stm_tokens::{Symbol, Token};
@@ -48,7 +48,7 @@ pub(crate) struct Options {
     pub after: Option<After>,
 }
 
-/// A name of a runner that is none of these.
+/// A name of a runner that is none of these, nor that of a variable.
 fn new_name<'a>(names: &Names, tokens: &'a [Token]) -> Result<(&'a str, &'a [Token]), SourceError>
     ensures is { Returns (λ x. (x.0.now, x.1.now)) result (spec.new_name_at names.now tokens.now) }
     ensures new { IfOk result (λ x. list_any (bytes_eq x.0.now) names.now ≡ false) }
@@ -56,7 +56,7 @@ fn new_name<'a>(names: &Names, tokens: &'a [Token]) -> Result<(&'a str, &'a [Tok
     let Some((name, rest)) = next_runner_name(tokens) else {
         return Err(unexpected(tokens));
     };
-    if names.contains(name) {
+    if names.contains(name) || numbered_variable(name).is_some() {
         return Err(fault(place(tokens), SourceCause::Name));
     }
     Ok((name, rest))

@@ -6,7 +6,7 @@ use Rattle.stm_formats.specs.declared.format_row.Row.{Row}
 use Rattle.stm_formats.specs.declared.format_label.TheConstants.{MOST_COLUMNS}
 use Rattle.stm_formats.specs.declared.format_label.RunnerLabel.{RunnerLabel}
 use Rattle.stm_formats.specs.FormatLabels.{title}
-use Rattle.stm_formats.specs.declared.format_columns.TheConstants.{LEAST_WIDTH, MOST_WIDTH, WIDEST, MOST_PLACE}
+use Rattle.stm_formats.specs.declared.format_columns.TheConstants.{LEAST_WIDTH, MOST_WIDTH, MOST_TOGETHER, WIDEST, MOST_PLACE}
 
 -- the number of the column's runner, 0 for the store
 abbrev pub lane_number : Lane → ℕ
@@ -39,8 +39,9 @@ abbrev pub titled_width : ℕ → List RunnerLabel → ℕ → List Row → ℕ
 titled_width limit labels c rows = width limit (least_width limit (title labels c)) c rows
 
 -- The limit of a report of this width with so many runners' columns: the last one begins before the middle, unless the least widths are too much for that.
+-- Without a width those of three runners are as wide as any, and more of them together as wide as three.
 abbrev pub most_width : Option ℕ → ℕ → ℕ
-most_width None last = MOST_WIDTH
+most_width None last = min (MOST_TOGETHER / max last 1) MOST_WIDTH
 most_width (Some width) last = min (((width / 2 - 8) / max last 1) - 2) WIDEST
 
 -- how many characters stand before a column: each is followed by two spaces

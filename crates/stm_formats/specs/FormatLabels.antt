@@ -36,3 +36,11 @@ runner_words labels runner = named_runner (name_of labels runner) runner
 abbrev pub title : List RunnerLabel → ℕ → List ℕ
 title labels column =
     if nat_eq column 0 then codes "store" else (if nat_le MOST_COLUMNS column then codes "others" else runner_words labels column)
+
+abbrev pub short_by : Option (List ℕ) → List ℕ → List ℕ
+short_by None title = title
+short_by (Some name) title = joined (plain name ∷ [])
+
+-- the same without the number of a runner that has a name
+abbrev pub short_title : List RunnerLabel → ℕ → List ℕ
+short_title labels column = short_by (name_of labels column) (title labels column)

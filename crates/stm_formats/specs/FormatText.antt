@@ -1,10 +1,10 @@
 -- A report as text: a header with the titles of the columns, a row for each event, and after an empty line what is left.
-use Rattle.std.specs.Prelude.{ℕ, Option, ◌+◌, ◌-◌, zero, suc, List, [], ◌∷◌, ◌++◌, length, map, max, codes, replicate}
+use Rattle.std.specs.Prelude.{ℕ, Option, ◌+◌, ◌-◌, zero, suc, List, [], ◌∷◌, ◌++◌, length, map, max, codes, replicate, nat_le, if◌then◌else◌}
 use Rattle.stm_formats.specs.declared.format_label.RunnerLabel.{RunnerLabel}
 use Rattle.stm_formats.specs.declared.format_row.Row.{Row}
 use Rattle.stm_formats.specs.declared.format_text.TheConstants.{LEAST_SPACE}
 use Rattle.stm_formats.specs.FormatPieces.{joined, padded, tag_text}
-use Rattle.stm_formats.specs.FormatLabels.{title}
+use Rattle.stm_formats.specs.FormatLabels.{title, short_title}
 use Rattle.stm_formats.specs.FormatColumns.{column, last_column, most_width, all_places, place}
 
 abbrev pub spaces : ℕ → List ℕ
@@ -14,8 +14,16 @@ spaces n = replicate n 32
 abbrev pub titled : List ℕ → ℕ → List ℕ → List ℕ → List ℕ
 titled places k before words = joined (spaces (max (place places k - place places (k - 1) - length before) LEAST_SPACE) ∷ words ∷ [])
 
+-- how many characters a column has for its title
+abbrev pub room : List ℕ → ℕ → ℕ
+room places k = place places (k + 1) - place places k - LEAST_SPACE
+
+-- the title of a column, in its short form where the whole one is too long for the column
+abbrev pub fitted : List RunnerLabel → List ℕ → ℕ → List ℕ
+fitted labels places k = if nat_le (length (title labels k)) (room places k) then title labels k else short_title labels k
+
 abbrev pub heading : List RunnerLabel → List ℕ → ℕ → List ℕ
-heading labels places k = titled places k (title labels (k - 1)) (title labels k)
+heading labels places k = titled places k (fitted labels places (k - 1)) (fitted labels places k)
 
 -- those of the columns 1 to k, one after the other
 abbrev pub headings : List RunnerLabel → List ℕ → ℕ → List ℕ

@@ -12,6 +12,9 @@ const LEAST_WIDTH: u64 = 10;
 /// The greatest width of a column, in characters, where no width of a report says otherwise.
 pub(crate) const MOST_WIDTH: u64 = 28;
 
+/// So wide are the columns of runners together at most, but the last one's words, where no width of a report says otherwise.
+const MOST_TOGETHER: u64 = 84;
+
 /// The greatest width of a column at all.
 const WIDEST: u64 = 1000;
 
@@ -104,7 +107,7 @@ pub(crate) fn most_width(width: Option<u32>, last: u64) -> u64
     ensures within { result ≤ 1000 }
 {
     match width {
-        None => MOST_WIDTH,
+        None => (MOST_TOGETHER / last.max(1)).min(MOST_WIDTH),
         Some(width) => {
             let half = (width as u64 / 2).saturating_sub(8);
             (half / last.max(1)).saturating_sub(2).min(WIDEST)

@@ -1,6 +1,6 @@
 //! What a source calls runners and their programs.
 ghost use Rattle.std.specs.Prelude.{◌≡◌, IfOk, option_copied, option_map};
-ghost use Rattle.stm_formats.specs.FormatLabels.{label_of, name_of, program_of, runner_words, title};
+ghost use Rattle.stm_formats.specs.FormatLabels.{label_of, name_of, program_of, runner_words, short_title, title};
 
 use crate::format_pieces::{Piece, said};
 use std::alloc::{AllocError, Global};
@@ -96,4 +96,18 @@ pub(crate) fn title(
         return said(alloc, &[Piece::Say("others")]);
     }
     runner_words(alloc, labels, column)
+}
+
+/// The title of a column, without the number of a runner that has a name.
+pub(crate) fn short_title(
+    alloc: Global,
+    labels: &[RunnerLabel],
+    column: u64,
+) -> Result<Sequence<u8>, AllocError>
+    ensures { IfOk result (λ words. words ≡ short_title labels.now column) }
+{
+    match name_of(labels, column) {
+        None => title(alloc, labels, column),
+        Some(name) => said(alloc, &[Piece::Key(name)]),
+    }
 }

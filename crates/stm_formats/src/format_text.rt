@@ -1,9 +1,9 @@
 //! A report as text.
 ghost use Rattle.std.specs.Prelude.{◌≡◌, ◌++◌, ◌≤◌, IfOk, OnOk};
-ghost use Rattle.stm_formats.specs.FormatText.{titled, heading, headings, row_text, rows_text, note_text, notes_text, text_in, text_of};
+ghost use Rattle.stm_formats.specs.FormatText.{titled, room, fitted, heading, headings, row_text, rows_text, note_text, notes_text, text_in, text_of};
 
 use crate::format_columns::{all_places, column, last_column, most_width, place};
-use crate::format_label::{RunnerLabel, title};
+use crate::format_label::{RunnerLabel, short_title, title};
 use crate::format_pieces::{Piece, push_pieces};
 use crate::format_row::Row;
 use std::alloc::{AllocError, Global};
@@ -30,6 +30,33 @@ fn push_title(
     push_pieces(out, &pieces)
 }
 
+/// How many characters a column has for its title.
+fn room(places: &[u64], number: u64) -> u64
+    requires { number ≤ 9 }
+    ensures { result ≡ room places.now number }
+{
+    place(places, number + 1)
+        .saturating_sub(place(places, number))
+        .saturating_sub(LEAST_SPACE)
+}
+
+/// The title of a column, in its short form where the whole one is too long for the column.
+fn fitted_title(
+    alloc: Global,
+    labels: &[RunnerLabel],
+    places: &[u64],
+    number: u64,
+) -> Result<Sequence<u8>, AllocError>
+    requires { number ≤ 9 }
+    ensures { IfOk result (λ words. words ≡ fitted labels.now places.now number) }
+{
+    let words = title(alloc, labels, number)?;
+    if words.len() as u64 <= room(places, number) {
+        return Ok(words);
+    }
+    short_title(alloc, labels, number)
+}
+
 /// Adds the title of a runner's column.
 fn push_heading(
     alloc: Global,
@@ -38,10 +65,11 @@ fn push_heading(
     places: &[u64],
     number: u64,
 ) -> Result<(), AllocError>
+    requires { number ≤ 9 }
     ensures { OnOk result (out.new.items ≡ out.old.items ++ heading labels.now places.now number) }
 {
-    let before = title(alloc, labels, number.saturating_sub(1))?;
-    let words = title(alloc, labels, number)?;
+    let before = fitted_title(alloc, labels, places, number.saturating_sub(1))?;
+    let words = fitted_title(alloc, labels, places, number)?;
     push_title(out, places, number, before.as_slice(), words.as_slice())
 }
 

@@ -13,12 +13,14 @@ _stmrun() {
         "threads --workers") words="" ;;
         "threads --store") compopt -o default; return ;;
         "threads --repeat") words="" ;;
+        "threads --format") words="lines text" ;;
         "explore --keeps") compopt -o default; return ;;
         "explore --level") words="SerializableSnapshot Serializable RepeatableReads ReadCommitted all" ;;
         "explore --budget") words="" ;;
         "explore --after") words="" ;;
         "explore --format") words="lines text" ;;
         "explore --width") words="" ;;
+        "audit --format") words="lines text" ;;
         "run --store") compopt -o default; return ;;
         "run --level") words="SerializableSnapshot Serializable RepeatableReads ReadCommitted" ;;
         "run --attempts") words="" ;;
@@ -31,11 +33,11 @@ _stmrun() {
             case "${COMP_WORDS[1]}" in
             script) case "$word" in -*) ;; *) compopt -o default; return ;; esac; words="--store --format --width --explain --explain=never --help" ;;
             check) case "$word" in -*) ;; *) compopt -o default; return ;; esac; words="--whole --explain --explain=never --help" ;;
-            threads) case "$word" in -*) ;; *) compopt -o default; return ;; esac; words="--workers --store --ends --repeat --explain --explain=never --help" ;;
+            threads) case "$word" in -*) ;; *) compopt -o default; return ;; esac; words="--workers --store --ends --repeat --format --explain --explain=never --help" ;;
             recipe) words="transfer deposit enqueue dequeue reserve_slot release_slot --help" ;;
             explore) case "$word" in -*) ;; *) compopt -o default; return ;; esac; words="--keeps --level --budget --after --witness --serial --strict --format --width --explain --explain=never --help" ;;
-            audit) case "$word" in -*) ;; *) compopt -o default; return ;; esac; words="--help" ;;
-            show) case "$word" in -*) ;; *) compopt -o default; return ;; esac; words="--program --help" ;;
+            audit) case "$word" in -*) ;; *) compopt -o default; return ;; esac; words="--format --explain --explain=never --help" ;;
+            show) case "$word" in -*) ;; *) compopt -o default; return ;; esac; words="--program --explain --explain=never --help" ;;
             compile) case "$word" in -*) ;; *) compopt -o default; return ;; esac; words="--explain --explain=never --help" ;;
             run) case "$word" in -*) ;; *) compopt -o default; return ;; esac; words="--store --level --attempts --explain --explain=never --help" ;;
             store) case "$word" in -*) ;; *) compopt -o default; return ;; esac; words="--format --check --compact --at --since --key --range --help" ;;

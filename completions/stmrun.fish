@@ -20,6 +20,7 @@ complete -c stmrun -n '__fish_seen_subcommand_from threads' -l workers -d 'How m
 complete -c stmrun -n '__fish_seen_subcommand_from threads' -l store -d 'The file of a store that the jobs go on from, which is made where it is missing' -r -F
 complete -c stmrun -n '__fish_seen_subcommand_from threads' -l ends -d 'Whether the end of each job is printed, and how often commits failed over each key'
 complete -c stmrun -n '__fish_seen_subcommand_from threads' -l repeat -d 'How many runs are made, from 1 to 1000000, of which is printed what they come to, and how often' -x -a ''
+complete -c stmrun -n '__fish_seen_subcommand_from threads' -l format -d 'The form of what is printed' -x -a 'lines text'
 complete -c stmrun -n '__fish_seen_subcommand_from threads' -l explain -d 'Explains faults, of an input or of a run'
 complete -c stmrun -n '__fish_seen_subcommand_from threads' -a '--explain=never'
 complete -c stmrun -n '__fish_seen_subcommand_from threads' -l help -d 'Print help'
@@ -42,10 +43,15 @@ complete -c stmrun -n '__fish_seen_subcommand_from explore' -a '--explain=never'
 complete -c stmrun -n '__fish_seen_subcommand_from explore' -l help -d 'Print help'
 complete -c stmrun -n __fish_use_subcommand -a audit -d 'Says of transactions that committed elsewhere whether each kept its levels promise'
 complete -c stmrun -n '__fish_seen_subcommand_from audit' -F
+complete -c stmrun -n '__fish_seen_subcommand_from audit' -l format -d 'The form of what is printed' -x -a 'lines text'
+complete -c stmrun -n '__fish_seen_subcommand_from audit' -l explain -d 'Explains faults, of an input or of a run'
+complete -c stmrun -n '__fish_seen_subcommand_from audit' -a '--explain=never'
 complete -c stmrun -n '__fish_seen_subcommand_from audit' -l help -d 'Print help'
 complete -c stmrun -n __fish_use_subcommand -a show -d 'Prints a scenario, or a program, as a source'
 complete -c stmrun -n '__fish_seen_subcommand_from show' -F
 complete -c stmrun -n '__fish_seen_subcommand_from show' -l program -d 'Whether the input is a program, and no scenario'
+complete -c stmrun -n '__fish_seen_subcommand_from show' -l explain -d 'Explains faults, of an input or of a run'
+complete -c stmrun -n '__fish_seen_subcommand_from show' -a '--explain=never'
 complete -c stmrun -n '__fish_seen_subcommand_from show' -l help -d 'Print help'
 complete -c stmrun -n __fish_use_subcommand -a compile -d 'Prints the scenario of a source as JSON, or one of its programs'
 complete -c stmrun -n '__fish_seen_subcommand_from compile' -F

@@ -1,12 +1,18 @@
-//! What a search prints, in words for people.
+//! What a search, jobs, a store and an audit print, in words for people.
 //!
-//! The lines are those of the command `explore` (docs/FORMATS.md). Nothing is promised of the words, which may change.
+//! The lines are those of the commands `explore`, `threads`, `store` and `audit` (docs/FORMATS.md). Nothing is promised of the words, which may change.
 #![tactic(auto)]
 
+mod audited;
+mod jobs;
 mod outcomes;
 mod parts;
 mod rules;
+mod stored;
 mod words;
 
+pub use audited::audit_line_in_words;
+pub use jobs::job_line_in_words;
 pub use stm_compiling::NamedRunner;
+pub use stored::store_line_in_words;
 pub use words::in_words;

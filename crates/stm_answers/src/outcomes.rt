@@ -47,26 +47,48 @@ pub(crate) fn push_end(alloc: Global, out: &mut String, end: &[Json]) -> Result<
     }
 }
 
-/// Adds a runner: its name, or its number where it has none.
-fn push_runner(
+/// What runs are called that have no name.
+#[derive(Clone, Copy)]
+pub(crate) enum Noun {
+    /// Runners, numbered from 1.
+    Runner,
+    /// Jobs of threads, numbered from 0.
+    Job,
+}
+
+/// A run without a name, of the start of this number.
+fn numbered(alloc: Global, noun: Noun, number: u64) -> Result<String, AllocError> {
+    match noun {
+        Noun::Runner => format!(in alloc; "runner {number}"),
+        Noun::Job => {
+            let job = number.saturating_sub(1);
+            format!(in alloc; "job {job}")
+        }
+    }
+}
+
+/// Adds the run of a start: its name, or its number where it has none.
+fn push_run(
     alloc: Global,
     out: &mut String,
+    noun: Noun,
     runners: &[NamedRunner],
     number: u64,
 ) -> Result<(), AllocError> {
     match name_of_runner(runners, number) {
         Some(name) => out.push_str(name),
         None => {
-            let runner = format!(in alloc; "runner {number}")?;
-            out.push_str(runner.as_str())
+            let run = numbered(alloc, noun, number)?;
+            out.push_str(run.as_str())
         }
     }
 }
 
-/// Adds how each runner ended.
+/// Adds how each run ended.
 fn push_ends(
     alloc: Global,
     out: &mut String,
+    noun: Noun,
     runners: &[NamedRunner],
     ends: &[Json],
 ) -> Result<(), AllocError> {
@@ -76,7 +98,7 @@ fn push_ends(
             out.push_str(", ")?;
         }
         number = number.saturating_add(1);
-        push_runner(alloc, out, runners, number)?;
+        push_run(alloc, out, noun, runners, number)?;
         out.push(' ')?;
         push_end(alloc, out, list_of(end))?;
     }
@@ -96,15 +118,16 @@ fn push_state(alloc: Global, out: &mut String, state: &[Json]) -> Result<(), All
     Ok(())
 }
 
-/// How each runner ended, and which keys are present then, with their values.
+/// How each run ended, and which keys are present then, with their values.
 pub(crate) fn outcome_words(
     alloc: Global,
+    noun: Noun,
     runners: &[NamedRunner],
     state: &[Json],
     ends: &[Json],
 ) -> Result<String, AllocError> {
     let mut out = String::new(alloc);
-    push_ends(alloc, &mut out, runners, ends)?;
+    push_ends(alloc, &mut out, noun, runners, ends)?;
     push_state(alloc, &mut out, state)?;
     Ok(out)
 }

@@ -1,6 +1,6 @@
 //! The lines of a search in words.
 
-use crate::outcomes::outcome_words;
+use crate::outcomes::{Noun, outcome_words};
 use crate::parts::{list_at, moves, number_at, text_at};
 use crate::rules::{always_words, broken_words, open_words};
 use serde_json::Value as Json;
@@ -57,7 +57,8 @@ fn anomaly_words(
 ) -> Result<String, AllocError> {
     let at = at_level(alloc, parts, 4)?;
     let moves = moves(alloc, number_at(parts, 1).unwrap_or(0))?;
-    let outcome = outcome_words(alloc, runners, list_at(parts, 2), list_at(parts, 3))?;
+    let (state, ends) = (list_at(parts, 2), list_at(parts, 3));
+    let outcome = outcome_words(alloc, Noun::Runner, runners, state, ends)?;
     format!(in alloc; "{at}anomaly after {moves}, to which no serial order comes: {outcome}")
 }
 
@@ -67,7 +68,8 @@ fn outcome_line(
     parts: &[Json],
     runners: &[NamedRunner],
 ) -> Result<String, AllocError> {
-    let outcome = outcome_words(alloc, runners, list_at(parts, 1), list_at(parts, 2))?;
+    let (state, ends) = (list_at(parts, 1), list_at(parts, 2));
+    let outcome = outcome_words(alloc, Noun::Runner, runners, state, ends)?;
     format!(in alloc; "outcome: {outcome}")
 }
 
@@ -78,7 +80,7 @@ fn count_line(alloc: Global, parts: &[Json]) -> Result<String, AllocError> {
 }
 
 /// Words that there are, unless an allocation failed for them.
-fn some(words: Result<String, AllocError>) -> Result<Option<String>, AllocError> {
+pub(crate) fn some(words: Result<String, AllocError>) -> Result<Option<String>, AllocError> {
     match words {
         Ok(words) => Ok(Some(words)),
         Err(error) => Err(error),

@@ -55,7 +55,7 @@ IsThreads rows words =
     HasWord rows (codes "store") words.store × HasWord rows (codes "FILE") words.scenario × NumberAt (first_of (codes "workers") rows) words.workers
     × (1 ≤ words.workers) × (words.workers ≤ MOST_WORKERS)
     × HasFlag rows (codes "ends") words.ends × RunsAt (first_of (codes "repeat") rows) words.repeat
-    × HasFlag rows (codes "explain") words.explain
+    × HasWord rows (codes "format") words.format × HasFlag rows (codes "explain") words.explain
 
 abbrev pub IsRecipe : List Row → RecipeWords → Type 0
 IsRecipe rows words =
@@ -71,10 +71,12 @@ IsExplore rows words =
     × HasFlag rows (codes "explain") words.explain
 
 abbrev pub IsAudit : List Row → AuditWords → Type 0
-IsAudit rows words = HasWord rows (codes "FILE") words.trace
+IsAudit rows words =
+    HasWord rows (codes "FILE") words.trace × HasWord rows (codes "format") words.format × HasFlag rows (codes "explain") words.explain
 
 abbrev pub IsShow : List Row → ShowWords → Type 0
-IsShow rows words = HasWord rows (codes "FILE") words.input × HasFlag rows (codes "program") words.program
+IsShow rows words =
+    HasWord rows (codes "FILE") words.input × HasFlag rows (codes "program") words.program × HasFlag rows (codes "explain") words.explain
 
 -- with the arguments of the program behind its name
 abbrev pub IsCompile : List Row → List Text → CompileWords → Type 0

@@ -48,7 +48,24 @@ pub enum Asked<'a> {
 /// What `--version` prints after the name: the program's version, and the kit that it is proved with.
 const VERSION: &str = "0.1.0 (rattle-kit-13f)";
 
-const EXAMPLE: &str = "A scenario is a JSON array of events, in their order:
+const EXAMPLE: &str =
+    "A scenario is a source, a file NAME.stm, or JSON. This source has a program that is started twice, and a rule:
+
+  program leave(me, other) {
+      if get(other) == \"yes\" { put(me, \"no\") }
+  }
+  txn { put(\"ana\", \"yes\") put(\"ben\", \"yes\") }
+  start leave(\"ana\", \"ben\") as a
+  start leave(\"ben\", \"ana\") as b
+  rule somebody {
+      if get(\"ana\") != \"yes\" && get(\"ben\") != \"yes\" { abort(\"nobody is left\") }
+  }
+
+Where it is on_call.stm, this says from which level on the rule is always kept, and shows a schedule that breaks it:
+
+  stmrun explore on_call.stm --level all --format text
+
+stmrun help language has what a source may have. As JSON a scenario is an array of events, in their order:
 
   [\"start\",LEVEL,LIMIT,PROGRAM]       a runner gets the program, whose run may send LIMIT commits
   [\"step\",RUNNER]                     the runner fetches its list or a key, or commits
@@ -67,8 +84,8 @@ how many operations it takes in each list of a transaction, 1 to 128.
 
 LEVEL is ReadCommitted, RepeatableReads, Serializable or SerializableSnapshot. PROGRAM is an array of
 statements: stmrun help formats has them, with the compares and operations of a txn, and stmrun help causes
-has why a text, an event or a program is refused; stmrun recipe prints ready programs. A file whose name ends in .stm
-is a scenario in words: stmrun help language. This scenario starts a program that puts a key, and lets it take a step:
+has why a text, an event or a program is refused; stmrun recipe prints ready programs. This scenario starts a program
+that puts a key, and lets it take a step:
 
   [[\"start\",\"Serializable\",1,[[\"put\",\"a\",\"1\",0]]],[\"step\",1]]
 
@@ -192,10 +209,12 @@ fn asked_by<'a>(
     }
 }
 
-/// Options that there are not, by which people ask for a final, and for a rule.
+/// Options that there are not, by which people ask for a final, for a rule, and for outcomes.
 const FINAL: &str = "--finally";
 
 const RULE: &str = "--rule";
+
+const OUTCOMES: &str = "--outcomes";
 
 /// Whether one of these words is an option.
 fn have(words: &[String], option: &str) -> bool {
@@ -211,6 +230,14 @@ fn name_a_rule(words: &[String]) -> bool {
     }
 }
 
+/// Whether words have a file in the place of the command.
+fn begin_with_a_file(words: &[String]) -> bool {
+    match words {
+        [_, word, ..] => word.as_str().ends_with(".stm") || word.as_str().ends_with(".json"),
+        _ => false,
+    }
+}
+
 /// How to ask for what these words ask for, and are refused; nothing, where that is not known.
 fn tip_for(words: &[String]) -> &'static str {
     if have(words, FINAL) {
@@ -218,6 +245,12 @@ fn tip_for(words: &[String]) -> &'static str {
     }
     if have(words, RULE) {
         return "explore FILE.stm asks the rules of a source, and --keeps FILE.stm:NAME one of them alone";
+    }
+    if have(words, OUTCOMES) {
+        return "explore prints the outcomes of a file without rules, and with --witness those of any file, each with its schedule";
+    }
+    if begin_with_a_file(words) {
+        return "a command stands before the file: explore FILE goes through every interleaving, and script FILE plays one";
     }
     if name_a_rule(words) {
         return "a rule that is a file of its own is asked by --keeps: explore SCENARIO --keeps RULE.json";

@@ -3,8 +3,10 @@ ghost use Rattle.std.specs.Prelude.{◌≡◌};
 ghost use Rattle.clap.specs.Words.{found_of, rows_of};
 ghost use Rattle.stm_arguments.specs.Asking.{IsAudit};
 
-use crate::tables::{Form, Table, with_command};
-use crate::words::word_of;
+use crate::exploring::FORMATS;
+use crate::tables::{EXPLAIN, Form, Table, with_command};
+use crate::words::{flag_of, word_of};
+use clap::builder::ValueParser;
 use clap::{ArgMatches, Command};
 use std::alloc::{AllocError, Global};
 
@@ -34,7 +36,7 @@ allows the anomaly, and after \"broken\", where it promises that it does not com
   StaleRead       a key that was read had been changed, and none of these holds
   BlindWrite      a key that is written was put after the transaction's first read
 
-A line [\"off\",COMMIT] at the end says that the revision of a commit is not the store's: commits are missing.
+With --format text these lines are in words. A line [\"off\",COMMIT] at the end says that the revision of a commit is not the store's: commits are missing.
 
 Statuses: 0 all promises are kept, 1 one is broken, or commits are missing, 2 bad input or usage, 3 out of memory or a
 failed device.";
@@ -44,6 +46,10 @@ failed device.";
 pub struct AuditWords<'a> {
     /// The path of the trace; standard input, where there is none.
     pub trace: Option<&'a str>,
+    /// The name of the form of what is printed: lines, where there is none.
+    pub format: Option<&'a str>,
+    /// Whether a fault is explained.
+    pub explain: bool,
 }
 
 /// The command `audit`.
@@ -51,11 +57,19 @@ const AUDIT: Table = Table {
     name: "audit",
     about: "Says of transactions that committed elsewhere whether each kept its level's promise",
     example: EXAMPLE,
-    arguments: &[(
-        "FILE",
-        Form::Optional,
-        "The file of the trace, in the place of standard input",
-    )],
+    arguments: &[
+        (
+            "FILE",
+            Form::Optional,
+            "The file of the trace, in the place of standard input",
+        ),
+        (
+            "format",
+            Form::Value("FORMAT", ValueParser::Names(FORMATS)),
+            "The form of what is printed: lines (the default), for programs, or text, for people",
+        ),
+        EXPLAIN,
+    ],
     rules: &[],
 };
 
@@ -73,5 +87,7 @@ pub(crate) fn audit_of<'a>(found: &ArgMatches<'a>) -> AuditWords<'a>
 {
     AuditWords {
         trace: word_of(found, "FILE"),
+        format: word_of(found, "format"),
+        explain: flag_of(found, "explain"),
     }
 }

@@ -79,8 +79,8 @@ last one is the table of the weakest level at which a rule is broken.
 Statuses: 0 always, serial, or all outcomes were found, 1 broken or an anomaly, 2 bad input or usage, 3 out of memory or a
 failed device, 4 open.";
 
-/// The names of the forms of what is printed.
-const FORMATS: &[&str] = &["lines", "text"];
+/// The names of the forms of what is printed: lines, and words.
+pub(crate) const FORMATS: &[&str] = &["lines", "text"];
 
 /// The words of `explore`.
 #[derive(Drop)]

@@ -67,6 +67,8 @@ Programs
   let NAME = ITEM, ITEM ..            a list                                let sites = \"ams\", \"fra\"
   let NAME(PARAMETER, ..) = VALUE     a value that is copied in where it    let held(k) = num_of(get(k) else \"0\")
                                       is named: held(\"a\") + held(\"b\")
+  let NAME = VALUE                    the same: it looks up at each use,    let stock = get(\"stock\")
+                                      where one in a program does once
 
 Events
   begin REVISION limit OPERATIONS     first: the store's opening            begin 5 limit 3

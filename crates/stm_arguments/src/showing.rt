@@ -3,7 +3,7 @@ ghost use Rattle.std.specs.Prelude.{◌≡◌};
 ghost use Rattle.clap.specs.Words.{found_of, rows_of};
 ghost use Rattle.stm_arguments.specs.Asking.{IsShow};
 
-use crate::tables::{Form, Table, with_command};
+use crate::tables::{EXPLAIN, Form, Table, with_command};
 use crate::words::{flag_of, word_of};
 use clap::{ArgMatches, Command};
 use std::alloc::{AllocError, Global};
@@ -34,6 +34,8 @@ pub struct ShowWords<'a> {
     pub input: Option<&'a str>,
     /// Whether it is a program.
     pub program: bool,
+    /// Whether a fault is explained.
+    pub explain: bool,
 }
 
 /// The command `show`.
@@ -52,6 +54,7 @@ const SHOW: Table = Table {
             Form::Flag,
             "Whether the input is a program, and no scenario",
         ),
+        EXPLAIN,
     ],
     rules: &[],
 };
@@ -71,5 +74,6 @@ pub(crate) fn show_of<'a>(found: &ArgMatches<'a>) -> ShowWords<'a>
     ShowWords {
         input: word_of(found, "FILE"),
         program: flag_of(found, "program"),
+        explain: flag_of(found, "explain"),
     }
 }

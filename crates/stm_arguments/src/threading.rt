@@ -3,6 +3,7 @@ ghost use Rattle.std.specs.Prelude.{◌≡◌, IfOk};
 ghost use Rattle.clap.specs.Words.{found_of, rows_of};
 ghost use Rattle.stm_arguments.specs.Asking.{IsThreads};
 
+use crate::exploring::FORMATS;
 use crate::numbers::{MOST_RUNS, MOST_WORKERS, runs_at, workers_in};
 use crate::tables::{EXPLAIN, Form, Table, with_command};
 use crate::words::{Unasked, flag_of, required_word, word_of};
@@ -39,6 +40,9 @@ of runs that came to that. The last line has the number of all. Of the same file
   [\"outcome\",[[\"a\",\"1\"],[\"b\",\"1\"]],[[\"committed\",[]]],1000]
   [\"runs\",1000]
 
+With --format text all of this is in words, with the names that a source gives to its runs, as ana (job 0): committed at
+revision 3 (attempts: 1).
+
 With --store STORE the jobs go on from the store of that file, which is made where it is missing, and all that they have
 changed is put on the disk at once, before anything is printed. stmrun store --help has more of such stores.
 
@@ -59,6 +63,8 @@ pub struct ThreadsWords<'a> {
     pub ends: bool,
     /// Where a number from 1 to `MOST_RUNS` is named: that many runs are made, and what they come to is shown.
     pub repeat: Option<u32>,
+    /// The name of the form of what is printed: lines, where there is none.
+    pub format: Option<&'a str>,
     /// Whether a fault is explained.
     pub explain: bool,
 }
@@ -94,6 +100,11 @@ const THREADS: Table = Table {
             Form::Value("RUNS", ValueParser::Unsigned(1, MOST_RUNS)),
             "How many runs are made, from 1 to 1000000, of which is printed what they come to, and how often",
         ),
+        (
+            "format",
+            Form::Value("FORMAT", ValueParser::Names(FORMATS)),
+            "The form of what is printed: lines (the default), for programs, or text, for people",
+        ),
         EXPLAIN,
     ],
     rules: &[],
@@ -118,6 +129,7 @@ pub(crate) fn threads_of<'a>(found: &ArgMatches<'a>) -> Result<ThreadsWords<'a>,
     let ends = flag_of(found, "ends");
     let named = word_of(found, "repeat");
     let repeat = runs_at(named)?;
+    let format = word_of(found, "format");
     let explain = flag_of(found, "explain");
     Ok(ThreadsWords {
         store,
@@ -125,6 +137,7 @@ pub(crate) fn threads_of<'a>(found: &ArgMatches<'a>) -> Result<ThreadsWords<'a>,
         workers,
         ends,
         repeat,
+        format,
         explain,
     })
 }

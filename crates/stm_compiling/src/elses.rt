@@ -1,8 +1,8 @@
 //! What is said of an `else` of a look-up, or of a definition that has one, where there may be none.
 
 use crate::spots::Spot;
-use crate::wanted::{is_behind_condition_word, is_behind_operator};
-use stm_tokens::{Symbol, TokenKind, Word};
+use crate::wanted::{is_behind_condition_word, is_behind_operator, is_behind_sign};
+use stm_tokens::{Symbol, Token, TokenKind, Word};
 
 /// Whether a `&&` or `||` stands before a token in its condition.
 fn is_behind_connective(spot: Spot<'_>) -> bool {
@@ -33,12 +33,23 @@ fn said_of_definition(spot: Spot<'_>) -> &'static str {
     "it is defined with an else, which stands neither beside v0 to v15 nor within another one"
 }
 
-/// Whether a `let` before a token gives this name.
+/// Whether a text or a number as it stands is given to the name at an index of these tokens: then it is a constant, and has no `else`.
+fn is_constant(tokens: &[Token], index: usize) -> bool {
+    let sign = tokens.get(index.saturating_add(1));
+    let value = tokens.get(index.saturating_add(2));
+    match (sign, value) {
+        (Some(sign), Some(value)) => sign.kind.is_symbol(Symbol::Assign)
+            && matches!(value.kind, TokenKind::Text(_) | TokenKind::Number(_)),
+        _ => false,
+    }
+}
+
+/// Whether a `let` before a token gives this name to what is no constant.
 fn is_given(spot: Spot<'_>, name: &str) -> bool {
     let mut is_let = false;
-    for token in spot.before {
+    for (index, token) in spot.before.iter().enumerate() {
         if is_let && token.kind.is_named(name) {
-            return true;
+            return !is_constant(spot.before, index);
         }
         is_let = token.kind.is_word(Word::Let);
     }
@@ -50,8 +61,12 @@ fn is_value(spot: Spot<'_>, name: &str) -> bool {
     (is_behind_operator(spot) || is_behind_condition_word(spot)) && is_given(spot, name)
 }
 
-/// What is said of an `else` of a look-up, or of the name of a definition that has one, where there may be none; nothing of other tokens.
+/// What is said of an `else` of a look-up, or of the name of a definition that has one, where there may be none; nothing of other tokens, and of a name
+/// behind the sign of a number.
 pub(crate) fn said_of_else(spot: Spot<'_>) -> &'static str {
+    if is_behind_sign(spot) {
+        return "";
+    }
     match spot.kind() {
         Some(TokenKind::Word(Word::Else)) if spot.is_behind_symbol(0, Symbol::RightParenthesis) => {
             said_of_look_up(spot)

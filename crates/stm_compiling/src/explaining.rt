@@ -19,8 +19,8 @@ use crate::signs::{
 use crate::spots::{Event, Place, Spot, name_in, spot_at};
 use crate::titles::{near_name, said_of_names};
 use crate::wanted::{
-    EVENT_NOUN, EVENTS, STATEMENT, Wanted, allowed, is_behind_condition_word, nearest, numbers_at,
-    wanted_at,
+    EVENT_NOUN, EVENTS, OPTION_NOUN, STATEMENT, Wanted, allowed, is_behind_condition_word, nearest,
+    numbers_at, wanted_at,
 };
 use serde_json::Value as Json;
 use std::alloc::{AllocError, Global};
@@ -283,7 +283,7 @@ fn no_such_word(
         );
     }
     let said = said_of_no_event(spot);
-    if noun == EVENT_NOUN && !said.is_empty() {
+    if (noun == EVENT_NOUN || noun == OPTION_NOUN) && !said.is_empty() {
         return format!(in alloc; "{found} is no event: {said}");
     }
     let list = allowed(alloc, words, beside, name)?;
@@ -478,7 +478,10 @@ fn said_of_dot(source: &[u8], spot: Spot<'_>) -> &'static str {
 fn said_of_character(source: &[u8], spot: Spot<'_>, at: usize, character: &str) -> &'static str {
     match character {
         ":" => said_of_colon(spot, sets_at(source, at)),
-        "'" | "`" => "texts stand in double quotes",
+        "'" | "`" | "\u{201c}" | "\u{201d}" | "\u{2018}" | "\u{2019}" => {
+            "texts stand in double quotes"
+        }
+        "\u{feff}" => "a source has no mark of a byte order",
         "[" if spot.place() == Place::Events => {
             "there are no arrays, and a scenario that is JSON needs no compile"
         }

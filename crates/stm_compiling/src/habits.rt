@@ -84,6 +84,7 @@ fn said_of_symbol(spot: Spot<'_>, symbol: Symbol) -> &'static str {
         Symbol::Semicolon => "events stand one behind another, without it",
         Symbol::RightBrace | Symbol::RightParenthesis => "no bracket is open before it",
         Symbol::Arithmetic(Operator::Div) => "a comment begins with //",
+        Symbol::Arithmetic(Operator::Sub) => "a name has letters, digits and _ alone",
         Symbol::Comma if spot.event() == Some(Event::Step) => {
             "runners stand one behind another, without it"
         }
@@ -116,6 +117,7 @@ pub(crate) fn said_of_event(spot: Spot<'_>) -> &'static str {
 /// What is said of a token among the operations of a transaction; nothing of others.
 pub(crate) fn said_of_operation(spot: Spot<'_>) -> &'static str {
     match spot.kind() {
+        Some(TokenKind::Symbol(Symbol::Comma)) => "operations stand one behind another, without it",
         Some(TokenKind::Word(Word::If)) => {
             "compares stand before the braces: txn if COMPARE && .. { .. } else { .. }"
         }

@@ -154,6 +154,24 @@ fn last_event(tokens: &[Token]) -> Option<Event> {
     None
 }
 
+/// Whether a block that begins behind these tokens is one of a transaction, and not the body of a program.
+fn is_of_a_transaction(tokens: &[Token]) -> bool {
+    for token in tokens.iter().rev() {
+        if token.kind.is_named("txn") {
+            return true;
+        }
+        if token.kind.is_named("start")
+            || matches!(
+                token.kind,
+                TokenKind::Word(Word::Program | Word::Rule | Word::Finally)
+            )
+        {
+            return false;
+        }
+    }
+    false
+}
+
 impl<'a> Spot<'a> {
     /// What the token is.
     pub(crate) fn kind(self) -> Option<&'a TokenKind> {
@@ -222,9 +240,10 @@ impl<'a> Spot<'a> {
         let Some(first) = first_open(self.before) else {
             return Place::Events;
         };
-        match last_event(front(self.before, first)) {
-            Some(Event::Transaction) => Place::Operations,
-            _ => Place::Statements,
+        if is_of_a_transaction(front(self.before, first)) {
+            Place::Operations
+        } else {
+            Place::Statements
         }
     }
 

@@ -219,6 +219,12 @@ pub(crate) fn said_of_names(
             )?;
             return Ok(Some(said));
         }
+        if is_among(names.as_slice(), name) {
+            let said = format!(in alloc;
+                "{found} makes no steps: a start with limit 0 is refused, and no runner waits for itself"
+            )?;
+            return Ok(Some(said));
+        }
         return said_of_others(alloc, found, name, "runner", names.as_slice());
     }
     Ok(None)

@@ -27,6 +27,9 @@ const ORDERS: [&str; 4] = ["==", "!=", "<", ">"];
 /// What is wanted where one of these words may begin it.
 pub(crate) const EVENT_NOUN: &str = "event";
 
+/// The same behind the program of a start.
+pub(crate) const OPTION_NOUN: &str = "event, and nothing of a start";
+
 /// The same in a program.
 pub(crate) const STATEMENT: &str = "statement";
 
@@ -151,7 +154,7 @@ fn in_event(spot: Spot<'_>) -> Wanted {
         Some(Event::Transaction) if spot.is_behind_symbol(0, Symbol::RightParenthesis) => {
             Wanted::Words("order", &ORDERS, "")
         }
-        Some(Event::Start) => Wanted::Words("event, and nothing of a start", &OPTIONS, ""),
+        Some(Event::Start) => Wanted::Words(OPTION_NOUN, &OPTIONS, ""),
         _ => Wanted::Words(EVENT_NOUN, &EVENTS, ""),
     }
 }
@@ -323,7 +326,7 @@ fn is_behind_else_of_look_up(spot: Spot<'_>) -> bool {
 }
 
 /// Whether the sign of a number stands before a place: a `-` where a value may begin.
-fn is_behind_sign(spot: Spot<'_>) -> bool {
+pub(crate) fn is_behind_sign(spot: Spot<'_>) -> bool {
     match spot.back(1) {
         Some(TokenKind::Symbol(symbol)) => {
             *symbol != Symbol::RightParenthesis

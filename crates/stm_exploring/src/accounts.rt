@@ -553,10 +553,11 @@ fn account_before<'a>(
     }
 }
 
-/// Makes an account, and says it.
+/// Makes an account, and says it. The orders are gone through in a world that stands for the whole one.
 fn make_account<O: Audience>(
     alloc: Global,
     world: &World,
+    whole: &World,
     others: &[WorldEvent],
     programs: &[Program],
     answers: &[RuleAnswer],
@@ -566,7 +567,7 @@ fn make_account<O: Audience>(
 ) -> Result<(), AllocError>
     requires { AreProgramsOf programs.now world.now.runners }
 {
-    let mut account = account_before(alloc, world, others, programs, answers, told)?;
+    let mut account = account_before(alloc, whole, others, programs, answers, told)?;
     go_through_orders(alloc, world, others, programs, &mut account)?;
     if account.is_cut {
         return Err(AllocError);
@@ -575,10 +576,11 @@ fn make_account<O: Audience>(
 }
 
 /// Says how the runs ended of the runners of which it is told, each program run alone in every serial order, or at the ends of schedules, where these
-/// were seen, and which keys the rules ask for that are not there and that nothing puts. Or it says that an allocation failed for it.
+/// were seen, and which keys the rules ask for that are not there in the whole world and that nothing puts. Or it says that an allocation failed for it.
 pub(crate) fn tell_account<O: Audience>(
     alloc: Global,
     world: &World,
+    whole: &World,
     others: &[WorldEvent],
     programs: &[Program],
     answers: &[RuleAnswer],
@@ -589,7 +591,7 @@ pub(crate) fn tell_account<O: Audience>(
 {
     let told = told_of(audience.wants_all(), has_kept(answers));
     if let Err(_) = make_account(
-        alloc, world, others, programs, answers, seen, told, audience,
+        alloc, world, whole, others, programs, answers, seen, told, audience,
     ) {
         audience.hear(NO_MEMORY);
     }

@@ -27,6 +27,7 @@ mod lines;
 mod lists;
 mod messages;
 mod naming;
+mod narrowing;
 mod near_keys;
 mod outcome_lines;
 mod outcomes;
@@ -42,6 +43,7 @@ mod seen_ends;
 mod serial;
 mod serial_levels;
 mod setup;
+mod touched;
 mod waits;
 mod watching;
 

@@ -1,5 +1,5 @@
 //! A search about a scenario and rules, and what is printed of it.
-ghost use Rattle.std.specs.Prelude.{◌≡◌, ◌++◌, true, List, [], All, IfOk, OnOk};
+ghost use Rattle.std.specs.Prelude.{◌≡◌, ◌++◌, true, List, [], All, IfOk, IfSome, OnOk};
 ghost use Rattle.stm_schedules.specs.Outcomes.{after_replies};
 ghost use Rattle.stm_world.specs.World.{opened, replies_to, world_after};
 ghost use Rattle.stm_serial.specs.Serial.{IsComparing};
@@ -9,12 +9,14 @@ ghost use Rattle.stm_exploring.specs.declared.rules.Rule.{Rule as RuleValue};
 ghost use Rattle.stm_exploring.specs.Asking.{opening_of, place_of};
 ghost use Rattle.stm_exploring.specs.Exploring.{IsPrinted};
 ghost use Rattle.stm_exploring.specs.Judging.{AreAnswers, AreFound, AreFoundBeside, AreFoundFrom, AreFoundWhen};
+ghost use Rattle.stm_exploring.specs.Narrowing.{StandsFor};
 
 use crate::accounts::tell_account;
 use crate::audience::{Audience, tell_parts};
 use crate::faulted::tell_faults;
 use crate::grouping::{asked_by, end_of_group, group_of, push_answers};
 use crate::judging::{Answer, judge_comparing, judge_schedules};
+use crate::narrowing::narrowed;
 use crate::printed::Printed;
 use crate::printing::print;
 use crate::rules::{Rule, RuleAnswer};
@@ -205,10 +207,11 @@ fn seen_if_waiting<'a>(waits: &[Wait], seen: &'a SeenEnds) -> Option<&'a SeenEnd
     Some(seen)
 }
 
-/// The same, and it is said what that covers. These ends are seen.
+/// The same, and it is said what that covers, of the whole world in the place of which this one is searched. These ends are seen.
 fn judge_seen<O: Audience>(
     alloc: Global,
     world: &World,
+    whole: &World,
     others: &[WorldEvent],
     ends: &[Option<RunnerEnd>],
     programs: &[Program],
@@ -230,6 +233,7 @@ fn judge_seen<O: Audience>(
     tell_account(
         alloc,
         world,
+        whole,
         others,
         programs,
         answers.as_slice(),
@@ -243,6 +247,7 @@ fn judge_seen<O: Audience>(
 fn judge_and_tell<O: Audience>(
     alloc: Global,
     world: &World,
+    whole: &World,
     others: &[WorldEvent],
     ends: &[Option<RunnerEnd>],
     programs: &[Program],
@@ -257,10 +262,38 @@ fn judge_and_tell<O: Audience>(
 {
     let seen = SeenEnds::new(alloc, world.runner_count())?;
     let answers = judge_seen(
-        alloc, world, others, ends, programs, comparing, waits, rules, &seen, budget,
+        alloc, world, whole, others, ends, programs, comparing, waits, rules, &seen, budget,
     );
     drop(seen);
     answers
+}
+
+/// The same, by a search in a small world that stands for the whole one, where there is one.
+fn judge_in_either<O: Audience>(
+    alloc: Global,
+    small: &Option<World>,
+    world: &World,
+    others: &[WorldEvent],
+    ends: &[Option<RunnerEnd>],
+    programs: &[Program],
+    comparing: bool,
+    waits: &[Wait],
+    rules: &[Rule],
+    budget: &mut Budget<O>,
+) -> Result<Vec<RuleAnswer>, AllocError>
+    requires programs { AreProgramsOf programs.now world.now.runners }
+    requires comparing { comparing ≡ true → IsComparing (record { world = world.now; others = others.now }) }
+    requires small { IfSome small.now (λ s. StandsFor rules.now (record { world = s; others = others.now }) (record { world = world.now; others = others.now })) }
+    ensures { IfOk result (λ answers. AreFoundFrom waits.now rules.now (record { world = world.now; others = others.now }) ends.now answers.items) }
+{
+    match small {
+        None => judge_and_tell(
+            alloc, world, world, others, ends, programs, comparing, waits, rules, budget,
+        ),
+        Some(small) => judge_and_tell(
+            alloc, small, world, others, ends, programs, comparing, waits, rules, budget,
+        ),
+    }
 }
 
 /// Whether each rule is kept after every schedule in which these runners wait, once these events were run in a world, which start these programs.
@@ -275,6 +308,7 @@ fn explore_from<O: Audience>(
     rules: &[Rule],
     budget: &mut Budget<O>,
 ) -> Result<Vec<RuleAnswer>, AllocError>
+    requires new { world.old.runners ≡ [] }
     requires programs { AreProgramsOf programs.now (world_after setup.now world.old).runners }
     requires comparing { comparing ≡ true → IsComparing (record { world = world_after setup.now world.old; others = others.now }) }
     ensures { IfOk result (λ answers. AreFoundFrom waits.now rules.now (record { world = world_after setup.now world.old; others = others.now })
@@ -283,9 +317,12 @@ fn explore_from<O: Audience>(
     let ends = run_setup(alloc, world, setup)?;
     tell_parts(alloc, setup.len(), others.len(), &mut budget.observer);
     let known = ends.as_slice();
-    judge_and_tell(
-        alloc, world, others, known, programs, comparing, waits, rules, budget,
-    )
+    let small = narrowed(alloc, world, setup, others, programs, rules)?;
+    let answers = judge_in_either(
+        alloc, &small, world, others, known, programs, comparing, waits, rules, budget,
+    );
+    drop(small);
+    answers
 }
 
 /// The world of a scenario before its first event.

@@ -11,7 +11,7 @@ use stm_schedules::RunnerEnd;
 use stm_texts::WorldEvent;
 
 /// Whether an event is a start.
-fn is_start(event: &WorldEvent) -> bool
+pub(crate) fn is_start(event: &WorldEvent) -> bool
     ensures { result ≡ is_start event.now }
 {
     matches!(event, WorldEvent::Start { .. })

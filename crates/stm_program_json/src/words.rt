@@ -96,20 +96,14 @@ pub enum StmtWord {
 fn other_word_of(word: &str) -> Option<ExprWord>
     ensures { result ≡ other_word word.now }
 {
-    if word == "var" {
-        Some(ExprWord::Var)
-    } else if word == "get" {
-        Some(ExprWord::Unary(Unary::Get))
-    } else if word == "rev" {
-        Some(ExprWord::Unary(Unary::Rev))
-    } else if word == "text_of" {
-        Some(ExprWord::Unary(Unary::TextOf))
-    } else if word == "num_of" {
-        Some(ExprWord::Unary(Unary::NumOf))
-    } else if word == "cat" {
-        Some(ExprWord::Binary(Binary::Cat))
-    } else {
-        None
+    match word {
+        "var" => Some(ExprWord::Var),
+        "get" => Some(ExprWord::Unary(Unary::Get)),
+        "rev" => Some(ExprWord::Unary(Unary::Rev)),
+        "text_of" => Some(ExprWord::Unary(Unary::TextOf)),
+        "num_of" => Some(ExprWord::Unary(Unary::NumOf)),
+        "cat" => Some(ExprWord::Binary(Binary::Cat)),
+        _ => None,
     }
 }
 
@@ -129,18 +123,13 @@ pub(crate) fn expression_word_of(word: &str) -> Option<ExprWord>
 pub(crate) fn condition_word_of(word: &str) -> Option<CondWord>
     ensures { result ≡ condition_word word.now }
 {
-    if word == "eq" {
-        Some(CondWord::Comparison(Comparison::Equal))
-    } else if word == "less" {
-        Some(CondWord::Comparison(Comparison::Less))
-    } else if word == "not" {
-        Some(CondWord::Not)
-    } else if word == "and" {
-        Some(CondWord::Connective(Connective::And))
-    } else if word == "or" {
-        Some(CondWord::Connective(Connective::Or))
-    } else {
-        None
+    match word {
+        "eq" => Some(CondWord::Comparison(Comparison::Equal)),
+        "less" => Some(CondWord::Comparison(Comparison::Less)),
+        "not" => Some(CondWord::Not),
+        "and" => Some(CondWord::Connective(Connective::And)),
+        "or" => Some(CondWord::Connective(Connective::Or)),
+        _ => None,
     }
 }
 
@@ -149,21 +138,14 @@ pub(crate) fn condition_word_of(word: &str) -> Option<CondWord>
 pub(crate) fn statement_word_of(word: &str) -> Option<StmtWord>
     ensures { result ≡ statement_word word.now }
 {
-    if word == "set" {
-        Some(StmtWord::Set)
-    } else if word == "put" {
-        Some(StmtWord::Put)
-    } else if word == "if" {
-        Some(StmtWord::If)
-    } else if word == "for" {
-        Some(StmtWord::For)
-    } else if word == "del" {
-        Some(StmtWord::Simple(Simple::Del))
-    } else if word == "emit" {
-        Some(StmtWord::Simple(Simple::Emit))
-    } else if word == "abort" {
-        Some(StmtWord::Simple(Simple::Abort))
-    } else {
-        None
+    match word {
+        "set" => Some(StmtWord::Set),
+        "put" => Some(StmtWord::Put),
+        "if" => Some(StmtWord::If),
+        "for" => Some(StmtWord::For),
+        "del" => Some(StmtWord::Simple(Simple::Del)),
+        "emit" => Some(StmtWord::Simple(Simple::Emit)),
+        "abort" => Some(StmtWord::Simple(Simple::Abort)),
+        _ => None,
     }
 }

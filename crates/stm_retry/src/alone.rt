@@ -12,6 +12,7 @@ use stm_program::Program;
 /// The keys of a store as they are now.
 #[derive(Clone, Copy)]
 pub struct KeysNow<'a> {
+    /// The keys, of which a look-up sees the newest state.
     pub keys: &'a Keys,
 }
 

@@ -11,28 +11,18 @@ use stm_history::Text;
 fn statement_word_of(word: &str) -> Option<Word>
     ensures { result ≡ statement_word word.now }
 {
-    if word == "let" {
-        Some(Word::Let)
-    } else if word == "if" {
-        Some(Word::If)
-    } else if word == "for" {
-        Some(Word::For)
-    } else if word == "put" {
-        Some(Word::Put)
-    } else if word == "del" {
-        Some(Word::Del)
-    } else if word == "emit" {
-        Some(Word::Emit)
-    } else if word == "abort" {
-        Some(Word::Abort)
-    } else if word == "return" {
-        Some(Word::Return)
-    } else if word == "break" {
-        Some(Word::Break)
-    } else if word == "continue" {
-        Some(Word::Continue)
-    } else {
-        None
+    match word {
+        "let" => Some(Word::Let),
+        "if" => Some(Word::If),
+        "for" => Some(Word::For),
+        "put" => Some(Word::Put),
+        "del" => Some(Word::Del),
+        "emit" => Some(Word::Emit),
+        "abort" => Some(Word::Abort),
+        "return" => Some(Word::Return),
+        "break" => Some(Word::Break),
+        "continue" => Some(Word::Continue),
+        _ => None,
     }
 }
 
@@ -41,28 +31,18 @@ fn statement_word_of(word: &str) -> Option<Word>
 fn other_word_of(word: &str) -> Option<Word>
     ensures { result ≡ Rattle.stm_tokens.specs.Names.other_word word.now }
 {
-    if word == "get" {
-        Some(Word::Get)
-    } else if word == "rev" {
-        Some(Word::Rev)
-    } else if word == "num_of" {
-        Some(Word::NumOf)
-    } else if word == "text_of" {
-        Some(Word::TextOf)
-    } else if word == "else" {
-        Some(Word::Else)
-    } else if word == "in" {
-        Some(Word::In)
-    } else if word == "prefetch" {
-        Some(Word::Prefetch)
-    } else if word == "program" {
-        Some(Word::Program)
-    } else if word == "rule" {
-        Some(Word::Rule)
-    } else if word == "finally" {
-        Some(Word::Finally)
-    } else {
-        None
+    match word {
+        "get" => Some(Word::Get),
+        "rev" => Some(Word::Rev),
+        "num_of" => Some(Word::NumOf),
+        "text_of" => Some(Word::TextOf),
+        "else" => Some(Word::Else),
+        "in" => Some(Word::In),
+        "prefetch" => Some(Word::Prefetch),
+        "program" => Some(Word::Program),
+        "rule" => Some(Word::Rule),
+        "finally" => Some(Word::Finally),
+        _ => None,
     }
 }
 

@@ -53,14 +53,11 @@ fn operation(alloc: Global, value: &Value) -> Result<Op, ReadError>
     let Some((word, elements)) = worded_array(value) else {
         return Err(fault(alloc, Cause::Shape));
     };
-    if word == "get" {
-        get(alloc, elements)
-    } else if word == "put" {
-        put(alloc, elements)
-    } else if word == "del" {
-        del(alloc, elements)
-    } else {
-        Err(fault(alloc, Cause::Shape))
+    match word {
+        "get" => get(alloc, elements),
+        "put" => put(alloc, elements),
+        "del" => del(alloc, elements),
+        _ => Err(fault(alloc, Cause::Shape)),
     }
 }
 

@@ -26,18 +26,13 @@ pub enum TargetWord {
 pub(crate) fn target_word(alloc: Global, word: &str) -> Result<TargetWord, ReadError>
     ensures { Returns (λ t. t) result (target_named word.now) }
 {
-    if word == "version" {
-        Ok(TargetWord::Version)
-    } else if word == "create" {
-        Ok(TargetWord::Create)
-    } else if word == "mod" {
-        Ok(TargetWord::Mod)
-    } else if word == "lease" {
-        Ok(TargetWord::Lease)
-    } else if word == "value" {
-        Ok(TargetWord::Value)
-    } else {
-        Err(fault(alloc, Cause::Shape))
+    match word {
+        "version" => Ok(TargetWord::Version),
+        "create" => Ok(TargetWord::Create),
+        "mod" => Ok(TargetWord::Mod),
+        "lease" => Ok(TargetWord::Lease),
+        "value" => Ok(TargetWord::Value),
+        _ => Err(fault(alloc, Cause::Shape)),
     }
 }
 
@@ -46,15 +41,11 @@ pub(crate) fn target_word(alloc: Global, word: &str) -> Result<TargetWord, ReadE
 pub(crate) fn order_word(alloc: Global, word: &str) -> Result<Order, ReadError>
     ensures { Returns (λ o. o) result (order_named word.now) }
 {
-    if word == "=" {
-        Ok(Order::Equal)
-    } else if word == "!=" {
-        Ok(Order::NotEqual)
-    } else if word == ">" {
-        Ok(Order::Greater)
-    } else if word == "<" {
-        Ok(Order::Less)
-    } else {
-        Err(fault(alloc, Cause::Shape))
+    match word {
+        "=" => Ok(Order::Equal),
+        "!=" => Ok(Order::NotEqual),
+        ">" => Ok(Order::Greater),
+        "<" => Ok(Order::Less),
+        _ => Err(fault(alloc, Cause::Shape)),
     }
 }

@@ -13,6 +13,12 @@ use stm_commands::{
 };
 use stm_explain::is_hidden;
 
+/// With this begins a start, and in JSON no text has it.
+const START: &str = "[\"start\",";
+
+/// The same of a step.
+const STEP: &str = "[\"step\",";
+
 /// Whether a path has a character that does something to a terminal.
 pub(crate) fn has_hidden(path: &str) -> bool {
     path.chars().any(is_hidden)
@@ -94,6 +100,18 @@ fn script_on<E: Write + Drop>(
     status
 }
 
+/// Says of a source that starts runners and has no steps that its script steps none of them.
+fn say_still(rt: &HostRuntime, given: &Given<'_>) {
+    if let JsonFile::Compiled(line, _) = &given.scenario {
+        let line = line.as_str();
+        if line.contains(START) && !line.contains(STEP) {
+            let _ = rt.eprintln(
+                "stmrun: no runner takes a step: a script has its steps, as step 1*3 2, and explore makes its own",
+            );
+        }
+    }
+}
+
 /// Runs a scenario. What explains its faults has the places of its source, where it has one, and the names that this gives to runners.
 pub(crate) fn run_script(
     rt: &HostRuntime,
@@ -109,6 +127,7 @@ pub(crate) fn run_script(
     let said: Vec<u8> = Vec::new(rt.alloc());
     let mut err = Std::new(said);
     let status = script_on(rt, &given.scenario, format, labels, explain, &mut err);
+    say_still(rt, given);
     say_ended(rt, given, RUNNERS, status, &err)
 }
 

@@ -4,14 +4,16 @@ ghost use Rattle.std.specs.Prelude.{◌≡◌, false};
 use crate::explaining::{kept_json, name_of, say_unread, say_unwritten};
 use crate::files::is_missing;
 use crate::found::{Form, only_level, print_found, run_rules_in, runners_of};
+use crate::naming::{RUNNERS, with_names};
 use crate::noting::{Kept, Noting};
 use crate::rules::{is_json, named_in, rules_named, rules_of, unnamed_rule};
 use crate::ruling::Question;
 use crate::sources::{
-    Given, JsonFile, NamedSource, SourceText, say_unasked, source_at, source_text,
+    Given, JsonFile, NamedSource, SourceText, out_of_memory, say_unasked, source_at, source_text,
 };
 use crate::terminals::{Told, close, shown_budget};
 use crate::waits::{read_waits, refuse_beside, refuse_without_rule};
+use std::alloc::AllocError;
 use std::io::Write;
 use std::slice;
 use stm_arguments::{ExploreWords, Levels};
@@ -232,7 +234,22 @@ fn refuse_titles(
     Ok(())
 }
 
-/// Refuses runners that wait where no rule is asked, after it was said which do not.
+/// Says that a search without a rule takes no runner that waits, by the first one that does.
+fn say_waiting(
+    rt: &HostRuntime,
+    search: &Search<'_, '_>,
+    wait: SourceWait,
+) -> Result<(), AllocError> {
+    let (runner, ended) = (wait.runner, wait.ended);
+    let line = format!(in rt.alloc();
+        "stmrun: runner {runner} waits for runner {ended}: such a file is asked rules and finals alone; for --serial, --witness and outcomes take out the after"
+    )?;
+    let line = with_names(rt.alloc(), RUNNERS, search.told.runners, line.as_str())?;
+    let _ = rt.eprintln(line.as_str());
+    Ok(())
+}
+
+/// Refuses runners that wait where no rule is asked.
 fn refuse_waiting(
     rt: &HostRuntime,
     search: &Search<'_, '_>,
@@ -241,14 +258,13 @@ fn refuse_waiting(
     if search.after.is_some() {
         return Err(refuse_without_rule(rt, "--after <RUNNER:FIRST,..>"));
     }
-    if waits.is_empty() {
-        return Ok(());
+    match waits.first() {
+        None => Ok(()),
+        Some(wait) => match say_waiting(rt, search, *wait) {
+            Ok(()) => Err(2),
+            Err(_) => Err(out_of_memory(rt)),
+        },
     }
-    say_unasked(rt, &[], waits, search.told.runners)?;
-    let _ = rt.eprintln(
-        "stmrun: explore lets runners wait where it asks a rule, not for outcomes or --serial: take out their after",
-    );
-    Err(2)
 }
 
 /// Looks through the interleavings of a scenario for one that breaks a rule that words name. What its source has beside it says who waits.

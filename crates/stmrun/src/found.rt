@@ -146,7 +146,7 @@ fn found_in(
 }
 
 /// Prints bytes, and gives a status, or that of a failed output.
-fn print(rt: &HostRuntime, bytes: &[u8], status: u8, explain: bool) -> u8 {
+pub(crate) fn print(rt: &HostRuntime, bytes: &[u8], status: u8, explain: bool) -> u8 {
     let mut out = Std::new(Noting::new(rt.stdout()));
     match write_all(&mut out, bytes) {
         Ok(()) => status,

@@ -17,37 +17,34 @@ mod noting;
 mod resuming;
 mod rules;
 mod ruling;
+mod showing;
 mod sources;
 mod storing;
 mod terminals;
 mod threading;
 mod waits;
+mod wording;
 
 use auditing::run_audit;
-use explaining::{name_of, run_check, run_script, say_unread, say_unwritten};
+use explaining::{name_of, run_check, run_script};
 use exploring::run_search;
-use files::open;
-use noting::Noting;
+use showing::run_show;
 use sources::{Given, given_at, is_source, labels_of, run_compile, scenario_at};
 use std::alloc::{AllocError, Global};
 use std::process::ExitCode;
 use std::sync::Wait;
 use std::thread::Threads;
 use stm_arguments::{
-    Asked, CheckWords, CompileWords, CutWords, ExploreWords, PlainWords, ScriptWords, ShowWords,
-    ThreadsWords, asked_of, cut_words, plain_words, print_topic, read_words, topic_of,
+    Asked, CheckWords, CompileWords, CutWords, ExploreWords, PlainWords, ScriptWords, ThreadsWords,
+    asked_of, cut_words, plain_words, print_topic, read_words, topic_of,
 };
-pub use stm_audit::audit_to;
-use stm_commands::{Format, RecipeWords, RunnerLabel, Shown, Std, no_format_to};
-pub use stm_commands::{
-    check_as_to, check_to, check_whole_to, recipe_to, script_as_to, script_to, show_to,
-};
+use stm_commands::{Format, RecipeWords, RunnerLabel, Std, no_format_to, recipe_to};
 use stm_compiling::Part;
-pub use stm_exploring::{explore_to, outcomes_to};
-pub use stm_threading::{threads_as_to, threads_to};
+use stm_threading::ThreadsOptions;
 use storing::{run_shown, run_stored_jobs, run_stored_program, run_stored_script};
 use terminals::is_shown;
 use threading::{printing_of, run_threads};
+use wording::TEXT;
 
 /// The path of an input that may be named: that of standard input where it is not.
 fn path_of(named: Option<&str>) -> &str {
@@ -120,37 +117,6 @@ fn run_recipe(rt: &HostRuntime, words: &RecipeWords<'_>) -> u8 {
     recipe_to(rt.alloc(), words, &mut out, &mut err)
 }
 
-/// Says that what is to be shown as a source is one already, and gives the status.
-fn refuse_source(rt: &HostRuntime, path: &str) -> u8 {
-    let path = name_of(path);
-    let _ = eprintln!(rt;
-        "stmrun: {path} is a source already, and stmrun show prints the source of JSON: stmrun compile {path} prints its JSON"
-    );
-    2
-}
-
-/// Prints the source of a scenario or of a program. On a terminal it is said why a file failed, unless nothing is to be explained.
-fn run_show(rt: &HostRuntime, words: &ShowWords<'_>, is_silent: bool) -> u8 {
-    let shown = if words.program {
-        Shown::Program
-    } else {
-        Shown::Scenario
-    };
-    let path = path_of(words.input);
-    if is_source(path) {
-        return refuse_source(rt, path);
-    }
-    let mut input = Std::new(Noting::new(open(rt, path)));
-    let mut out = Std::new(Noting::new(rt.stdout()));
-    let mut err = Std::new(rt.stderr());
-    let status = show_to(rt.alloc(), shown, &mut input, &mut out, &mut err);
-    if !is_silent && is_shown(rt) {
-        say_unread(rt, name_of(path), input.device.failure);
-        say_unwritten(rt, out.device.failure);
-    }
-    status
-}
-
 /// What of a source is printed: the program of a name with these words as its arguments, or its scenario, where no program is named.
 fn part_of<'a>(program: Option<&'a str>, words: &'a [String]) -> Part<'a> {
     match program {
@@ -190,9 +156,13 @@ fn run_jobs<T: Threads + Wait + Sync>(
     if let Some(store) = words.store {
         return run_stored_jobs(rt, threads, store, words, explain);
     }
-    let printing = printing_of(words.ends, words.repeat);
+    let options = ThreadsOptions {
+        workers: words.workers,
+        printing: printing_of(words.ends, words.repeat),
+        explain,
+    };
     let path = path_of(words.scenario);
-    run_threads(rt, threads, path, words.workers, printing, explain)
+    run_threads(rt, threads, path, options, words.format == Some(TEXT))
 }
 
 /// Does what these words ask for, with the arguments behind them, and gives the status. A run of jobs starts threads and waits for them.
@@ -210,8 +180,8 @@ fn answer<T: Threads + Wait + Sync>(
         }
         Ok(Asked::Recipe(words)) => run_recipe(rt, &words),
         Ok(Asked::Explore(words)) => run_explore(rt, &words, explains(rt, plain, words.explain)),
-        Ok(Asked::Audit(words)) => run_audit(rt, &words, plain.is_silent),
-        Ok(Asked::Show(words)) => run_show(rt, &words, plain.is_silent),
+        Ok(Asked::Audit(words)) => run_audit(rt, &words, explains(rt, plain, words.explain)),
+        Ok(Asked::Show(words)) => run_show(rt, &words, explains(rt, plain, words.explain)),
         Ok(Asked::Compile(words)) => run_part(rt, &words, explains(rt, plain, words.explain)),
         Ok(Asked::Run(words)) => run_stored_program(rt, &words, explains(rt, plain, words.explain)),
         Ok(Asked::Store(words)) => run_shown(rt, &words),

@@ -429,7 +429,7 @@ pub(crate) fn say_unasked(
 }
 
 /// The runners that a scenario's source names; none, where it has no source.
-fn runners_of(alloc: Global, given: &Given<'_>) -> Result<Vec<NamedRunner>, AllocError> {
+pub(crate) fn runners_of(alloc: Global, given: &Given<'_>) -> Result<Vec<NamedRunner>, AllocError> {
     let Some(text) = &given.text else {
         return Ok(Vec::new(alloc));
     };

@@ -14,6 +14,9 @@ use crate::sources::{
     Given, GivenProgram, JsonFile, given_at, is_source, out_of_memory, program_at, say_ended,
     say_in_program, scenario_at,
 };
+use crate::threading::print_jobs;
+use crate::wording::{Lines, TEXT, held, print_words};
+use std::io::Write;
 use std::sync::Wait;
 use std::thread::Threads;
 use std::{fs, io};
@@ -162,6 +165,28 @@ fn program_in(
     read
 }
 
+/// The number of the first runner that a report in lines says was started.
+fn first_started(report: &str) -> Option<&str> {
+    let (_, behind) = report.split_once(",\"started\",")?;
+    let (number, _) = behind.split_once(']')?;
+    Some(number)
+}
+
+/// Says of a report in which a step found no runner that the store's runners go on counting, where they do: a source means its own by their names.
+fn say_unstepped(rt: &HostRuntime, report: &[u8]) {
+    if !has_part(report, ",\"refused\",\"NoRunner\",") {
+        return;
+    }
+    match first_started(str::from_utf8(report).unwrap_or("")) {
+        None | Some("1") => {}
+        Some(number) => {
+            let _ = eprintln!(rt;
+                "stmrun: a step found no runner: a source's names stand for 1, 2 and so on, and the first start here is runner {number} of the store"
+            );
+        }
+    }
+}
+
 /// Goes on with the scenario of a path, or that on standard input, over the store of a file.
 fn run_script(
     rt: &HostRuntime,
@@ -173,11 +198,14 @@ fn run_script(
     let file = scenario_at(rt, words.scenario.unwrap_or("-"), explain)?;
     let (text, scenario) = scenario_of(rt, &file, explain)?;
     let (mut records, bytes) = opened(rt, store)?;
-    let mut out = Std::new(Noting::new(rt.stdout()));
+    let mut out = Std::new(Noting::new(Keeping::new(rt.alloc(), rt.stdout())));
     let kept = script_kept(format, &mut records, bytes, &text, &scenario, &mut out);
-    say_unwritten(rt, out.device.failure);
+    say_unwritten(rt, out.device.failure.take());
     match kept {
-        Ok(()) => Ok(()),
+        Ok(()) => {
+            say_unstepped(rt, out.device.into_device().into_bytes().as_slice());
+            Ok(())
+        }
         Err(fault) => Err(say_fault(rt, store, &fault, records.disk.failure())),
     }
 }
@@ -211,7 +239,52 @@ fn say_ends<S>(
     say_ended(rt, given, JOBS, 0, &err);
 }
 
-/// Runs the jobs of the scenario of a path, or of that on standard input, over the store of a file, by several threads.
+/// Runs the jobs of a scenario over the store of a file, by several threads, and prints on `out` what they came to.
+fn jobs_on<T: Threads + Wait + Sync, W: Write + Drop>(
+    rt: &HostRuntime,
+    threads: &T,
+    store: &str,
+    given: &Given<'_>,
+    words: &ThreadsWords<'_>,
+    explain: bool,
+    out: &mut Std<Noting<W>>,
+) -> Result<(), u8>
+    requires workers { (1 ≤ words.now.workers) × (words.now.workers ≤ MOST_WORKERS) }
+    requires out_works { out.old.failed ≡ false }
+{
+    let mut input = kept_json(rt, &given.scenario);
+    let read = jobs_of(rt, &mut input, explain);
+    say_unread(rt, input.name, input.source.device.failure.take());
+    let asked = read?;
+    let (mut records, bytes) = opened(rt, store)?;
+    let ran = threads_kept(
+        threads,
+        &mut records,
+        bytes,
+        &asked,
+        words.workers,
+        words.ends,
+        out,
+    );
+    say_unwritten(rt, out.device.failure.take());
+    match ran {
+        Ok(ends) => {
+            say_ends(rt, given, &input, ends.as_slice(), explain);
+            Ok(())
+        }
+        Err(fault) => Err(say_fault(rt, store, &fault, records.disk.failure())),
+    }
+}
+
+/// What was done, by its status.
+fn done_of(status: u8) -> Result<(), u8> {
+    match status {
+        0 => Ok(()),
+        _ => Err(status),
+    }
+}
+
+/// Runs the jobs of the scenario of a path, or of that on standard input, over the store of a file, and prints what they came to, in words or as lines.
 fn run_jobs<T: Threads + Wait + Sync>(
     rt: &HostRuntime,
     threads: &T,
@@ -228,29 +301,13 @@ fn run_jobs<T: Threads + Wait + Sync>(
         return Err(2);
     }
     let given = given_at(rt, words.scenario.unwrap_or("-"), explain)?;
-    let mut input = kept_json(rt, &given.scenario);
-    let read = jobs_of(rt, &mut input, explain);
-    say_unread(rt, input.name, input.source.device.failure.take());
-    let asked = read?;
-    let (mut records, bytes) = opened(rt, store)?;
-    let mut out = Std::new(Noting::new(rt.stdout()));
-    let ran = threads_kept(
-        threads,
-        &mut records,
-        bytes,
-        &asked,
-        words.workers,
-        words.ends,
-        &mut out,
-    );
-    say_unwritten(rt, out.device.failure);
-    match ran {
-        Ok(ends) => {
-            say_ends(rt, &given, &input, ends.as_slice(), explain);
-            Ok(())
-        }
-        Err(fault) => Err(say_fault(rt, store, &fault, records.disk.failure())),
+    if words.format == Some(TEXT) {
+        let mut out = held(rt);
+        jobs_on(rt, threads, store, &given, words, explain, &mut out)?;
+        return done_of(print_jobs(rt, &given, out, 0, true));
     }
+    let mut out = Std::new(Noting::new(rt.stdout()));
+    jobs_on(rt, threads, store, &given, words, explain, &mut out)
 }
 
 /// Runs a program over the store of a file that is not there, which is not made. Where it would not commit, its line was printed, and is given.
@@ -459,12 +516,11 @@ fn run_words(rt: &HostRuntime, words: &RunWords<'_>, explain: bool) -> Result<()
     run_program(rt, words, &given, explain)
 }
 
-/// The format of what a store has: that of this name, lines where there is none.
+/// The format of what a store has: that of this name, lines where there is none. Words are made of lines.
 fn shown_format(rt: &HostRuntime, word: Option<&str>) -> Result<Format, u8> {
     match word {
-        None | Some("lines") => Ok(Format::Lines),
+        None | Some("lines" | TEXT) => Ok(Format::Lines),
         Some("json") => Ok(Format::Json),
-        Some("text") => Ok(Format::Text { width: None }),
         Some(_) => {
             let _ = rt.eprintln(
                 "error: unknown format for '--format <FORMAT>'\n  [possible values: lines, json, text]",
@@ -474,17 +530,34 @@ fn shown_format(rt: &HostRuntime, word: Option<&str>) -> Result<Format, u8> {
     }
 }
 
-/// Prints what the store of a file has.
-fn show(rt: &HostRuntime, store: &str, word: Option<&str>) -> Result<(), u8> {
-    let format = shown_format(rt, word)?;
+/// Prints on `out` what the store of a file has, in a format.
+fn show_on<W: Write + Drop>(
+    rt: &HostRuntime,
+    store: &str,
+    format: Format,
+    out: &mut Std<Noting<W>>,
+) -> Result<(), u8>
+    requires { out.old.failed ≡ false }
+{
     let (mut records, bytes) = opened_there(rt, store)?;
-    let mut out = Std::new(Noting::new(rt.stdout()));
-    let shown = show_kept(format, &mut records, bytes, &mut out);
-    say_unwritten(rt, out.device.failure);
+    let shown = show_kept(format, &mut records, bytes, out);
+    say_unwritten(rt, out.device.failure.take());
     match shown {
         Ok(()) => Ok(()),
         Err(fault) => Err(say_fault(rt, store, &fault, records.disk.failure())),
     }
+}
+
+/// Prints what the store of a file has.
+fn show(rt: &HostRuntime, store: &str, word: Option<&str>) -> Result<(), u8> {
+    let format = shown_format(rt, word)?;
+    if word == Some(TEXT) {
+        let mut out = held(rt);
+        show_on(rt, store, format, &mut out)?;
+        return done_of(print_words(rt, Lines::OfStore, out, 0, true));
+    }
+    let mut out = Std::new(Noting::new(rt.stdout()));
+    show_on(rt, store, format, &mut out)
 }
 
 /// The revision that a word spells, from 1 on.

@@ -5,8 +5,9 @@ ghost use Rattle.stm_workers.specs.declared.run.TheConstants.{MOST_WORKERS};
 
 use crate::explaining::{kept_json, say_unread, say_unwritten};
 use crate::naming::JOBS;
-use crate::noting::Noting;
-use crate::sources::{JsonFile, given_at, say_ended};
+use crate::noting::{Kept, Noting};
+use crate::sources::{Given, JsonFile, given_at, out_of_memory, runners_of, say_ended};
+use crate::wording::{Lines, held, print_words};
 use std::io::Write;
 use std::sync::Wait;
 use std::thread::Threads;
@@ -26,54 +27,84 @@ pub(crate) fn printing_of(ends: bool, repeat: Option<u32>) -> Printing
     }
 }
 
-/// Runs the jobs of a scenario by threads, and says on `err` what is wrong.
-fn threads_on<T: Threads + Wait + Sync, E: Write + Drop>(
+/// Runs the jobs of a scenario by threads, prints on `out` what they came to, and says on `err` what is wrong.
+fn threads_on<T: Threads + Wait + Sync, W: Write + Drop, E: Write + Drop>(
     rt: &HostRuntime,
     threads: &T,
     scenario: &JsonFile<'_>,
     options: ThreadsOptions,
+    out: &mut Std<Noting<W>>,
     err: &mut Std<E>,
 ) -> u8
     requires workers { (1 ≤ options.workers) × (options.workers ≤ MOST_WORKERS) }
+    requires out_works { out.old.failed ≡ false }
     requires err_works { err.old.failed ≡ false }
 {
     let explain = options.explain;
     let mut input = kept_json(rt, scenario);
-    let mut out = Std::new(Noting::new(rt.stdout()));
-    let status = threads_as_to(threads, rt.alloc(), options, &mut input, &mut out, err);
+    let status = threads_as_to(threads, rt.alloc(), options, &mut input, out, err);
     if explain {
         say_unread(rt, input.name, input.source.device.failure);
-        say_unwritten(rt, out.device.failure);
+        say_unwritten(rt, out.device.failure.take());
     }
     status
 }
 
-/// Runs the jobs of a path's scenario by this many threads. A fault is explained, or is not: with its place in the source, where the scenario has one.
+/// Runs the jobs of a scenario, and prints on `out` what they came to. A fault is explained with its place in the source, where the scenario has one.
+fn given_threads_on<T: Threads + Wait + Sync, W: Write + Drop>(
+    rt: &HostRuntime,
+    threads: &T,
+    given: &Given<'_>,
+    options: ThreadsOptions,
+    out: &mut Std<Noting<W>>,
+) -> u8
+    requires workers { (1 ≤ options.workers) × (options.workers ≤ MOST_WORKERS) }
+    requires out_works { out.old.failed ≡ false }
+{
+    if given.text.is_none() {
+        let mut err = Std::new(rt.stderr());
+        return threads_on(rt, threads, &given.scenario, options, out, &mut err);
+    }
+    let said: Vec<u8> = Vec::new(rt.alloc());
+    let mut err = Std::new(said);
+    let status = threads_on(rt, threads, &given.scenario, options, out, &mut err);
+    say_ended(rt, given, JOBS, status, &err)
+}
+
+/// Prints what jobs of a scenario printed, in words, and gives a status, or that of a failed output.
+pub(crate) fn print_jobs(
+    rt: &HostRuntime,
+    given: &Given<'_>,
+    out: Std<Noting<Kept>>,
+    status: u8,
+    explain: bool,
+) -> u8 {
+    match runners_of(rt.alloc(), given) {
+        Ok(runners) => print_words(rt, Lines::OfJobs(runners.as_slice()), out, status, explain),
+        Err(_) => out_of_memory(rt),
+    }
+}
+
+/// Runs the jobs of a path's scenario as these options say, and prints what they came to, in words or as lines.
 pub(crate) fn run_threads<T: Threads + Wait + Sync>(
     rt: &HostRuntime,
     threads: &T,
     path: &str,
-    workers: usize,
-    printing: Printing,
-    explain: bool,
+    options: ThreadsOptions,
+    is_text: bool,
 ) -> u8
-    requires { (1 ≤ workers) × (workers ≤ MOST_WORKERS) }
+    requires { (1 ≤ options.workers) × (options.workers ≤ MOST_WORKERS) }
 {
+    let explain = options.explain;
     let given = match given_at(rt, path, explain) {
         Ok(given) => given,
         Err(status) => return status,
     };
-    let options = ThreadsOptions {
-        workers,
-        printing,
-        explain,
-    };
-    if given.text.is_none() {
-        let mut err = Std::new(rt.stderr());
-        return threads_on(rt, threads, &given.scenario, options, &mut err);
+    if is_text {
+        let mut out = held(rt);
+        let status = given_threads_on(rt, threads, &given, options, &mut out);
+        return print_jobs(rt, &given, out, status, explain);
     }
-    let said: Vec<u8> = Vec::new(rt.alloc());
-    let mut err = Std::new(said);
-    let status = threads_on(rt, threads, &given.scenario, options, &mut err);
-    say_ended(rt, &given, JOBS, status, &err)
+    let mut out = Std::new(Noting::new(rt.stdout()));
+    given_threads_on(rt, threads, &given, options, &mut out)
 }

@@ -12,17 +12,41 @@ Usage: stmrun explore [OPTIONS] <SCENARIO>
 
 For more information, try '--help'.";
 
-/// Says which part of a text is no wait, and why, and gives the status.
-fn refuse(rt: &HostRuntime, text: &str, bad: &BadWaits<'_>) -> u8 {
-    let part = bad.part;
+/// The part of a text at an index, where commas stand between them.
+fn part_at(text: &str, index: usize) -> &str {
+    let mut parts = text.split(',');
+    parts.nth(index).unwrap_or(text)
+}
+
+/// A part of a text with numbers for names, as it was typed: the text itself, or what stands between two of its commas (the last of these that are alike). What
+/// is less than that has no name in it.
+fn typed_part<'a>(text: &str, typed: &'a str, part: &'a str) -> &'a str {
+    if part == text {
+        return typed;
+    }
+    let mut place = None;
+    for (index, numbered) in text.split(',').enumerate() {
+        if numbered == part {
+            place = Some(index);
+        }
+    }
+    match place {
+        Some(index) => part_at(typed, index),
+        None => part,
+    }
+}
+
+/// Says which part of a text, which was typed so, is no wait, and why, and gives the status.
+fn refuse(rt: &HostRuntime, text: &str, typed: &str, bad: &BadWaits<'_>) -> u8 {
+    let part = typed_part(text, typed, bad.part);
     let reason = bad.reason;
-    if has_hidden(text) {
+    if has_hidden(typed) {
         let _ = eprintln!(rt;
             "error: invalid value for '--after <RUNNER:FIRST,..>': a part of it {reason}"
         );
     } else {
         let _ = eprintln!(rt;
-            "error: invalid value '{text}' for '--after <RUNNER:FIRST,..>': '{part}' {reason}"
+            "error: invalid value '{typed}' for '--after <RUNNER:FIRST,..>': '{part}' {reason}"
         );
     }
     let _ = rt.eprintln(USAGE);
@@ -33,7 +57,7 @@ fn refuse(rt: &HostRuntime, text: &str, bad: &BadWaits<'_>) -> u8 {
 fn waits_of(rt: &HostRuntime, text: &str, typed: &str) -> Result<Vec<Wait>, u8> {
     match waits_in(rt.alloc(), text) {
         Ok(Ok(waits)) => Ok(waits),
-        Ok(Err(bad)) => Err(refuse(rt, typed, &bad)),
+        Ok(Err(bad)) => Err(refuse(rt, text, typed, &bad)),
         Err(_) => Err(out_of_memory(rt)),
     }
 }

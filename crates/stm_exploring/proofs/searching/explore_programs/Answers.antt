@@ -1,6 +1,7 @@
-use Rattle.std.proofs.Common.{◌≡◌, List, refl, subst}
+use Rattle.std.proofs.Common.{◌≡◌, List, refl, ap, subst}
 use Rattle.std.specs.Prelude.{IfOk}
 use Rattle.stm_events.specs.declared.event.WorldEvent.{WorldEvent}
+use Rattle.stm_world.specs.World.{World}
 use Rattle.stm_schedules.specs.Outcomes.{Ends}
 use Rattle.stm_schedules.specs.Places.{Place}
 use Rattle.stm_texts.specs.declared.scenario.Scenario.{Scenario}
@@ -18,6 +19,7 @@ explore_from-answers-requires g c =
     placed_is s setup others c.as_slice.result.now (opening_of s) c.in_ok-world.world c.setup_and_others.ensures.setup c.setup_and_others.ensures.others
     c.as_slice.ensures c.in_ok-world.ensures refl in
     record {
+      new = ap (λ (w : World). w.runners) c.in_ok-world.ensures;
       programs = programs_placed s setup others c.in_ok-world.world c.args.programs.now at c.requires.programs;
       comparing = comparing_placed s setup others c.as_slice-2.result.now c.in_ok-world.world c.are_orderly-comparing.result at c.as_slice-2.ensures
           c.are_orderly-comparing.ensures;

@@ -1,0 +1,176 @@
+-- A small world agrees with the whole one on what programs and rules name.
+use Rattle.std.proofs.Common.{◌≡◌, ◌⊎◌, inl, inr, ◌<◌, ◌+◌, ◌-◌, ℕ, zero, suc, Bool, true, false, cond, ◌&&◌, ◌||◌, List, [], ◌∷◌, ◌++◌, length, drop, filter, get_or, Some, refl, sym, ap, ◌∙◌, subst, arith}
+use Rattle.std.proofs.Math.Seq.{drop-cons}
+use Rattle.std.proofs.lemmas.Bool.{and_parts}
+use Rattle.std.proofs.lemmas.Bool.Decides.{nat_tests}
+use Rattle.std.specs.BTreeMap.{is_at}
+use Rattle.std.specs.FinMap as finmap
+use Rattle.std.specs.List.{AllByRecursion, list_all, list_any}
+use Rattle.std.specs.Ordering.{is_eq}
+use Rattle.std.specs.declared.cmp.Ordering.{Ordering}
+use Rattle.std.specs.declared.cmp.Ordering.TheVariants.{Less, Equal, Greater}
+use Rattle.std.specs.Prelude.{Option, None, Result, Ok, Err, IfOk, IfSome, slice_get, nat_lt, if◌then◌else◌}
+use Rattle.stm_history.specs.History.{History, now}
+use Rattle.stm_history.specs.Cut.{cut, opening_of_cut, revisions_above}
+use Rattle.stm_program.specs.Syntax.{ProgramTree}
+use Rattle.stm_named_keys.specs.Named.{looked_up}
+use Rattle.stm_named_keys.specs.Written.{written}
+use Rattle.stm_txn.specs.Standing.{Standing, kept}
+use Rattle.stm_events.specs.declared.event.WorldEvent.{WorldEvent}
+use Rattle.stm_world.specs.World.{World, Slot, runner_at, world_after}
+use Rattle.stm_world.specs.Sound.{IsSound}
+use Rattle.stm_world.proofs.Sound.{worlds_are_sound}
+use Rattle.stm_schedules.specs.Scenarios.{is_start}
+use Rattle.stm_serial_search.specs.Search.{AreProgramsOf}
+use Rattle.stm_narrow.specs.Beginning.{has_step, is_step, started}
+use Rattle.stm_narrow.specs.Touching.{KeepsTo, is_touched, is_written}
+use Rattle.stm_narrow.proofs.Beginnings.{beginnings_agree}
+use Rattle.stm_narrow.proofs.Naming.{named_keys_are_kept}
+use Rattle.stm_exploring.specs.declared.touched.Touched.{Touched}
+use Rattle.stm_exploring.specs.Narrowing.{HasRun, IsNew, IsSmall, Narrows, ShowTheSame, is_key_of, is_lease_of, keeps_to}
+
+-- ---- loops
+
+-- the first of those that are left, and the others
+pub all_left : {A : Type 0} (f : A → Bool) (xs : List A) (i : ℕ) (x : A) → i < length xs → x ≡ get_or xs i x → list_all f (drop i xs) ≡ (f x && list_all f (drop (i + 1) xs))
+all_left f xs i x within is =
+    let step : i + 1 ≡ suc i = omega arith in
+    ap (list_all f) (drop-cons xs i x within) ∙ ap (λ y. f y && list_all f (drop (suc i) xs)) (sym is) ∙ ap (λ n. f x && list_all f (drop n xs)) (sym step)
+
+-- the starts among those that are left: from the first of these on, and then from the others
+pub starts_left : (events : List WorldEvent) (i : ℕ) (e : WorldEvent) (w next : World) → i < length events → e ≡ get_or events i e →
+    next ≡ world_after (if is_start e then e ∷ [] else []) w → world_after (filter is_start (drop (i + 1) events)) next ≡ world_after (filter is_start (drop i events)) w
+starts_left events i e w next within is taken =
+    let step : i + 1 ≡ suc i = omega arith in
+    let rest : List WorldEvent = drop (suc i) events in
+    ap (λ (n : ℕ). world_after (filter is_start (drop n events)) next) step ∙ ap (world_after (filter is_start rest)) taken ∙ sym (by (is_start e) refl)
+    ∙ ap (λ (x : WorldEvent). world_after (filter is_start (x ∷ rest)) w) is ∙ ap (λ (es : List WorldEvent). world_after (filter is_start es) w) (sym (drop-cons events i e within))
+  where
+    by : (b : Bool) → is_start e ≡ b → world_after (filter is_start (e ∷ drop (suc i) events)) w
+        ≡ world_after (filter is_start (drop (suc i) events)) (world_after (if is_start e then e ∷ [] else []) w)
+    by true at = rw at refl
+    by false at = rw at refl
+
+-- each of these keys is so, or is one of those that are left
+abbrev pub SoFar : {K : Type 0} → (K → K → Ordering) → (K → Type 0) → List K → List K → Type 0
+SoFar {K} cmp P all left = (k : K) → list_any (is_at (cmp k)) all ≡ true → P k ⊎ (list_any (is_at (cmp k)) left ≡ true)
+
+pub one_so : {K : Type 0} (cmp : K → K → Ordering) → finmap.IsAntisymmetric cmp → (P : K → Type 0) (all left : List K) (k : K) → P k → SoFar cmp P all (k ∷ left) →
+    SoFar cmp P all left
+one_so cmp same P all left k is so_far q among = by (so_far q among)
+  where
+    first : (o : Ordering) → cmp q k ≡ o → (is_eq o || list_any (is_at (cmp q)) left) ≡ true → P q ⊎ (list_any (is_at (cmp q)) left ≡ true)
+    first Less at there = inr there
+    first Equal at there = inl (subst P (sym (same q k at)) is)
+    first Greater at there = inr there
+
+    by : P q ⊎ (list_any (is_at (cmp q)) (k ∷ left) ≡ true) → P q ⊎ (list_any (is_at (cmp q)) left ≡ true)
+    by (inl known) = inl known
+    by (inr there) = first (cmp q k) refl there
+
+pub all_so : {K : Type 0} (cmp : K → K → Ordering) (P : K → Type 0) (all : List K) → SoFar cmp P all [] → (k : K) → list_any (is_at (cmp k)) all ≡ true → P k
+all_so cmp P all so_far k among = by (so_far k among)
+  where
+    by : P k ⊎ (list_any (is_at (cmp k)) [] ≡ true) → P k
+    by (inl known) = known
+    by (inr there) = absurd (cc)
+
+-- ---- a store that was never compacted
+
+none_below : (n : ℕ) → nat_lt n 0 ≡ false
+none_below n = grind (arith, nat_tests)
+
+uncut : (s : Standing) → s.floor ≡ 0 → kept s ≡ s
+uncut s is =
+    let h : History = s.history in
+    ap (λ (n : ℕ). record s { history = cut (n - 1) h }) is
+    ∙ ap (λ (b : Bool). record s { history = cond b (let it : History = record { opening = opening_of_cut 0 h; revisions = revisions_above h.opening 0 h.revisions } in it) h })
+    (none_below h.opening.number)
+
+pub whole_shows : (t : Touched) (s r : Standing) → ShowTheSame t (kept s) r → ShowTheSame t s r
+whole_shows t s r shows = subst (λ (x : Standing). ShowTheSame t x r) (uncut s shows.floors.0) shows
+
+-- ---- programs that keep to what is touched
+
+keeps : (t : Touched) (p : ProgramTree) → keeps_to t p ≡ true → KeepsTo (is_key_of t) (is_lease_of t) p
+keeps t p is =
+    let parts = and_parts (list_all (is_touched (is_key_of t)) (looked_up p)) (list_all (is_written (is_key_of t) (is_lease_of t)) (written p)) is in
+    named_keys_are_kept (is_key_of t) (is_lease_of t) p parts.0 parts.1
+
+each_within : (t : Touched) (ps : List ProgramTree) → list_all (keeps_to t) ps ≡ true → AllByRecursion (KeepsTo (is_key_of t) (is_lease_of t)) ps
+each_within t [] all = tt
+each_within t (p ∷ ps) all = let parts = and_parts (keeps_to t p) (list_all (keeps_to t) ps) all in (keeps t p parts.0, each_within t ps parts.1)
+
+one_within : (t : Touched) (ps : List ProgramTree) (i : ℕ) (p : ProgramTree) → list_all (keeps_to t) ps ≡ true → slice_get ps i ≡ Some p →
+    KeepsTo (is_key_of t) (is_lease_of t) p
+one_within t [] i p all found = absurd (cc)
+one_within t (x ∷ ps) zero p all found =
+    let same : x ≡ p = cc in
+    subst (KeepsTo (is_key_of t) (is_lease_of t)) same (keeps t x (and_parts (keeps_to t x) (list_all (keeps_to t) ps) all).0)
+one_within t (x ∷ ps) (suc i) p all found = one_within t ps i p (and_parts (keeps_to t x) (list_all (keeps_to t) ps) all).1 found
+
+-- ---- the two worlds
+
+-- the two tests for a step are one
+some_step : (events : List WorldEvent) → list_any is_step events ≡ has_step events
+some_step [] = refl
+some_step (e ∷ es) = ap (λ (b : Bool). is_step e || b) (some_step es)
+
+-- both have the runners of the same starts
+module _ (setup : List WorldEvent) (stepless : has_step setup ≡ false) where
+  from_start : (start w : World) → start.runners ≡ [] → w ≡ world_after setup start → w.runners ≡ started setup
+  from_start start w none is =
+      ap (λ (x : World). x.runners) is ∙ beginnings_agree.runners setup start stepless ∙ ap (λ (slots : List Slot). slots ++ started setup) none
+
+  from_starts : (start w : World) → start.runners ≡ [] → w ≡ world_after (filter is_start setup) start → w.runners ≡ started setup
+  from_starts start w none is =
+      ap (λ (x : World). x.runners) is ∙ beginnings_agree.runners (filter is_start setup) start (beginnings_agree.no_step setup)
+      ∙ ap (λ (slots : List Slot). slots ++ started (filter is_start setup)) none ∙ beginnings_agree.starts setup
+
+narrows : (t : Touched) (setup : List WorldEvent) (w small : World) (s : Standing) (programs rules : List ProgramTree) → HasRun setup w →
+    list_any is_step setup ≡ false → w.standing.floor ≡ 0 → s ≡ kept w.standing → AreProgramsOf programs w.runners →
+    (list_all (keeps_to t) programs && list_all (keeps_to t) rules) ≡ true → IsSmall t setup s small →
+    Narrows rules (record { world = small; others = [] }) (record { world = w; others = [] })
+narrows t setup w small s programs rules ran none floor shown are keep is =
+    let stepless : has_step setup ≡ false = sym (some_step setup) ∙ none in
+    let parts = and_parts (list_all (keeps_to t) programs) (list_all (keeps_to t) rules) keep in
+    let shows : ShowTheSame t small.standing w.standing = subst (ShowTheSame t small.standing) (shown ∙ uncut w.standing floor) is.shows in
+    let runs : w.runners ≡ started setup = from_start setup stepless ran.start w ran.runners ran.world in
+    record {
+      touched = is_key_of t;
+      leased = is_lease_of t;
+      since = now w.standing.history;
+      agree = record {
+        worlds = beginnings_agree.agree (is_key_of t) (is_lease_of t) small w (record {
+          now = shows.reached;
+          keys = shows.keys;
+          live = shows.live;
+          limit = shows.limit;
+          floors = shows.floors;
+          runners = from_starts setup stepless is.start small is.is_new.runners is.world ∙ sym runs;
+          begun = λ id r found. beginnings_agree.begun setup id r (sym (ap (runner_at id) runs) ∙ found);
+          keeps = λ id r found. one_within t programs (id - 1) r.task.program parts.0 (are id r found);
+        });
+        alone = refl;
+        also_alone = refl;
+      };
+      within = each_within t rules parts.1;
+      sound = subst IsSound (sym is.world) (worlds_are_sound.goes_on (filter is_start setup) is.start is.is_new.sound);
+    }
+
+-- ---- where there is one
+
+pub is_small : {E : Type 0} (t : Touched) (setup : List WorldEvent) (s : Standing) (start : World) (r : Result (Option World) E) → IsNew start →
+    IfOk r (λ o. IfSome o (λ w. w ≡ world_after (filter is_start setup) start)) → IfOk r (λ o. IfSome o (λ w. ShowTheSame t w.standing s)) →
+    IfOk r (λ o. IfSome o (IsSmall t setup s))
+is_small t setup s start (Ok (Some w)) new is shows = record { start = start; is_new = new; world = is; shows = shows }
+is_small t setup s start (Ok None) new is shows = tt
+is_small t setup s start (Err e) new is shows = tt
+
+pub all_narrow : {E : Type 0} (t : Touched) (setup : List WorldEvent) (w : World) (s : Standing) (programs rules : List ProgramTree) (r : Result (Option World) E) →
+    HasRun setup w → list_any is_step setup ≡ false → w.standing.floor ≡ 0 → s ≡ kept w.standing → AreProgramsOf programs w.runners →
+    (list_all (keeps_to t) programs && list_all (keeps_to t) rules) ≡ true → IfOk r (λ o. IfSome o (IsSmall t setup s)) →
+    IfOk r (λ o. IfSome o (λ small. Narrows rules (record { world = small; others = [] }) (record { world = w; others = [] })))
+all_narrow t setup w s programs rules (Ok (Some small)) ran none floor shown are keep is = narrows t setup w small s programs rules ran none floor shown are keep is
+all_narrow t setup w s programs rules (Ok None) ran none floor shown are keep is = tt
+all_narrow t setup w s programs rules (Err e) ran none floor shown are keep is = tt

@@ -1,0 +1,6 @@
+pub mod Naming
+pub mod SameRun
+pub mod Histories
+pub mod Stepping
+pub mod Searching
+pub mod Beginnings

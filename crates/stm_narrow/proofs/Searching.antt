@@ -1,0 +1,131 @@
+-- Schedules from places that agree.
+use Rattle.std.proofs.Common.{◌≡◌, ℕ, suc, zero, Bool, List, [], ◌∷◌, ◌++◌, length, Some, refl, sym, ◌∙◌, ap, subst}
+use Rattle.std.specs.Prelude.{Contains}
+use Rattle.std.specs.List.{list_any}
+use Rattle.stm_program.specs.Syntax.{ProgramTree}
+use Rattle.stm_compile.specs.Answers.{seen_of, state_now}
+use Rattle.stm_events.specs.declared.event.WorldEvent.{WorldEvent}
+use Rattle.stm_world.specs.World.{world_after, replies_to}
+use Rattle.stm_schedules.specs.declared.moves.Move.{Move}
+use Rattle.stm_schedules.specs.declared.moves.Move.TheVariants.{Step as StepOf, Other}
+use Rattle.stm_schedules.specs.Places.{Place, moves, moved, steps_up_to, next_other, event_of, left_after}
+use Rattle.stm_schedules.specs.Schedules.{place_after, IsSchedule, IsLongest}
+use Rattle.stm_schedules.specs.Keeping.{end_of, is_done, end_alone, keeps, IsFirstBad, goes_on}
+use Rattle.stm_schedules.specs.Outcomes.{Ends, after_reported, after_replies, ends_moved, ends_after}
+use Rattle.stm_schedules.proofs.Gathered.{ends_go_along}
+use Rattle.stm_narrow.specs.Touching.{KeepsTo}
+use Rattle.stm_narrow.specs.Agree.{Agree}
+use Rattle.stm_narrow.specs.AgreeingPlaces.{PlacesAgree, AgreeingPlacesAreSame}
+use Rattle.stm_narrow.proofs.Histories.{same_now}
+use Rattle.stm_narrow.proofs.SameRun.{same_runs}
+use Rattle.stm_narrow.proofs.Stepping.{step_same, turned}
+
+module _ (touched : List ℕ → Bool) (leased : ℕ → Bool) (since : ℕ) where
+  abbrev Alike : Place → Place → Type 0
+  Alike = PlacesAgree touched leased since
+
+  turned_places : (p q : Place) → Alike p q → Alike q p
+  turned_places p q same =
+      record { worlds = turned touched leased since p.world q.world same.worlds; alone = same.also_alone; also_alone = same.alone }
+
+  -- ---- moves
+
+  moves_same : (p q : Place) → Alike p q → moves p ≡ moves q
+  moves_same p q same =
+      ap (λ slots. steps_up_to (length slots) slots ++ next_other p.others) same.worlds.runners
+      ∙ ap (λ others. steps_up_to (length q.world.runners) q.world.runners ++ next_other others) (same.alone ∙ sym same.also_alone)
+
+  moved_same : (m : Move) (p q : Place) → Alike p q → Alike (moved m p) (moved m q)
+  moved_same (StepOf id) p q same = record {
+    worlds = (step_same touched leased since id p.world q.world same.worlds).next;
+    alone = same.alone;
+    also_alone = same.also_alone;
+  }
+  moved_same Other p q same = record {
+    worlds =
+        subst (λ (events : List WorldEvent). Agree touched leased since (world_after events p.world) (world_after (event_of Other q.others) q.world))
+        (sym (ap (event_of Other) same.alone))
+        (subst (λ (events : List WorldEvent). Agree touched leased since p.world (world_after events q.world)) (sym (ap (event_of Other) same.also_alone)) same.worlds);
+    alone = ap (left_after Other) same.alone;
+    also_alone = ap (left_after Other) same.also_alone;
+  }
+
+  known_same : (m : Move) (p q : Place) (known : Ends) → Alike p q → ends_moved m p known ≡ ends_moved m q known
+  known_same (StepOf id) p q known same = ap (λ reported. after_reported reported known) (step_same touched leased since id p.world q.world same.worlds).reply
+  known_same Other p q known same =
+      ap (λ (events : List WorldEvent). after_replies (replies_to events p.world) known) (ap (event_of Other) same.alone)
+      ∙ sym (ap (λ (events : List WorldEvent). after_replies (replies_to events q.world) known) (ap (event_of Other) same.also_alone))
+
+  -- ---- schedules
+
+  after_same : (schedule : List Move) (p q : Place) → Alike p q → Alike (place_after schedule p) (place_after schedule q)
+  after_same [] p q same = same
+  after_same (m ∷ ms) p q same = after_same ms (moved m p) (moved m q) (moved_same m p q same)
+
+  ends_same : (schedule : List Move) (p q : Place) (known : Ends) → Alike p q → ends_after schedule p known ≡ ends_after schedule q known
+  ends_same [] p q known same = refl
+  ends_same (m ∷ ms) p q known same =
+      ends_go_along m ms p known
+      ∙ ends_same ms (moved m p) (moved m q) (ends_moved m p known) (moved_same m p q same)
+      ∙ ap (ends_after ms (moved m q)) (known_same m p q known same)
+      ∙ sym (ends_go_along m ms q known)
+
+  schedule_same : (schedule : List Move) (p q : Place) → Alike p q → IsSchedule schedule p → IsSchedule schedule q
+  schedule_same [] p q same is = tt
+  schedule_same (m ∷ ms) p q same is = (
+    subst (λ (all : List Move). Contains all m) (moves_same p q same) is.0,
+    schedule_same ms (moved m p) (moved m q) (moved_same m p q same) is.1,
+  )
+
+  goes_on_same : (n : ℕ) (p q : Place) → Alike p q → goes_on n p ≡ goes_on n q
+  goes_on_same zero p q same = refl
+  goes_on_same (suc n) p q same =
+      ap (λ (f : Move → Bool). list_any f (moves p)) (λ i m. goes_on_same n (moved m p) (moved m q) (moved_same m p q same) i)
+      ∙ ap (list_any (λ m. goes_on n (moved m q))) (moves_same p q same)
+
+  longest_same : (n : ℕ) (p q : Place) → Alike p q → IsLongest n p → IsLongest n q
+  longest_same n p q same is = record {
+    none_longer = λ schedule of_q. is.none_longer schedule (schedule_same schedule q p (turned_places p q same) of_q);
+    one_as_long = let one = is.one_as_long in (one.0, schedule_same one.0 p q same one.1, one.2);
+  }
+
+  -- ---- rules
+
+  module _ (rule : ProgramTree) (within : KeepsTo touched leased rule) where
+    rule_ends : (p q : Place) → Alike p q → end_alone rule p.world ≡ end_alone rule q.world
+    rule_ends p q same =
+        ap end_of (same_runs touched leased rule within (state_now p.world.standing.history) (state_now q.world.standing.history) (λ key. refl)
+        (λ key is. ap (λ s. Some (seen_of s)) (same_now touched since p.world.standing.history q.world.standing.history same.worlds.store.history key is)))
+
+    -- after a schedule the one place keeps it as the other does
+    kept_same : (schedule : List Move) (p q : Place) → Alike p q → keeps rule (place_after schedule p).world ≡ keeps rule (place_after schedule q).world
+    kept_same schedule p q same = ap is_done (rule_ends (place_after schedule p) (place_after schedule q) (after_same schedule p q same))
+
+    back : (schedule : List Move) (p q : Place) → Alike p q → IsSchedule schedule q → IsSchedule schedule p
+    back schedule p q same = schedule_same schedule q p (turned_places p q same)
+
+    first_bad_same : (schedule : List Move) (p q : Place) → Alike p q → IsFirstBad (keeps rule) p schedule → IsFirstBad (keeps rule) q schedule
+    first_bad_same schedule p q same is = record {
+      is_schedule = schedule_same schedule p q same is.is_schedule;
+      is_bad = sym (kept_same schedule p q same) ∙ is.is_bad;
+      earlier_keep = λ other of_q earlier. sym (kept_same other p q same) ∙ is.earlier_keep other (back other p q same of_q) earlier;
+    }
+
+pub agreeing_places_are_same : AgreeingPlacesAreSame
+agreeing_places_are_same touched leased since p q same = record {
+  turned = turned_places touched leased since p q same;
+  moves = moves_same touched leased since p q same;
+  moved = λ m. moved_same touched leased since m p q same;
+  ends = λ m known. known_same touched leased since m p q known same;
+  after = λ schedule. after_same touched leased since schedule p q same;
+  ends_after = λ schedule known. ends_same touched leased since schedule p q known same;
+  schedules = λ schedule. schedule_same touched leased since schedule p q same;
+  goes_on = λ n. goes_on_same touched leased since n p q same;
+  longest = λ n. longest_same touched leased since n p q same;
+  rule_ends = λ rule within. rule_ends touched leased since rule within p q same;
+  all_keep = λ rule within all schedule of_q.
+      sym (kept_same touched leased since rule within schedule p q same) ∙ all schedule (back touched leased since rule within schedule p q same of_q);
+  all_keep_up_to = λ rule n within all schedule of_q short.
+      sym (kept_same touched leased since rule within schedule p q same) ∙ all schedule (back touched leased since rule within schedule p q same of_q) short;
+  first_bad = λ rule schedule within. first_bad_same touched leased since rule within schedule p q same;
+}

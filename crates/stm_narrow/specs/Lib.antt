@@ -1,0 +1,4 @@
+pub mod Touching
+pub mod Agree
+pub mod AgreeingPlaces
+pub mod Beginning

@@ -104,9 +104,9 @@ fn run(alloc: Global, failing: Failing, fault: Fault) -> Left {
         ),
         Failing::ScriptMessage => script(alloc, BAD.as_bytes(), false, faults),
         Failing::CheckScenario | Failing::CheckReport | Failing::CheckOutput => {
-            check(alloc, SCENARIO, REPORT, false, faults)
+            check(alloc, SCENARIO, REPORT, faults)
         }
-        Failing::CheckMessage => check(alloc, BAD, REPORT, false, faults),
+        Failing::CheckMessage => check(alloc, BAD, REPORT, faults),
         Failing::RecipeOutput => release(alloc, faults),
         Failing::RecipeMessage => dequeue(alloc, faults),
     }

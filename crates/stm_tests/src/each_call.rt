@@ -96,13 +96,10 @@ fn faults_of(failing: Failing, fault: Fault) -> Faults {
 fn run(alloc: Global, failing: Failing, fault: Fault) -> Left {
     let faults = faults_of(failing, fault);
     match failing {
-        Failing::ScriptInput | Failing::ScriptOutput => script(
-            alloc,
-            SCENARIO.as_bytes(),
-            false,
-            faults,
-        ),
-        Failing::ScriptMessage => script(alloc, BAD.as_bytes(), false, faults),
+        Failing::ScriptInput | Failing::ScriptOutput => {
+            script(alloc, SCENARIO.as_bytes(), faults)
+        }
+        Failing::ScriptMessage => script(alloc, BAD.as_bytes(), faults),
         Failing::CheckScenario | Failing::CheckReport | Failing::CheckOutput => {
             check(alloc, SCENARIO, REPORT, faults)
         }

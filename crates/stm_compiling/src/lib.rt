@@ -8,6 +8,7 @@
 mod calls;
 mod command;
 mod elses;
+mod event_lines;
 mod explaining;
 mod fault;
 mod habits;
@@ -33,6 +34,7 @@ mod wanted;
 mod whole;
 
 pub use command::{compile_to, compiled, compiled_part};
+pub use event_lines::{line_of_event, line_of_rule};
 pub use kept::{kept_text, spells};
 pub use labels::{CalledRunner, called_runners};
 pub use notes::notes_of;

@@ -4,35 +4,17 @@ use crate::asked_keys::rule_word;
 use crate::audience::Audience;
 use crate::rules::{RuleAnswer, is_broken};
 use std::alloc::{AllocError, Global};
-use stm_program::{Block, Stmt, StmtNode};
+use stm_program::Program;
+use stm_program_json::write_program;
 
-/// Whether an abort stands in a statement.
-#[cycle(statements)]
-fn has_abort_in(statement: &Stmt) -> bool {
-    match &statement.node {
-        StmtNode::Abort(_) => true,
-        StmtNode::If(_, yes, no) => has_abort_in_block(yes) || has_abort_in_block(no),
-        StmtNode::For(_, _, _, body) => has_abort_in_block(body),
-        StmtNode::Set(_, _) | StmtNode::Put(_, _, _) | StmtNode::Del(_) | StmtNode::Emit(_) => {
-            false
-        }
-    }
-}
+/// With this an abort begins in the JSON of a program, where a quote in a text stands behind a `\`.
+const ABORT: &str = "[\"abort\",";
 
-/// Whether an abort stands in a block.
-#[cycle(statements)]
-fn has_abort_in_block(block: &Block) -> bool {
-    let statements: &Vec<Stmt> = &block.statements;
-    has_abort(statements.as_slice())
-}
-
-/// Whether an abort stands in statements.
-#[cycle(statements)]
-fn has_abort(statements: &[Stmt]) -> bool {
-    match statements {
-        [] => false,
-        [first, rest @ ..] => has_abort_in(first) || has_abort(rest),
-    }
+/// Whether an abort stands in a program, by its JSON.
+fn has_abort(alloc: Global, program: &Program) -> Result<bool, AllocError> {
+    let json = write_program(alloc, program)?;
+    let text = json.to_string(alloc)?;
+    Ok(text.as_str().contains(ABORT))
 }
 
 /// Says of the rule at a place that it has no abort.
@@ -57,7 +39,7 @@ pub(crate) fn tell_without_abort<O: Audience>(
 ) -> Result<(), AllocError> {
     for place in 0..answers.len() {
         let a = &answers[place];
-        if !is_broken(a) && !has_abort(a.rule.program.statements()) {
+        if !is_broken(a) && !has_abort(alloc, &a.rule.program)? {
             tell_rule(alloc, answers, place, audience)?;
         }
     }

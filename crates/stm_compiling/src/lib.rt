@@ -10,6 +10,7 @@ mod command;
 mod elses;
 mod explaining;
 mod fault;
+mod forms;
 mod habits;
 mod kept;
 mod labels;

@@ -7,6 +7,7 @@
 
 mod calls;
 mod command;
+mod compares;
 mod elses;
 mod explaining;
 mod fault;
@@ -42,7 +43,7 @@ pub use placing::{
 };
 pub use refusing::{Refused, refused_in};
 pub use runners::{NamedRunner, name_of_runner, named_runners, runners_named};
-pub use spans::event_lines;
+pub use spans::{event_lines, events_without_jobs};
 pub use stm_devices::{Sink, Source};
 pub use stm_source::{Names, Rule, Wait};
 pub use titles::unknown_in;

@@ -1,9 +1,12 @@
-//! The lines of a source in which the events stand that a search takes as set-up, and those of the others' events.
+//! The lines of a source in which the events stand that a search takes as set-up, those of the others' events, and those of events that are no jobs.
 
 use crate::fault::position_in;
 use crate::kept::{Begun, Item, items_of};
 use std::alloc::{AllocError, Global};
-use stm_tokens::{Token, tokens_of};
+use stm_tokens::{Position, Token, TokenKind, tokens_of};
+
+/// At most so many events are named that are no jobs.
+const MOST_NAMED: usize = 10;
 
 /// From one token of a source to another: the bytes at which they begin.
 #[derive(Clone, Copy)]
@@ -106,4 +109,40 @@ pub fn event_lines(alloc: Global, name: &str, source: &str) -> Result<String, Al
     format!(in alloc;
         "set-up, up to the last start: {setup}; events of the others, each at any moment, in their order: {others}"
     )
+}
+
+/// The word of an event that has no place among jobs, with which an item begins; an empty one for other items.
+fn word_of_no_job(tokens: &[Token], begun: Begun) -> &str {
+    match tokens.get(begun.place) {
+        Some(token) => match &token.kind {
+            TokenKind::Name(name) if is_no_job(name.as_str()) => name.as_str(),
+            _ => "",
+        },
+        None => "",
+    }
+}
+
+/// Whether a word begins an event that has no place among jobs.
+fn is_no_job(word: &str) -> bool {
+    matches!(word, "step" | "watch" | "poll" | "cancel" | "compact")
+}
+
+/// Which events of a source of this name have no place among jobs, and where they stand: a line for each of the first ones. It fails only when out of memory.
+pub fn events_without_jobs(alloc: Global, name: &str, source: &str) -> Result<String, AllocError> {
+    let tokens = tokens_of(alloc, source.as_bytes())?;
+    let items = items_of(alloc, tokens.as_slice())?;
+    let mut said = String::new(alloc);
+    let mut left = MOST_NAMED;
+    for begun in items.as_slice() {
+        let word = word_of_no_job(tokens.as_slice(), *begun);
+        if left > 0 && !word.is_empty() {
+            let Position { line, column } = position_in(source.as_bytes(), begun.at);
+            let event = format!(in alloc;
+                "{name}:{line}:{column}: \"{word}\" has no place in a scenario of jobs, which has starts and what changes the store\n"
+            )?;
+            said.push_str(event.as_str())?;
+            left -= 1;
+        }
+    }
+    Ok(said)
 }

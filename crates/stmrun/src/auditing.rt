@@ -35,9 +35,9 @@ fn audit_on<W: Write + Drop>(
         if status == BAD && !input.is_cut {
             say_bad(rt, input.name, input.bytes.as_slice());
         }
-        say_unread(rt, input.name, input.source.device.failure);
         say_unwritten(rt, out.device.failure.take());
     }
+    say_unread(rt, input.name, input.source.device.failure);
     status
 }
 

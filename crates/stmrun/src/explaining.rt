@@ -4,7 +4,7 @@ ghost use Rattle.std.specs.Prelude.{◌≡◌, false};
 use crate::files::{Opened, open};
 use crate::naming::RUNNERS;
 use crate::noting::Noting;
-use crate::sources::{Given, JsonFile, say_ended};
+use crate::sources::{ENDING, Given, JsonFile, begins_source, say_ended};
 use std::io;
 use std::io::{Input, Write};
 use std::rt::Files;
@@ -18,6 +18,9 @@ const START: &str = "[\"start\",";
 
 /// The same of a step.
 const STEP: &str = "[\"step\",";
+
+/// What the names of files of JSON end in, which may begin with a comment, as sources do.
+const JSON: &str = ".json";
 
 /// Whether a path has a character that does something to a terminal.
 pub(crate) fn has_hidden(path: &str) -> bool {
@@ -64,6 +67,17 @@ pub(crate) fn say_unread(rt: &HostRuntime, name: &str, failure: Option<io::Error
     }
 }
 
+/// Says of what was read as JSON why the system refused it, if it did, and if it begins as a source does what the name of one ends in.
+pub(crate) fn say_read<D>(rt: &HostRuntime, input: &KeptSource<'_, Std<Noting<D>>>) {
+    let name = input.name;
+    say_unread(rt, name, input.source.device.failure);
+    if !name.ends_with(JSON) && begins_source(input.text().unwrap_or("")) {
+        let _ = eprintln!(rt;
+            "{name}: this is a source, and the name of a source ends in {ENDING}"
+        );
+    }
+}
+
 /// Says of standard output that could not be written why the system refused it.
 pub(crate) fn say_unwritten(rt: &HostRuntime, failure: Option<io::Error>) {
     if let Some(error) = failure {
@@ -93,8 +107,8 @@ fn script_on<E: Write + Drop>(
         &mut out,
         err,
     );
+    say_read(rt, &input);
     if explain {
-        say_unread(rt, input.name, input.source.device.failure);
         say_unwritten(rt, out.device.failure);
     }
     status
@@ -163,9 +177,9 @@ pub(crate) fn run_check(
             &mut err,
         )
     };
+    say_read(rt, &scenario);
+    say_unread(rt, report.name, report.source.device.failure);
     if explain {
-        say_unread(rt, scenario.name, scenario.source.device.failure);
-        say_unread(rt, report.name, report.source.device.failure);
         say_unwritten(rt, out.device.failure);
     }
     status

@@ -1,7 +1,7 @@
 //! The command `explore` on the files of paths.
 ghost use Rattle.std.specs.Prelude.{◌≡◌, false};
 
-use crate::explaining::{kept_json, name_of, say_unread, say_unwritten};
+use crate::explaining::{kept_json, name_of, say_read, say_unwritten};
 use crate::files::is_missing;
 use crate::found::{Form, only_level, print_found, run_rules_in, runners_of};
 use crate::naming::{RUNNERS, with_names};
@@ -71,9 +71,9 @@ fn run_rule(
         &mut err,
     );
     let status = close(&mut budget, status);
+    say_read(rt, &scenario);
+    say_read(rt, &rule);
     if explain {
-        say_unread(rt, scenario.name, scenario.source.device.failure);
-        say_unread(rt, rule.name, rule.source.device.failure);
         say_unwritten(rt, out.device.failure);
     }
     status
@@ -134,8 +134,8 @@ fn run_outcomes<O: Write + Drop>(
         &mut err,
     );
     let status = close(&mut budget, status);
+    say_read(rt, &scenario);
     if explain {
-        say_unread(rt, scenario.name, scenario.source.device.failure);
         say_unwritten(rt, out.device.failure);
     }
     status

@@ -1,6 +1,6 @@
 //! The rules that `explore` asks: those of a source, and those that words name.
 
-use crate::explaining::{has_hidden, kept_json, say_unread};
+use crate::explaining::{has_hidden, kept_json, say_read};
 use crate::files::open;
 use crate::sources::{JsonFile, is_source, out_of_memory, program_at, rules_at};
 use stm_commands::Std;
@@ -59,9 +59,7 @@ fn rule_program(rt: &HostRuntime, file: &JsonFile<'_>, explain: bool) -> Result<
     let mut err = Std::new(rt.stderr());
     let mut source = kept_json(rt, file);
     let program = read_rule_to(rt.alloc(), explain, &mut source, &mut err);
-    if explain {
-        say_unread(rt, source.name, source.source.device.failure);
-    }
+    say_read(rt, &source);
     program
 }
 

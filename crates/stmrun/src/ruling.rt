@@ -1,7 +1,7 @@
 //! Searches for several rules, at one level or at each.
 ghost use Rattle.std.specs.Prelude.{◌≡◌, false};
 
-use crate::explaining::{kept_json, say_unread, say_unwritten};
+use crate::explaining::{kept_json, say_read, say_unwritten};
 use crate::noting::Noting;
 use crate::sources::JsonFile;
 use crate::terminals::{Told, close, shown_budget};
@@ -48,8 +48,8 @@ fn search<O: Write + Drop>(
         &mut err,
     );
     let status = close(&mut budget, status);
+    say_read(rt, &scenario);
     if explain {
-        say_unread(rt, scenario.name, scenario.source.device.failure);
         say_unwritten(rt, out.device.failure);
     }
     status
@@ -78,8 +78,8 @@ fn search_levels<O: Write + Drop>(
         &mut err,
     );
     let status = close(&mut budget, status);
+    say_read(rt, &scenario);
     if explain {
-        say_unread(rt, scenario.name, scenario.source.device.failure);
         say_unwritten(rt, out.device.failure);
     }
     status

@@ -1,6 +1,6 @@
 //! The command `show`.
 
-use crate::explaining::{kept, name_of, say_unread, say_unwritten};
+use crate::explaining::{kept, name_of, say_read, say_unwritten};
 use crate::noting::Noting;
 use crate::sources::is_source;
 use stm_arguments::ShowWords;
@@ -29,8 +29,27 @@ fn fault_of(rt: &HostRuntime, input: Input, bytes: &[u8]) -> Option<InputFault> 
     read_input(rt.alloc(), &mut source).err()
 }
 
+/// Says of the bytes of the file of a name, which are no scenario and a program, or the reverse, how they are shown; and answers whether they are that.
+fn say_other(rt: &HostRuntime, input: Input, name: &str, bytes: &[u8]) -> bool {
+    let (other, words) = if input == Input::Program {
+        (Input::Scenario, "scenario: stmrun show, without --program,")
+    } else {
+        (Input::Program, "program: stmrun show --program")
+    };
+    match fault_of(rt, other, bytes) {
+        Some(_) => false,
+        None => {
+            let _ = eprintln!(rt; "{name}: this is a {words} shows it");
+            true
+        }
+    }
+}
+
 /// Explains why the bytes of the file of a name are no scenario, or no program; nothing, where memory runs out.
 fn say_bad(rt: &HostRuntime, input: Input, name: &str, bytes: &[u8]) {
+    if say_other(rt, input, name, bytes) {
+        return;
+    }
     if let Some(InputFault::Bad(bad)) = fault_of(rt, input, bytes) {
         if let Ok(said) = explain(rt.alloc(), input, name, bytes, &bad) {
             let _ = rt.eprint(said.as_str());
@@ -57,8 +76,8 @@ pub(crate) fn run_show(rt: &HostRuntime, words: &ShowWords<'_>, explains: bool) 
         if status == BAD && !input.is_cut {
             say_bad(rt, form, input.name, input.bytes.as_slice());
         }
-        say_unread(rt, input.name, input.source.device.failure);
         say_unwritten(rt, out.device.failure);
     }
+    say_read(rt, &input);
     status
 }

@@ -11,8 +11,8 @@ use std::rt::Files;
 use stm_commands::{KeptSource, RunnerLabel, Std};
 use stm_compiling::{
     Beside, CalledRunner, Compiled, NamedRunner, Part, PlacedLine, Printed, Refused, Rule,
-    SourcePlaces, Wait, called_runners, compile_to, compiled, compiled_part, named_runners,
-    notes_of, placed_program, refused_in,
+    SourcePlaces, Wait, called_runners, compile_to, compiled, compiled_part, events_without_jobs,
+    named_runners, notes_of, placed_program, refused_in,
 };
 use stm_devices::{ReadFault, read_all};
 use stm_history::{Sequence, Text};
@@ -92,7 +92,7 @@ fn line_of<'a>(rt: &HostRuntime, path: &str, line: Text) -> Result<JsonFile<'a>,
 }
 
 /// What the file of a path has, or standard input, or the status, once it was said why it cannot be read.
-fn bytes_at(rt: &HostRuntime, path: &str, explain: bool) -> Result<Vec<u8>, u8> {
+fn bytes_at(rt: &HostRuntime, path: &str) -> Result<Vec<u8>, u8> {
     let mut input = Std::new(Noting::new(open(rt, path)));
     let read = read_all(rt.alloc(), &mut input);
     match read {
@@ -100,9 +100,7 @@ fn bytes_at(rt: &HostRuntime, path: &str, explain: bool) -> Result<Vec<u8>, u8> 
         Err(ReadFault::OutOfMemory) => Err(out_of_memory(rt)),
         Err(ReadFault::Device) => {
             let _ = rt.eprintln("stmrun: device fault");
-            if explain {
-                say_unread(rt, name_of(path), input.device.failure);
-            }
+            say_unread(rt, name_of(path), input.device.failure);
             Err(3)
         }
     }
@@ -127,7 +125,7 @@ fn front_of(bytes: &[u8]) -> &str {
 }
 
 /// Whether a text begins as a source does.
-fn begins_source(text: &str) -> bool {
+pub(crate) fn begins_source(text: &str) -> bool {
     let text = text.trim();
     for word in BEGINNINGS {
         if text.starts_with(word) {
@@ -182,7 +180,7 @@ pub(crate) fn source_at<'a>(
     if path != STANDARD && !is_source(path) {
         return Ok(given_alone(rt, JsonFile::Json(path)));
     }
-    let bytes = bytes_at(rt, path, explain)?;
+    let bytes = bytes_at(rt, path)?;
     if is_source(path) || begins_source(front_of(bytes.as_slice())) {
         given_by(rt, path, bytes, explain)
     } else {
@@ -273,7 +271,7 @@ pub(crate) fn labels_of(rt: &HostRuntime, given: &Given<'_>) -> Result<Vec<Runne
 
 /// The rules of the source of a path; or the status, once what is wrong with it was said. It is explained, or is not.
 pub(crate) fn rules_at(rt: &HostRuntime, path: &str, explain: bool) -> Result<Sequence<Rule>, u8> {
-    let bytes = bytes_at(rt, path, explain)?;
+    let bytes = bytes_at(rt, path)?;
     let Compiled { beside, .. } = compiled_of(rt, path, bytes.as_slice(), explain)?;
     let Beside { rules, .. } = beside;
     Ok(rules)
@@ -336,6 +334,31 @@ fn placed_line(
     }
 }
 
+/// The name of a scenario's file, also where that is a source.
+fn name_of_source<'a>(given: &'a Given<'_>) -> &'a str {
+    let name = given.scenario.name();
+    name.strip_suffix(COMPILED).unwrap_or(name)
+}
+
+/// Says which events of a scenario's source have no place among jobs, behind the fault that stands on `err`, and answers whether there are any.
+pub(crate) fn say_no_jobs(rt: &HostRuntime, given: &Given<'_>, err: &Std<Vec<u8>>) -> bool {
+    let (Some(text), false) = (&given.text, err.failed) else {
+        return false;
+    };
+    let Ok(events) = events_without_jobs(rt.alloc(), name_of_source(given), text.as_str()) else {
+        return false;
+    };
+    if events.is_empty() {
+        return false;
+    }
+    let said = str::from_utf8(err.device.as_slice()).unwrap_or("");
+    if let Some(fault) = said.lines().next() {
+        let _ = rt.eprintln(fault);
+    }
+    let _ = rt.eprint(events.as_str());
+    true
+}
+
 /// What is said of runs by these lines: with the places of the source of their scenario, where it has one, and with the names that this gives to runners.
 fn said_of_runs(
     alloc: Global,
@@ -344,8 +367,7 @@ fn said_of_runs(
     lines: &str,
 ) -> Result<String, AllocError> {
     let runners = runners_of(alloc, given)?;
-    let name = given.scenario.name();
-    let name = name.strip_suffix(COMPILED).unwrap_or(name);
+    let name = name_of_source(given);
     let text = match &given.text {
         Some(text) => text.as_str(),
         None => "",
@@ -637,9 +659,7 @@ pub(crate) fn program_at<'a>(
     let printed = compiled_part(rt.alloc(), part, explained, &mut input, &mut err);
     let printed = line_printed(rt, path, part, printed, &err, &input);
     let text = copy_of(rt, input.text());
-    if explain {
-        say_unread(rt, name_of(path), input.source.device.failure);
-    }
+    say_unread(rt, name_of(path), input.source.device.failure);
     let file = line_of(rt, path, printed?)?;
     Ok(GivenProgram { file, text })
 }
@@ -678,8 +698,8 @@ pub(crate) fn run_compile(rt: &HostRuntime, path: &str, part: Part<'_>, explain:
         &mut err,
     );
     let status = say_part(rt, path, part, status, &err, &input);
+    say_unread(rt, name_of(path), input.source.device.failure);
     if explain {
-        say_unread(rt, name_of(path), input.source.device.failure);
         say_unwritten(rt, out.device.failure);
     }
     status

@@ -6,7 +6,7 @@ ghost use Rattle.stm_texts.specs.Opens.{IsOpening};
 ghost use Rattle.stm_texts.specs.Reading.{scenario_in};
 ghost use Rattle.stm_workers.specs.declared.run.TheConstants.{MOST_WORKERS};
 
-use crate::explaining::{kept_json, name_of, say_unread, say_unwritten};
+use crate::explaining::{kept_json, name_of, say_read, say_unwritten};
 use crate::files::is_missing;
 use crate::naming::JOBS;
 use crate::noting::{Keeping, Noting};
@@ -146,7 +146,7 @@ fn scenario_of(
         Ok(read) => Ok(read),
         Err(fault) => Err(say_input(rt, "scenario", Input::Scenario, &input, &fault, explain)),
     };
-    say_unread(rt, input.name, input.source.device.failure);
+    say_read(rt, &input);
     read
 }
 
@@ -161,7 +161,7 @@ fn program_in(
         Ok(read) => Ok(read),
         Err(fault) => Err(say_input(rt, "program", Input::Program, &input, &fault, explain)),
     };
-    say_unread(rt, input.name, input.source.device.failure);
+    say_read(rt, &input);
     read
 }
 
@@ -254,7 +254,7 @@ fn jobs_on<T: Threads + Wait + Sync, W: Write + Drop>(
 {
     let mut input = kept_json(rt, &given.scenario);
     let read = jobs_of(rt, &mut input, explain);
-    say_unread(rt, input.name, input.source.device.failure.take());
+    say_read(rt, &input);
     let asked = read?;
     let (mut records, bytes) = opened(rt, store)?;
     let ran = threads_kept(

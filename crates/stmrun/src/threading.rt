@@ -3,16 +3,21 @@ ghost use Rattle.std.specs.Prelude.{◌≡◌, ◌≤◌, ℕ, Some, None, true,
 ghost use Rattle.stm_threading.specs.declared.shown.Printing.TheVariants.{Values, Ends, Outcomes};
 ghost use Rattle.stm_workers.specs.declared.run.TheConstants.{MOST_WORKERS};
 
-use crate::explaining::{kept_json, say_unread, say_unwritten};
+use crate::explaining::{kept_json, say_read, say_unwritten};
 use crate::naming::JOBS;
 use crate::noting::{Kept, Noting};
-use crate::sources::{Given, JsonFile, given_at, out_of_memory, runners_of, say_ended};
+use crate::sources::{
+    Given, JsonFile, given_at, out_of_memory, runners_of, say_ended, say_no_jobs,
+};
 use crate::wording::{Lines, held, print_words};
 use std::io::Write;
 use std::sync::Wait;
 use std::thread::Threads;
 use stm_commands::Std;
 use stm_threading::{Printing, ThreadsOptions, threads_as_to};
+
+/// The status of a scenario that is none of jobs.
+const BAD: u8 = 2;
 
 /// What is printed of jobs: what several runs of them come to, or one run, with the ends of the jobs or without.
 pub(crate) fn printing_of(ends: bool, repeat: Option<u32>) -> Printing
@@ -43,8 +48,8 @@ fn threads_on<T: Threads + Wait + Sync, W: Write + Drop, E: Write + Drop>(
     let explain = options.explain;
     let mut input = kept_json(rt, scenario);
     let status = threads_as_to(threads, rt.alloc(), options, &mut input, out, err);
+    say_read(rt, &input);
     if explain {
-        say_unread(rt, input.name, input.source.device.failure);
         say_unwritten(rt, out.device.failure.take());
     }
     status
@@ -68,6 +73,9 @@ fn given_threads_on<T: Threads + Wait + Sync, W: Write + Drop>(
     let said: Vec<u8> = Vec::new(rt.alloc());
     let mut err = Std::new(said);
     let status = threads_on(rt, threads, &given.scenario, options, out, &mut err);
+    if options.explain && status == BAD && say_no_jobs(rt, given, &err) {
+        return status;
+    }
     say_ended(rt, given, JOBS, status, &err)
 }
 

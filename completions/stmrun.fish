@@ -35,7 +35,7 @@ complete -c stmrun -n '__fish_seen_subcommand_from explore' -l budget -d 'How ma
 complete -c stmrun -n '__fish_seen_subcommand_from explore' -l after -d 'Which runners make no step before another has ended' -x -a ''
 complete -c stmrun -n '__fish_seen_subcommand_from explore' -l witness -d 'Prints the outcomes of whole schedules, and of each the scenario with a schedule that comes to it'
 complete -c stmrun -n '__fish_seen_subcommand_from explore' -l serial -d 'Looks for an outcome of a whole schedule that no serial order of the runners comes to'
-complete -c stmrun -n '__fish_seen_subcommand_from explore' -l strict -d 'Status 1 also where a rule is kept, and a runner never committed or a key is asked for that nothing puts'
+complete -c stmrun -n '__fish_seen_subcommand_from explore' -l strict -d 'Status 1 also where a rule is kept, and standard error says why that is worth little, as of a runner that never committed'
 complete -c stmrun -n '__fish_seen_subcommand_from explore' -l format -d 'The form of what is printed' -x -a 'lines text'
 complete -c stmrun -n '__fish_seen_subcommand_from explore' -l width -d 'How many characters wide a table is, from 20 to 1000' -x -a ''
 complete -c stmrun -n '__fish_seen_subcommand_from explore' -l explain -d 'Explains faults, of an input or of a run'

@@ -7,12 +7,14 @@ mod audited;
 mod jobs;
 mod outcomes;
 mod parts;
+mod races;
 mod rules;
 mod stored;
 mod words;
 
 pub use audited::audit_line_in_words;
 pub use jobs::job_line_in_words;
+pub use races::schedule_in_words;
 pub use stm_compiling::NamedRunner;
 pub use stored::store_line_in_words;
 pub use words::in_words;

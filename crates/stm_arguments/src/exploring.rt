@@ -56,8 +56,9 @@ then stmrun explore s.json prints
 and of stmrun explore --level Serializable s.json none of the lines has both keys. With --witness a line behind each outcome is
 the scenario with the steps of a schedule that comes to it, as short as there is one: stmrun script takes it.
 
-A rule that is always kept says little where a program never committed, or where a misspelt key is asked for: standard error
-names these, and --strict makes the status 1 then, as a check that runs by itself wants it.
+A rule that is always kept says little where a program never committed, a misspelt key is asked for, an event is refused, the
+rule has no abort, or nothing is started: standard error says so, and --strict makes the status 1 then, as a check that runs by
+itself wants it.
 
 With --serial no rule is needed. It is looked whether each outcome is what some serial order of the runners comes to, in which
 one after another makes all its steps, among the events of others. A run that gave up, or that the store ended, has changed
@@ -149,7 +150,7 @@ const EXPLORE: Table = Table {
         (
             "strict",
             Form::Flag,
-            "Status 1 also where a rule is kept, and a runner never committed or a key is asked for that nothing puts",
+            "Status 1 also where a rule is kept, and standard error says why that is worth little, as of a runner that never committed",
         ),
         (
             "format",

@@ -9,6 +9,7 @@ mod calls;
 mod command;
 mod compares;
 mod elses;
+mod event_lines;
 mod explaining;
 mod fault;
 mod habits;
@@ -34,6 +35,7 @@ mod wanted;
 mod whole;
 
 pub use command::{compile_to, compiled, compiled_part};
+pub use event_lines::{line_of_event, line_of_rule};
 pub use kept::{kept_text, spells};
 pub use labels::{CalledRunner, called_runners};
 pub use notes::notes_of;

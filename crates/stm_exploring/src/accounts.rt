@@ -2,6 +2,7 @@
 //! puts.
 ghost use Rattle.stm_serial_search.specs.Search.{AreProgramsOf};
 
+use crate::aborting::tell_without_abort;
 use crate::asked_keys::{rule_word, tell_of_rules, tell_of_runners};
 use crate::audience::Audience;
 use crate::counted_ends::{Came, count_end, push_ends};
@@ -53,7 +54,7 @@ const OF_ALL_ORDERS: &str = "runs in all serial orders";
 const OF_SOME_ORDERS: &str = "runs in 10000 moves of serial orders";
 
 /// What is said where an allocation failed for an account.
-const NO_MEMORY: &str = "out of memory: what the answer covers is not known";
+pub(crate) const NO_MEMORY: &str = "out of memory: what the answer covers is not known";
 
 /// How the runs of one runner ended.
 #[derive(Drop)]
@@ -486,6 +487,7 @@ fn tell_orders<O: Audience>(
 ) -> Result<(), AllocError> {
     tell_ended(account, answers, seen, audience)?;
     tell_of_runners(account, audience)?;
+    tell_without_abort(account.alloc, answers, audience)?;
     tell_of_rules(account, answers, audience)?;
     tell_ends(account.alloc, answers, audience)?;
     tell_outputs(account, answers, audience)

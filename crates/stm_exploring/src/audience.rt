@@ -21,8 +21,23 @@ pub trait Audience: Observer {
         self.hear(line);
     }
 
+    /// The same is said, of the event with a number. The events that are no steps are counted, from 1.
+    fn hear_event(&mut self, _number: u64, line: &str) {
+        self.hear(line);
+    }
+
     /// The same is said, of what makes the answer worth little: of a program that never did its work, or a key that nothing puts.
     fn doubt(&mut self, line: &str);
+
+    /// The same is said, of the event with a number, as in `hear_event`.
+    fn doubt_event(&mut self, _number: u64, line: &str) {
+        self.doubt(line);
+    }
+
+    /// The same is said, of a rule or a final: `rule NAME WORDS` or `finally NAME WORDS`, and `the rule WORDS` of one without a name.
+    fn doubt_rule(&mut self, line: &str) {
+        self.doubt(line);
+    }
 }
 
 impl Audience for Nobody {

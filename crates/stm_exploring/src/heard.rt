@@ -13,6 +13,7 @@ enum Manner {
     Heard,
     Fault,
     Doubt,
+    RuleDoubt,
     /// It was said at once, since it is the same at each level.
     Parts,
 }
@@ -41,6 +42,7 @@ fn say<O: Audience>(manner: Manner, line: &str, audience: &mut O) {
         Manner::Heard => audience.hear(line),
         Manner::Fault => audience.hear_fault(line),
         Manner::Doubt => audience.doubt(line),
+        Manner::RuleDoubt => audience.doubt_rule(line),
         Manner::Parts => audience.hear_parts(line),
     }
 }
@@ -146,6 +148,10 @@ impl<O: Audience> Audience for AtLevel<'_, O> {
 
     fn doubt(&mut self, line: &str) {
         self.keep(Manner::Doubt, line);
+    }
+
+    fn doubt_rule(&mut self, line: &str) {
+        self.keep(Manner::RuleDoubt, line);
     }
 }
 

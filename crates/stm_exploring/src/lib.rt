@@ -5,6 +5,7 @@
 //! `specs/Command.antt` the statuses and what is said of a fault.
 #![tactic(auto)]
 
+mod aborting;
 mod accounts;
 mod asked_keys;
 mod asking;
@@ -36,6 +37,7 @@ mod printing;
 mod progress;
 mod question;
 mod reading;
+mod refused;
 mod rules;
 mod schedule_lines;
 mod searching;

@@ -7,6 +7,7 @@ ghost use Rattle.stm_exploring.specs.Exploring.{asked_in, ReadsScenario, ReadsPr
 
 use crate::asking::ask;
 use crate::audience::{Audience, tell_left_out};
+use crate::refused::tell_events;
 use std::alloc::{AllocError, Global};
 use stm_devices::{ReadFault, Source, read_all};
 use stm_json::{BadInput, ReadError};
@@ -60,7 +61,7 @@ impl From<ReadFault> for ExploreFault {
     }
 }
 
-/// The scenario that bytes spell, as it is asked about. It is said how many steps are left out.
+/// The scenario that bytes spell, as it is asked about. It is said how many steps are left out, and which events do nothing.
 fn scenario_in_bytes<O: Audience>(
     alloc: Global,
     bytes: &[u8],
@@ -74,10 +75,11 @@ fn scenario_in_bytes<O: Audience>(
     let count = scenario.events.len();
     let asked = ask(level, scenario);
     tell_left_out(alloc, count.saturating_sub(asked.events.len()), audience);
+    tell_events(alloc, &asked, audience);
     Ok(asked)
 }
 
-/// The scenario of a source, as it is asked about. It is said how many steps are left out.
+/// The scenario of a source, as it is asked about. It is said how many steps are left out, and which events do nothing.
 pub(crate) fn scenario_of<S: Source, O: Audience>(
     alloc: Global,
     source: &mut S,

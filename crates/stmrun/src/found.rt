@@ -6,7 +6,7 @@ use crate::resuming::resumed;
 use crate::ruling::{Question, run_rules, search_silently};
 use crate::sources::{SourceText, out_of_memory};
 use std::alloc::{AllocError, Global};
-use stm_answers::{NamedRunner, in_words};
+use stm_answers::{NamedRunner, in_words, schedule_in_words};
 use stm_arguments::{Level, Levels};
 use stm_commands::{Format, KeptSource, Std, script_as_to};
 use stm_devices::write_all;
@@ -32,11 +32,14 @@ const NO_EVENTS: &str = "[]";
 /// With this begins the line of a broken rule.
 const BROKEN: &str = "[\"broken\"";
 
-/// The table of a run of a scenario, behind an empty line. It fails only when out of memory.
-fn table_of(
+/// What stands in the words of such a line behind the rule and its level.
+const IS_BROKEN: &str = ": broken";
+
+/// What a run of a scenario prints in a format. It fails only when out of memory.
+fn run_of(
     alloc: Global,
     source: Option<&SourceText>,
-    width: Option<u32>,
+    format: Format,
     line: &str,
 ) -> Result<String, AllocError> {
     let labels = match source {
@@ -48,13 +51,61 @@ fn table_of(
     let mut out = Std::new(printed);
     let mut err = Std::new(said);
     let mut input = KeptSource::new(alloc, "", Std::new(line.as_bytes()));
-    let format = Format::Text { width };
     let status = script_as_to(alloc, format, labels, false, &mut input, &mut out, &mut err);
     if status != 0 {
         return Err(AllocError);
     }
-    let table = str::from_utf8(out.device.as_slice()).unwrap_or("");
+    let text = str::from_utf8(out.device.as_slice()).unwrap_or("");
+    String::from_str(alloc, text)
+}
+
+/// The table of a run of a scenario, behind an empty line. It fails only when out of memory.
+fn table_of(
+    alloc: Global,
+    source: Option<&SourceText>,
+    width: Option<u32>,
+    line: &str,
+) -> Result<String, AllocError> {
+    let table = run_of(alloc, source, Format::Text { width }, line)?;
+    let table = table.as_str();
     format!(in alloc; "\n{table}")
+}
+
+/// What is said below the table of a schedule that breaks a rule: nothing of another one.
+fn notes_of(
+    alloc: Global,
+    form: Form<'_>,
+    printed: &str,
+    line: &str,
+) -> Result<String, AllocError> {
+    match (form, broken_line(printed)) {
+        (Form::Text(source, _), Some(_)) => {
+            let report = run_of(alloc, source, Format::Lines, line)?;
+            schedule_in_words(alloc, report.as_str(), runners_of(source))
+        }
+        _ => Ok(String::new(alloc)),
+    }
+}
+
+/// What stands above the table of a search at all levels: which rule its schedule breaks, and at which level. Nothing of another form or search.
+fn heading_of(
+    alloc: Global,
+    form: Form<'_>,
+    levels: Levels,
+    printed: &str,
+) -> Result<String, AllocError> {
+    let (Form::Text(source, _), Levels::All, Some(line)) = (form, levels, broken_line(printed))
+    else {
+        return Ok(String::new(alloc));
+    };
+    let words = in_words(alloc, line, printed, true, runners_of(source))?;
+    match words {
+        Some(words) => match words.as_str().split_once(IS_BROKEN) {
+            Some((rule, _)) => format!(in alloc; "\n{rule}:\n"),
+            None => Ok(String::new(alloc)),
+        },
+        None => Ok(String::new(alloc)),
+    }
 }
 
 /// A scenario with a schedule, of whose starts this is the level, in a form; none, where it stays a line.
@@ -119,7 +170,11 @@ fn push_found(
 ) -> Result<bool, AllocError> {
     if is_scenario(line) {
         if let Some(schedule) = schedule_in(alloc, form, only_level(levels), line)? {
+            let heading = heading_of(alloc, form, levels, printed)?;
+            let notes = notes_of(alloc, form, printed, line)?;
+            out.push_str(heading.as_str())?;
             out.push_str(schedule.as_str())?;
+            out.push_str(notes.as_str())?;
             return Ok(matches!(form, Form::Text(_, _)));
         }
     }
@@ -190,9 +245,14 @@ fn level_of(word: &str) -> Option<Level> {
     }
 }
 
+/// The line of the first rule that is broken, of the lines that a search printed.
+fn broken_line(printed: &str) -> Option<&str> {
+    printed.lines().find(|line| line.starts_with(BROKEN))
+}
+
 /// The level of the first rule that is broken, as the lines of a search at all levels tell it.
 fn broken_level(printed: &str) -> Option<Level> {
-    let line = printed.lines().find(|line| line.starts_with(BROKEN))?;
+    let line = broken_line(printed)?;
     let (_, word) = line.strip_suffix("\"]")?.rsplit_once('"')?;
     level_of(word)
 }

@@ -6,7 +6,9 @@ use crate::sources::{NamedSource, say_line};
 use std::alloc::{AllocError, Global};
 use std::io::{IsTerminal, Stderr};
 use std::time::Clock;
-use stm_compiling::{NamedRunner, PlacedLine, event_lines, placed_rule, placed_runner};
+use stm_compiling::{
+    NamedRunner, PlacedLine, event_lines, line_of_event, line_of_rule, placed_rule, placed_runner,
+};
 use stm_exploring::{Audience, Budget, Observer, ProgressLine, ProgressNotes};
 
 /// Standard error, if it is a terminal.
@@ -96,11 +98,60 @@ impl SearchLines<'_> {
         }
     }
 
+    /// Says a line about the event with a number, with the line of the source in which it begins, where there is a source.
+    fn say_of_event(&self, number: u64, line: &str) {
+        if let Some(source) = self.source {
+            if let Ok(Some(at)) = line_of_event(self.rt.alloc(), source.text, number) {
+                say_at(self.rt, source.name, at, line);
+                return;
+            }
+        }
+        let _ = eprintln!(self.rt; "stmrun: event {number}: {line}");
+    }
+
+    /// Says a line about a rule, with the line in which it begins in a source, where the rules are the source's own.
+    fn say_of_rule(&self, line: &str) {
+        match rule_line(self.rt.alloc(), self.source, line) {
+            Ok(Some((name, at))) => say_at(self.rt, name, at, line),
+            Ok(None) | Err(_) => self.say(line),
+        }
+    }
+
     /// Says which lines of a source have the events of the set-up, and which the others'; nothing, where memory runs out.
     fn say_event_lines(&self, source: NamedSource<'_>) {
         if let Ok(line) = event_lines(self.rt.alloc(), source.name, source.text) {
             let _ = eprintln!(self.rt; "stmrun: {line}");
         }
+    }
+}
+
+/// Says a line about what begins in a line of a source of this name.
+fn say_at(rt: &HostRuntime, name: &str, at: usize, line: &str) {
+    let _ = eprintln!(rt; "{name}:{at}: {line}");
+}
+
+/// The name of the rule or the final that a line begins with.
+fn rule_in(line: &str) -> Option<&str> {
+    let (_, behind) = line.split_once(' ')?;
+    let (name, _) = behind.split_once(' ')?;
+    Some(name)
+}
+
+/// The name of a source, if the rules are its own, and the line of it in which the rule begins that a line begins with.
+fn rule_line<'a>(
+    alloc: Global,
+    source: Option<NamedSource<'a>>,
+    line: &str,
+) -> Result<Option<(&'a str, usize)>, AllocError> {
+    let (Some(source), Some(rule)) = (source, rule_in(line)) else {
+        return Ok(None);
+    };
+    if !source.has_rules {
+        return Ok(None);
+    }
+    match line_of_rule(alloc, source.text, rule)? {
+        Some(at) => Ok(Some((source.name, at))),
+        None => Ok(None),
     }
 }
 
@@ -158,6 +209,20 @@ impl Audience for SearchLines<'_> {
     fn doubt(&mut self, line: &str) {
         self.is_doubtful = true;
         self.say(line);
+    }
+
+    fn hear_event(&mut self, number: u64, line: &str) {
+        self.say_of_event(number, line);
+    }
+
+    fn doubt_event(&mut self, number: u64, line: &str) {
+        self.is_doubtful = true;
+        self.say_of_event(number, line);
+    }
+
+    fn doubt_rule(&mut self, line: &str) {
+        self.is_doubtful = true;
+        self.say_of_rule(line);
     }
 }
 

@@ -12,6 +12,7 @@ mod elses;
 mod event_lines;
 mod explaining;
 mod fault;
+mod forms;
 mod habits;
 mod kept;
 mod labels;

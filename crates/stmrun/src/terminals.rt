@@ -101,9 +101,12 @@ impl SearchLines<'_> {
     /// Says a line about the event with a number, with the line of the source in which it begins, where there is a source.
     fn say_of_event(&self, number: u64, line: &str) {
         if let Some(source) = self.source {
-            if let Ok(Some(at)) = line_of_event(self.rt.alloc(), source.text, number) {
-                say_at(self.rt, source.name, at, line);
-                return;
+            match line_of_event(self.rt.alloc(), source.text, number) {
+                Ok(Some(at)) => {
+                    say_at(self.rt, source.name, at, line);
+                    return;
+                }
+                Ok(None) | Err(_) => {}
             }
         }
         let _ = eprintln!(self.rt; "stmrun: event {number}: {line}");

@@ -227,7 +227,7 @@ fn tell_of<O: Audience>(
 /// Says which events of a scenario without steps are refused, those of the others in every order, which ones stand among the starts, and where there is no
 /// start. Or it says that an allocation failed for it.
 pub(crate) fn tell_events<O: Audience>(alloc: Global, scenario: &Scenario, audience: &mut O) {
-    if tell_of(alloc, scenario, audience).is_err() {
+    if let Err(_) = tell_of(alloc, scenario, audience) {
         audience.hear(NO_MEMORY);
     }
 }

@@ -4,17 +4,45 @@ use crate::asked_keys::rule_word;
 use crate::audience::Audience;
 use crate::rules::{RuleAnswer, is_broken};
 use std::alloc::{AllocError, Global};
-use stm_program::Program;
-use stm_program_json::write_program;
+use stm_program::{Block, Stmt, StmtNode};
 
-/// With this an abort begins in the JSON of a program, where a quote in a text stands behind a `\`.
-const ABORT: &str = "[\"abort\",";
+/// Whether an abort stands in a statement.
+#[cycle(statements)]
+fn has_abort(statement: &Stmt) -> bool {
+    match &statement.node {
+        StmtNode::Abort(_) => true,
+        StmtNode::If(_, yes, no) => {
+            if has_abort_within(yes) {
+                return true;
+            }
+            has_abort_within(no)
+        }
+        StmtNode::For(_, _, _, body) => has_abort_within(body),
+        StmtNode::Put(_, _, _) | StmtNode::Del(_) | StmtNode::Set(_, _) | StmtNode::Emit(_) => {
+            false
+        }
+    }
+}
 
-/// Whether an abort stands in a program, by its JSON.
-fn has_abort(alloc: Global, program: &Program) -> Result<bool, AllocError> {
-    let json = write_program(alloc, program)?;
-    let text = json.to_string(alloc)?;
-    Ok(text.as_str().contains(ABORT))
+/// Whether an abort stands in a block.
+#[cycle(statements)]
+fn has_abort_within(block: &Block) -> bool {
+    let statements: &Vec<Stmt> = &block.statements;
+    have_abort(statements.as_slice())
+}
+
+/// Whether an abort stands in statements.
+#[cycle(statements)]
+fn have_abort(statements: &[Stmt]) -> bool {
+    match statements {
+        [] => false,
+        [first, rest @ ..] => {
+            if has_abort(first) {
+                return true;
+            }
+            have_abort(rest)
+        }
+    }
 }
 
 /// Says of the rule at a place that it has no abort.
@@ -39,7 +67,7 @@ pub(crate) fn tell_without_abort<O: Audience>(
 ) -> Result<(), AllocError> {
     for place in 0..answers.len() {
         let a = &answers[place];
-        if !is_broken(a) && !has_abort(alloc, &a.rule.program)? {
+        if !is_broken(a) && !have_abort(a.rule.program.statements()) {
             tell_rule(alloc, answers, place, audience)?;
         }
     }

@@ -1,5 +1,6 @@
 //! Worked examples of halls.
 
+mod compacted;
 mod expiries;
 mod player;
 mod verdicts;

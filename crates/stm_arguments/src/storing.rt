@@ -17,6 +17,7 @@ With --at its keys as they were at a revision are printed, and with --since what
 before END, by bytes, with --range. A revision that was compacted is refused with status 2, with --at also one that is yet to come.
 With --check the file is read whole: yes RECORDS BYTES says that it is as it was written, and no OFFSET Damaged or
 no OFFSET NoScenario that the record at that byte is not. Nothing behind such a record is served, and nothing is changed.
+Bytes behind the last whole record, of a crash or damaged, are counted on standard error; they stay, but with --compact.
 With --compact the file is written anew, as one record without what is below the store's revision, or that of --since, and
 yes RECORDS BYTES says how long it is then: revisions, versions and leases stay as they were. Where a runner runs,
 or a watcher is open, it is refused with status 2.

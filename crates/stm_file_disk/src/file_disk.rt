@@ -15,6 +15,8 @@ use stm_records::{Disk, DiskFault};
 ///
 /// It keeps what it has asked of the system since it was opened: what the file holds, and what a crash may leave of it, is read off these calls. So it
 /// keeps a copy of the bytes that were read when it was opened, and of those that were written since.
+///
+/// One that was opened to be read (`open_to_read`) asks nothing of the system: it is a copy of the file, in which its calls are made by noting them.
 #[derive(Drop)]
 pub struct FileDisk {
     pub(crate) rt: HostRuntime,
@@ -27,6 +29,7 @@ pub struct FileDisk {
     pub(crate) lock: File,
     pub(crate) calls: Vec<Call>,
     pub(crate) failure: Option<io::Error>,
+    pub(crate) is_copy: bool,
 }
 
 impl FileDisk {
@@ -35,10 +38,40 @@ impl FileDisk {
         self.failure
     }
 
+    /// The length to which the file was cut when its records were looked for, and how many bytes stood behind it, where it was.
+    pub fn torn(&self) -> Option<(usize, usize)> {
+        let opened = self.calls.first()?;
+        let next = self.calls.get(1)?;
+        if next.act == Act::Cut && next.is_done {
+            Some((next.at, opened.bytes.len().saturating_sub(next.at)))
+        } else {
+            None
+        }
+    }
+
+    /// Writes bytes of the file.
+    fn write_file(&self, at: usize, bytes: &[u8]) -> io::Result<()> {
+        if self.is_copy {
+            return Ok(());
+        }
+        self.file.write_all_at(bytes, at as u64)
+    }
+
+    /// Cuts the file.
+    fn cut_file(&self, len: usize) -> io::Result<()> {
+        if self.is_copy {
+            return Ok(());
+        }
+        self.file.set_len(len as u64)
+    }
+
     /// Syncs the file, and its folder where its name is new.
     fn sync_all(&mut self) -> io::Result<()>
         ensures { self.new.calls ≡ self.old.calls }
     {
+        if self.is_copy {
+            return Ok(());
+        }
         self.file.sync_data()?;
         if self.is_name_new {
             self.folder.sync_all()?;
@@ -59,6 +92,9 @@ impl FileDisk {
     fn make_next(&mut self, bytes: &[u8]) -> io::Result<()>
         ensures { self.new.calls ≡ self.old.calls }
     {
+        if self.is_copy {
+            return Ok(());
+        }
         let mut next = OpenOptions::new()
             .read(true)
             .write(true)
@@ -74,6 +110,9 @@ impl FileDisk {
     fn sync_made(&mut self) -> io::Result<()>
         ensures { self.new.calls ≡ self.old.calls }
     {
+        if self.is_copy {
+            return Ok(());
+        }
         match &self.next {
             Some(next) => next.sync_all(),
             None => Err(io::ErrorKind::NotFound.into()),
@@ -84,6 +123,9 @@ impl FileDisk {
     fn take_name(&mut self) -> io::Result<()>
         ensures { self.new.calls ≡ self.old.calls }
     {
+        if self.is_copy {
+            return Ok(());
+        }
         let Some(next) = self.next.take() else {
             return Err(io::ErrorKind::NotFound.into());
         };
@@ -160,14 +202,14 @@ impl Disk for FileDisk {
     #[tactic(auto, using(crate::proofs::Calls::no_time, crate::proofs::Calls::no_write, crate::proofs::Calls::no_fault))]
     fn write_at(&mut self, at: usize, bytes: &[u8]) -> Result<(), DiskFault> {
         let copy = self.prepare(bytes)?;
-        let answer = self.file.write_all_at(bytes, at as u64);
+        let answer = self.write_file(at, bytes);
         self.note(Act::Wrote, at, copy, answer)
     }
 
     #[tactic(auto, using(crate::proofs::Calls::no_time, crate::proofs::Calls::no_cut, crate::proofs::Calls::no_fault))]
     fn cut(&mut self, len: usize) -> Result<(), DiskFault> {
         let none = self.prepare(&[])?;
-        let answer = self.file.set_len(len as u64);
+        let answer = self.cut_file(len);
         self.note(Act::Cut, len, none, answer)
     }
 

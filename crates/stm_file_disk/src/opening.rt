@@ -164,6 +164,40 @@ pub fn open(rt: &HostRuntime, path: &str) -> Result<(FileDisk, Vec<u8>), OpenErr
         lock,
         calls,
         failure: None,
+        is_copy: false,
+    };
+    Ok((disk, bytes))
+}
+
+/// A copy of the file of a path, which has to be there, with what is in it. What is asked of this disk changes the copy alone, and never the file.
+///
+/// `Busy`: another process has it open, by `open` or by this.
+pub fn open_to_read(rt: &HostRuntime, path: &str) -> Result<(FileDisk, Vec<u8>), OpenError>
+    ensures bytes { IfOk result (λ opened. (replay (events_of opened.0.calls.items)).seen ≡ opened.1.items) }
+    ensures usable { IfOk result (λ opened. IsTrue (replay (events_of opened.0.calls.items)).is_usable) }
+    ensures durable { IfOk result (λ opened. (c : List ℕ) → (replay (events_of opened.0.calls.items)).may c → c ≡ opened.1.items) }
+{
+    let alloc = rt.alloc();
+    refuse_no_file(rt, path)?;
+    let lock = lock(rt, path)?;
+    let mut file = File::open(rt, path)?;
+    let mut bytes = Vec::new(alloc);
+    file.read_to_end(&mut bytes)?;
+    let next_path = format!(in alloc; "{path}.next")?;
+    let folder = File::open(rt, folder_of(path))?;
+    let calls = first_call(alloc, &bytes)?;
+    let disk = FileDisk {
+        rt: rt.clone()?,
+        path: format!(in alloc; "{path}")?,
+        next_path,
+        file,
+        next: None,
+        folder,
+        is_name_new: false,
+        lock,
+        calls,
+        failure: None,
+        is_copy: true,
     };
     Ok((disk, bytes))
 }

@@ -26,7 +26,7 @@ use stm_compiling::indices_in;
 use stm_devices::Source;
 use stm_explain::{Input, explained_at};
 use stm_faulted_runs::{State, fault_on};
-use stm_file_disk::{FileDisk, open};
+use stm_file_disk::{FileDisk, open, open_to_read};
 use stm_lasting::Kept;
 use stm_storing::{
     HIGHEST_REVISION, InputFault, JobEnd, JobsAsked, Manner, Program, RecordFile, Scenario,
@@ -87,6 +87,55 @@ fn opened_there(rt: &HostRuntime, path: &str) -> Result<(RecordFile<FileDisk>, V
         return Err(3);
     }
     opened(rt, path)
+}
+
+/// Opens the file of a store that is there already, to be read: it is not changed.
+fn read_there(rt: &HostRuntime, path: &str) -> Result<(RecordFile<FileDisk>, Vec<u8>), u8>
+    ensures bytes { IfOk result (λ opened. (replay (events_of opened.0.disk.calls.items)).seen ≡ opened.1.items) }
+    ensures usable { IfOk result (λ opened. IsTrue (replay (events_of opened.0.disk.calls.items)).is_usable) }
+    ensures durable { IfOk result (λ opened. (c : List ℕ) → (replay (events_of opened.0.disk.calls.items)).may c → c ≡ opened.1.items) }
+{
+    if let Err(error) = fs::metadata(rt, path) {
+        let _ = eprintln!(rt; "stmrun: {path}: {error}");
+        return Err(3);
+    }
+    match open_to_read(rt, path) {
+        Ok((disk, bytes)) => {
+            say_empty(rt, path, &bytes);
+            let records = RecordFile {
+                alloc: rt.alloc(),
+                disk,
+                end: bytes.len(),
+            };
+            Ok((records, bytes))
+        }
+        Err(error) => {
+            let _ = eprintln!(rt; "stmrun: {path}: {error}");
+            Err(3)
+        }
+    }
+}
+
+/// What becomes of bytes that are no whole record, in a file that is only read.
+const LEFT: &str = "they stay";
+
+/// What became of them in one that is written.
+const CUT: &str = "they were cut off";
+
+/// Says which bytes of the file of a store are no whole record, and what became of them; nothing, where there are none.
+fn say_torn(rt: &HostRuntime, path: &str, disk: &FileDisk, outcome: &str) {
+    if let Some((at, count)) = disk.torn() {
+        let _ = eprintln!(rt;
+            "stmrun: {path}: {count} bytes behind byte {at} are no whole record: torn in a crash, or damaged; {outcome}"
+        );
+    }
+}
+
+/// Says that the file of a store has no bytes, where it has none.
+fn say_empty(rt: &HostRuntime, path: &str, bytes: &[u8]) {
+    if bytes.is_empty() {
+        let _ = eprintln!(rt; "stmrun: {path} is empty: it has no store yet");
+    }
 }
 
 /// The format of a report over a store that is kept: that of this name, lines where there is none. Rows number the runners of their own scenario, and
@@ -200,6 +249,7 @@ fn run_script(
     let (mut records, bytes) = opened(rt, store)?;
     let mut out = Std::new(Noting::new(Keeping::new(rt.alloc(), rt.stdout())));
     let kept = script_kept(format, &mut records, bytes, &text, &scenario, &mut out);
+    say_torn(rt, store, &records.disk, CUT);
     say_unwritten(rt, out.device.failure.take());
     match kept {
         Ok(()) => {
@@ -266,6 +316,7 @@ fn jobs_on<T: Threads + Wait + Sync, W: Write + Drop>(
         words.ends,
         out,
     );
+    say_torn(rt, store, &records.disk, CUT);
     say_unwritten(rt, out.device.failure.take());
     match ran {
         Ok(ends) => {
@@ -339,6 +390,7 @@ fn ran(
     let (mut records, bytes) = opened(rt, store)?;
     let mut out = Std::new(Noting::new(Keeping::new(rt.alloc(), rt.stdout())));
     let ran = run_kept(&mut records, bytes, text, program, manner, &mut out);
+    say_torn(rt, store, &records.disk, CUT);
     say_unwritten(rt, out.device.failure.take());
     let line = out.device.into_device().into_bytes();
     match ran {
@@ -407,7 +459,7 @@ fn state_of(rt: &HostRuntime, store: &str) -> Option<State> {
     if is_missing(rt, store) {
         return Some(State::new(rt.alloc()));
     }
-    match open(rt, store) {
+    match open_to_read(rt, store) {
         Ok((mut disk, bytes)) => match stm_lasting::open(rt.alloc(), &mut disk, bytes) {
             Ok(kept) => state_kept(kept),
             Err(_) => None,
@@ -539,8 +591,9 @@ fn show_on<W: Write + Drop>(
 ) -> Result<(), u8>
     requires { out.old.failed ≡ false }
 {
-    let (mut records, bytes) = opened_there(rt, store)?;
+    let (mut records, bytes) = read_there(rt, store)?;
     let shown = show_kept(format, &mut records, bytes, out);
+    say_torn(rt, store, &records.disk, LEFT);
     say_unwritten(rt, out.device.failure.take());
     match shown {
         Ok(()) => Ok(()),
@@ -573,9 +626,10 @@ fn revision_of(rt: &HostRuntime, word: &str) -> Result<u64, u8> {
 /// Prints the keys that the store of a file had at the revision of a word.
 fn show_past(rt: &HostRuntime, store: &str, word: &str) -> Result<(), u8> {
     let revision = revision_of(rt, word)?;
-    let (mut records, bytes) = opened_there(rt, store)?;
+    let (mut records, bytes) = read_there(rt, store)?;
     let mut out = Std::new(Noting::new(rt.stdout()));
     let shown = show_at(&mut records, bytes, revision, &mut out);
+    say_torn(rt, store, &records.disk, LEFT);
     say_unwritten(rt, out.device.failure);
     match shown {
         Ok(()) => Ok(()),
@@ -608,9 +662,10 @@ fn watched_of(rt: &HostRuntime, which: Which<'_>) -> Result<Option<Watched>, u8>
 fn show_events(rt: &HostRuntime, store: &str, word: &str, which: Which<'_>) -> Result<(), u8> {
     let wanted = watched_of(rt, which)?;
     let from = revision_of(rt, word)?;
-    let (mut records, bytes) = opened_there(rt, store)?;
+    let (mut records, bytes) = read_there(rt, store)?;
     let mut out = Std::new(Noting::new(rt.stdout()));
     let shown = show_since(&mut records, bytes, from, &wanted, &mut out);
+    say_torn(rt, store, &records.disk, LEFT);
     say_unwritten(rt, out.device.failure);
     match shown {
         Ok(()) => Ok(()),
@@ -620,8 +675,10 @@ fn show_events(rt: &HostRuntime, store: &str, word: &str, which: Which<'_>) -> R
 
 /// Says whether the file of a store is whole.
 fn check(rt: &HostRuntime, store: &str) -> Result<(), u8> {
-    let (mut records, bytes) = opened_there(rt, store)?;
-    let said = match check_kept(&mut records, bytes) {
+    let (mut records, bytes) = read_there(rt, store)?;
+    let checked = check_kept(&mut records, bytes);
+    say_torn(rt, store, &records.disk, LEFT);
+    let said = match checked {
         Ok(checked) => {
             let said = println!(rt; "yes {} {}", checked.records, checked.bytes);
             said.is_ok()
@@ -646,7 +703,10 @@ fn compact(rt: &HostRuntime, store: &str, word: Option<&str>) -> Result<(), u8> 
         None => None,
     };
     let (mut records, bytes) = opened_there(rt, store)?;
-    match compact_kept(&mut records, bytes, from) {
+    say_empty(rt, store, &bytes);
+    let compacted = compact_kept(&mut records, bytes, from);
+    say_torn(rt, store, &records.disk, CUT);
+    match compacted {
         Ok(checked) => {
             let said = println!(rt; "yes {} {}", checked.records, checked.bytes);
             if said.is_ok() { Ok(()) } else { Err(3) }

@@ -21,11 +21,16 @@ use Rattle.stm_schedules.specs.Scenarios.{is_start}
 use Rattle.stm_narrow.specs.AgreeingPlaces.{PlacesAgree}
 use Rattle.stm_narrow.specs.Touching.{KeepsTo, is_touched, is_written}
 use Rattle.stm_serial.specs.Serial.{IsComparing}
+use Rattle.stm_explore.specs.declared.finding.Outcomes.{Outcomes}
+use Rattle.stm_explore.specs.declared.orders.SerialAnswer.{SerialAnswer}
 use Rattle.stm_explore.specs.declared.waits.Wait.{Wait}
+use Rattle.stm_explore.specs.Orders.{IsSerialAnswer}
 use Rattle.stm_exploring.specs.declared.rules.Rule.{Rule}
 use Rattle.stm_exploring.specs.declared.rules.RuleAnswer.{RuleAnswer}
 use Rattle.stm_exploring.specs.declared.touched.Touched.{Touched}
 use Rattle.stm_exploring.specs.Judging.{AreFoundFrom}
+use Rattle.stm_exploring.specs.Questions.{AreGathered}
+use Rattle.stm_exploring.specs.Replaying.{answer_there, outcomes_there}
 
 -- ---- keys and leases
 
@@ -79,8 +84,10 @@ pub record Narrows (rules : List ProgramTree) (p q : Place) : Type 0 where
   pub sound : IsSound p.world
 
 -- The runners are the same, serial runs are enough from the one where they are from the other, and what is found of these rules from the one is so from the
--- other.
+-- other; so is what is found of outcomes, once its schedules are made there.
 pub record StandsFor (rules : List Rule) (p q : Place) : Type 0 where
   pub runners : p.world.runners ≡ q.world.runners
   pub comparing : IsComparing q → IsComparing p
   pub found : (waits : List Wait) (ends : Ends) (answers : List RuleAnswer) → AreFoundFrom waits rules p ends answers → AreFoundFrom waits rules q ends answers
+  pub outcomes : (ends : Ends) (found : Outcomes) → AreGathered p ends found → AreGathered q ends (outcomes_there q ends found)
+  pub serial : (ends : Ends) (answer : SerialAnswer) → IsSerialAnswer p ends answer → IsSerialAnswer q ends (answer_there q ends answer)

@@ -3,4 +3,6 @@ pub mod SameRun
 pub mod Histories
 pub mod Stepping
 pub mod Searching
+pub mod Staying
+pub mod Showing
 pub mod Beginnings

@@ -244,8 +244,7 @@ module _ (touched : List ℕ → Bool) (leased : ℕ → Bool) (since : ℕ) (en
   answered_there p q agree (serial.Serial count) is =
       let outcomes : List Outcome = is.0 in
       let schedules = some_schedules p ends outcomes (λ it has. (is.1.0 it).0 has) in
-      let long = length-map schedules.0 (λ (s : List Move). outcome_after s q ends) in
-      (
+      let long = length-map schedules.0 (λ (s : List Move). outcome_after s q ends) in (
         outcomes_after q ends schedules.0,
         all_outcomes p q agree outcomes schedules.0 schedules.1 is.1,
         all_serial p q agree outcomes schedules.0 schedules.1 is.2,

@@ -131,10 +131,14 @@ fn gather_in_either<O: Audience>(
     ensures { IfOk result (AreGathered (record { world = world.now; others = others.now }) ends.now) }
 {
     match small {
-        None => find_outcomes(alloc, world, others, ends, budget),
+        None => {
+            let found = find_outcomes(alloc, world, others, ends, budget)?;
+            Ok(found)
+        }
         Some(small) => {
             let found = find_outcomes(alloc, small, others, ends, budget)?;
-            outcomes_there(alloc, world, others, ends, found)
+            let there = outcomes_there(alloc, world, others, ends, found)?;
+            Ok(there)
         }
     }
 }

@@ -141,7 +141,8 @@ fn compare_in_either<O: Audience>(
         None => find_anomaly(alloc, world, others, ends, budget),
         Some(small) => {
             let answer = find_anomaly(alloc, small, others, ends, budget)?;
-            answer_there(alloc, world, others, ends, answer)
+            let there = answer_there(alloc, world, others, ends, answer)?;
+            Ok(there)
         }
     }
 }

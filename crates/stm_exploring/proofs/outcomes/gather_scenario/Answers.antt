@@ -1,14 +1,12 @@
 use Rattle.std.proofs.Common.{◌≡◌, List, IfOk, refl, sym, ap, subst}
 use Rattle.stm_events.specs.declared.event.WorldEvent.{WorldEvent}
-use Rattle.stm_world.specs.World.{World}
-use Rattle.stm_schedules.specs.Outcomes.{Ends}
-use Rattle.stm_schedules.specs.Places.{Place}
-use Rattle.stm_texts.specs.declared.scenario.Scenario.{Scenario}
 use Rattle.stm_program.specs.Syntax.{ProgramTree}
 use Rattle.stm_serial_search.specs.Search.{AreProgramsOf}
-use Rattle.stm_exploring.specs.Asking.{opening_of, place_of, ends_of}
+use Rattle.stm_texts.specs.declared.scenario.Scenario.{Scenario}
+use Rattle.stm_world.specs.World.{World}
+use Rattle.stm_exploring.specs.Asking.{opening_of, place_of}
 use Rattle.stm_exploring.specs.Questions.{AreGathered}
-use Rattle.stm_exploring.proofs.PlaceLemmas.{placed, placed_is, ends_are, programs_placed}
+use Rattle.stm_exploring.proofs.PlaceLemmas.{placed_is, programs_placed, so_begun}
 use Rattle.stm_exploring.proofs.outcomes.gather_scenario.Goals as goal
 
 pub gather_from-gathered-requires : goal.gather_from-gathered-requires
@@ -16,8 +14,7 @@ gather_from-gathered-requires g c =
     let s : Scenario = c.args.scenario.now in
     let setup : List WorldEvent = c.setup_and_others.result.0.now in
     let others : List WorldEvent = c.setup_and_others.result.1.now in
-    let at : placed setup others c.in_ok-world.world ≡ place_of s =
-    placed_is s setup others c.as_slice.result.now (opening_of s) c.in_ok-world.world c.setup_and_others.ensures.setup c.setup_and_others.ensures.others
+    let at = placed_is s setup others c.as_slice.result.now (opening_of s) c.in_ok-world.world c.setup_and_others.ensures.setup c.setup_and_others.ensures.others
     c.as_slice.ensures c.in_ok-world.ensures refl in
     record {
       new = ap (λ (w : World). w.runners) c.in_ok-world.ensures;
@@ -27,13 +24,6 @@ gather_from-gathered-requires g c =
 
 pub returns : goal.returns
 returns g c =
-    let s : Scenario = c.args.scenario.now in
-    let setup : List WorldEvent = c.setup_and_others.result.0.now in
-    let others : List WorldEvent = c.setup_and_others.result.1.now in
-    let at : placed setup others c.in_ok-world.world ≡ place_of s =
-    placed_is s setup others c.as_slice.result.now (opening_of s) c.in_ok-world.world c.setup_and_others.ensures.setup c.setup_and_others.ensures.others
-    c.as_slice.ensures c.in_ok-world.ensures refl in
-    let ends = ends_are s setup c.as_slice.result.now (opening_of s) c.in_ok-world.world c.setup_and_others.ensures.setup c.as_slice.ensures
-    c.in_ok-world.ensures refl in
-    subst (λ (p : Place). IfOk c.gather_from-gathered.result (AreGathered p (ends_of s))) at
-    (subst (λ (e : Ends). IfOk c.gather_from-gathered.result (AreGathered (placed setup others c.in_ok-world.world) e)) ends c.gather_from-gathered.ensures)
+    so_begun (λ p ends. IfOk c.gather_from-gathered.result (AreGathered p ends)) c.args.scenario.now c.setup_and_others.result.0.now c.setup_and_others.result.1.now
+    c.as_slice.result.now (opening_of c.args.scenario.now) c.in_ok-world.world c.setup_and_others.ensures.setup c.setup_and_others.ensures.others
+    c.as_slice.ensures c.in_ok-world.ensures refl c.gather_from-gathered.ensures

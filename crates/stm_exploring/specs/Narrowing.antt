@@ -48,7 +48,7 @@ brings_within t e = event_keeps_to (is_key_of t) (is_lease_of t) e
 -- the others, programs and rules name nothing else
 abbrev pub name_alone : Touched → List WorldEvent → List ProgramTree → List ProgramTree → Bool
 name_alone t others programs rules =
-    list_all (brings_within t) others && (list_all (keeps_to t) programs && list_all (keeps_to t) rules)
+    list_all (brings_within t) others && list_all (keeps_to t) programs && list_all (keeps_to t) rules
 
 -- two stores show the same of these, neither of them compacted above its counter
 pub record ShowTheSame (t : Touched) (r s : Standing) : Type 0 where

@@ -40,6 +40,7 @@ use Rattle.stm_exploring.specs.declared.rules.Rule.{Rule}
 use Rattle.stm_exploring.specs.declared.rules.RuleAnswer.{RuleAnswer}
 use Rattle.stm_exploring.specs.Judging.{AreFoundFrom, IsAnswer, IsFoundWhen}
 use Rattle.stm_exploring.specs.Narrowing.{Narrows, StandsFor}
+use Rattle.stm_exploring.proofs.NarrowOutcomes.{answered_there, gathered_there}
 
 -- ---- what a rule sees
 
@@ -202,10 +203,9 @@ stands_for rules p q n = record {
     foreign = subst AreForeign (sym n.agree.others) is.foreign;
   };
   found = λ waits ends answers found. found_from n.touched n.leased n.since rules p q waits ends answers n.agree n.within found;
+  outcomes = λ ends found are. gathered_there n.touched n.leased n.since ends p q n.agree found are;
+  serial = λ ends answer is. answered_there n.touched n.leased n.since ends p q n.agree answer is;
 }
-
-pub itself : (rules : List Rule) (p : Place) → StandsFor rules p p
-itself rules p = record { runners = refl; comparing = λ is. is; found = λ waits ends answers found. found }
 
 -- the same of a world that was found, if one was
 pub all_stand : {E : Type 0} (rules : List Rule) (asked : List ProgramTree) (w : World) (others : List WorldEvent) (r : Result (Option World) E) →

@@ -142,8 +142,8 @@ narrows : (t : Touched) (setup others : List WorldEvent) (w small : World) (s : 
     name_alone t others programs rules ≡ true → IsSmall t setup s small → Narrows rules (record { world = small; others = others }) (record { world = w; others = others })
 narrows t setup others w small s programs rules ran none reached shown are keep is =
     let stepless : has_step setup ≡ false = sym (some_step setup) ∙ none in
-    let both = and_parts (list_all (brings_within t) others) (list_all (keeps_to t) programs && list_all (keeps_to t) rules) keep in
-    let parts = and_parts (list_all (keeps_to t) programs) (list_all (keeps_to t) rules) both.1 in
+    let both = and_parts (list_all (brings_within t) others && list_all (keeps_to t) programs) (list_all (keeps_to t) rules) keep in
+    let parts = and_parts (list_all (brings_within t) others) (list_all (keeps_to t) programs) both.0 in
     let shows : ShowTheSame t small.standing w.standing = shows_whole t small.standing w.standing reached (subst (ShowTheSame t small.standing) shown is.shows) in
     let runs : w.runners ≡ started setup = from_start setup stepless ran.start w ran.runners ran.world in
     record {
@@ -159,12 +159,12 @@ narrows t setup others w small s programs rules ran none reached shown are keep 
           floors = shows.floors;
           runners = from_starts setup stepless is.start small is.is_new.runners is.world ∙ sym runs;
           begun = λ id r found. beginnings_agree.begun setup id r (sym (ap (runner_at id) runs) ∙ found);
-          keeps = λ id r found. one_within t programs (id - 1) r.task.program parts.0 (are id r found);
+          keeps = λ id r found. one_within t programs (id - 1) r.task.program parts.1 (are id r found);
         });
         others = refl;
-        within = both.0;
+        within = parts.0;
       };
-      within = each_within t rules parts.1;
+      within = each_within t rules both.1;
       sound = subst IsSound (sym is.world) (worlds_are_sound.goes_on (filter is_start setup) is.start is.is_new.sound);
     }
 

@@ -23,11 +23,16 @@ use Rattle.stm_narrow.specs.AgreeingPlaces.{PlacesAgree}
 use Rattle.stm_narrow.specs.Foreign.{event_keeps_to}
 use Rattle.stm_narrow.specs.Touching.{KeepsTo, is_touched, is_written}
 use Rattle.stm_serial.specs.Serial.{IsComparing}
+use Rattle.stm_explore.specs.declared.finding.Outcomes.{Outcomes}
+use Rattle.stm_explore.specs.declared.orders.SerialAnswer.{SerialAnswer}
 use Rattle.stm_explore.specs.declared.waits.Wait.{Wait}
+use Rattle.stm_explore.specs.Orders.{IsSerialAnswer}
 use Rattle.stm_exploring.specs.declared.rules.Rule.{Rule}
 use Rattle.stm_exploring.specs.declared.rules.RuleAnswer.{RuleAnswer}
 use Rattle.stm_exploring.specs.declared.touched.Touched.{Touched}
 use Rattle.stm_exploring.specs.Judging.{AreFoundFrom}
+use Rattle.stm_exploring.specs.Questions.{AreGathered}
+use Rattle.stm_exploring.specs.Replaying.{answer_there, outcomes_there}
 
 -- ---- keys and leases
 
@@ -48,7 +53,7 @@ brings_within t e = event_keeps_to (is_key_of t) (is_lease_of t) e
 -- the others, programs and rules name nothing else
 abbrev pub name_alone : Touched → List WorldEvent → List ProgramTree → List ProgramTree → Bool
 name_alone t others programs rules =
-    list_all (brings_within t) others && (list_all (keeps_to t) programs && list_all (keeps_to t) rules)
+    list_all (brings_within t) others && list_all (keeps_to t) programs && list_all (keeps_to t) rules
 
 -- two stores show the same of these, neither of them compacted above its counter
 pub record ShowTheSame (t : Touched) (r s : Standing) : Type 0 where
@@ -90,8 +95,10 @@ pub record Narrows (rules : List ProgramTree) (p q : Place) : Type 0 where
   pub sound : IsSound p.world
 
 -- The runners are the same, serial runs are enough from the one where they are from the other, and what is found of these rules from the one is so from the
--- other.
+-- other; so is what is found of outcomes, once its schedules are made there.
 pub record StandsFor (rules : List Rule) (p q : Place) : Type 0 where
   pub runners : p.world.runners ≡ q.world.runners
   pub comparing : IsComparing q → IsComparing p
   pub found : (waits : List Wait) (ends : Ends) (answers : List RuleAnswer) → AreFoundFrom waits rules p ends answers → AreFoundFrom waits rules q ends answers
+  pub outcomes : (ends : Ends) (found : Outcomes) → AreGathered p ends found → AreGathered q ends (outcomes_there q ends found)
+  pub serial : (ends : Ends) (answer : SerialAnswer) → IsSerialAnswer p ends answer → IsSerialAnswer q ends (answer_there q ends answer)

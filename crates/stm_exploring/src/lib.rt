@@ -36,6 +36,7 @@ mod printing;
 mod progress;
 mod question;
 mod reading;
+mod replaying;
 mod rules;
 mod schedule_lines;
 mod searching;

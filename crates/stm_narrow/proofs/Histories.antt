@@ -101,7 +101,7 @@ same_failed s t index (c ∷ cs) same =
     ∙ ap (λ (rest : Option FailedCompare). cond (holds c (t c.key)) rest (Some record { index = index; mod_rev = mod_of (t c.key) }))
     (same_failed s t (index + 1) cs same.1)
 
-key_within : (touched : List ℕ → Bool) (leased : ℕ → Bool) (w : Change) → WritesWithin touched leased w → IsTouched touched (key_of w)
+pub key_within : (touched : List ℕ → Bool) (leased : ℕ → Bool) (w : Change) → WritesWithin touched leased w → IsTouched touched (key_of w)
 key_within touched leased (Put key value lease) is = is.0
 key_within touched leased (Del key) is = is
 

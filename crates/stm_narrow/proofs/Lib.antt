@@ -4,4 +4,6 @@ pub mod Histories
 pub mod Stepping
 pub mod Others
 pub mod Searching
+pub mod Staying
+pub mod Showing
 pub mod Beginnings

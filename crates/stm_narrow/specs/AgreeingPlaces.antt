@@ -6,7 +6,7 @@ use Rattle.stm_schedules.specs.declared.moves.Move.{Move}
 use Rattle.stm_schedules.specs.Places.{Place, moves, moved}
 use Rattle.stm_schedules.specs.Schedules.{place_after, IsSchedule, IsLongest}
 use Rattle.stm_schedules.specs.Keeping.{end_alone, keeps, AllKeep, AllKeepUpTo, IsFirstBad, goes_on}
-use Rattle.stm_schedules.specs.Outcomes.{Ends, ends_moved, ends_after}
+use Rattle.stm_schedules.specs.Outcomes.{Ends, ends_moved, ends_after, state_shown}
 use Rattle.stm_narrow.specs.Touching.{KeepsTo}
 use Rattle.stm_narrow.specs.Foreign.{event_keeps_to}
 use Rattle.stm_narrow.specs.Agree.{Agree}
@@ -36,9 +36,16 @@ pub record AreSearchedAlike (touched : List ℕ → Bool) (leased : ℕ → Bool
   pub first_bad : (rule : ProgramTree) (schedule : List Move) → KeepsTo touched leased rule → IsFirstBad (keeps rule) p schedule
       → IsFirstBad (keeps rule) q schedule
 
--- ---- law
+-- ---- laws
 
 abbrev pub AgreeingPlacesAreSame : Type 0
 AgreeingPlacesAreSame =
     (touched : List ℕ → Bool) (leased : ℕ → Bool) (since : ℕ) (p q : Place) → PlacesAgree touched leased since p q
     → AreSearchedAlike touched leased since p q
+
+-- Two schedules that leave the same to be shown from the one place do so from the other: other keys than those that the programs keep to stay as they were.
+abbrev pub SchedulesShowAlike : Type 0
+SchedulesShowAlike =
+    (touched : List ℕ → Bool) (leased : ℕ → Bool) (since : ℕ) (p q : Place) → PlacesAgree touched leased since p q → (one other : List Move)
+    → state_shown (place_after one p).world.standing.history ≡ state_shown (place_after other p).world.standing.history
+    → state_shown (place_after one q).world.standing.history ≡ state_shown (place_after other q).world.standing.history

@@ -1,6 +1,6 @@
 //! The laws. Each function does nothing: its contract is the law.
 ghost use Rattle.stm_narrow.specs.Agree.{AgreeingWorldsAreSame};
-ghost use Rattle.stm_narrow.specs.AgreeingPlaces.{AgreeingPlacesAreSame};
+ghost use Rattle.stm_narrow.specs.AgreeingPlaces.{AgreeingPlacesAreSame, SchedulesShowAlike};
 ghost use Rattle.stm_narrow.specs.Beginning.{BeginningsAgree};
 ghost use Rattle.stm_narrow.specs.Touching.{NamedKeysAreKept, SameRuns};
 
@@ -25,6 +25,12 @@ pub fn agreeing_worlds_are_same()
 /// agree, and a rule that keeps to these keys is kept by the same ones.
 pub fn agreeing_places_are_same()
     ensures { AgreeingPlacesAreSame }
+{}
+
+/// Two schedules that leave the same to be shown from one of two such places do so from the other.
+#[tactic(auto, using(crate::proofs::Showing::schedules_show_alike))]
+pub fn schedules_show_alike()
+    ensures { SchedulesShowAlike }
 {}
 
 /// Two worlds with the same counter in which these keys are the same now, and the same runners begin, agree from now on. Events without steps add the runners

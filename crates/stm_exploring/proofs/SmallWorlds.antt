@@ -88,7 +88,6 @@ whole_shows t s r reached shows = record {
   keys = λ key is. sym (key_stays s reached key) ∙ shows.keys key is;
   live = shows.live;
   limit = shows.limit;
-  floors = (reached, shows.floors.1);
 }
 
 shows_whole : (t : Touched) (r s : Standing) → s.floor ≤ now s.history → ShowTheSame t r (kept s) → ShowTheSame t r s
@@ -97,7 +96,6 @@ shows_whole t r s reached shows = record {
   keys = λ key is. shows.keys key is ∙ key_stays s reached key;
   live = shows.live;
   limit = shows.limit;
-  floors = (shows.floors.0, reached);
 }
 
 -- ---- programs that keep to what is touched
@@ -145,6 +143,7 @@ narrows t setup others w small s programs rules ran none reached shown are keep 
     let both = and_parts (list_all (brings_within t) others && list_all (keeps_to t) programs) (list_all (keeps_to t) rules) keep in
     let parts = and_parts (list_all (brings_within t) others) (list_all (keeps_to t) programs) both.0 in
     let shows : ShowTheSame t small.standing w.standing = shows_whole t small.standing w.standing reached (subst (ShowTheSame t small.standing) shown is.shows) in
+    let sound : IsSound small = subst IsSound (sym is.world) (worlds_are_sound.goes_on (filter is_start setup) is.start is.is_new.sound) in
     let runs : w.runners ≡ started setup = from_start setup stepless ran.start w ran.runners ran.world in
     record {
       touched = is_key_of t;
@@ -156,7 +155,7 @@ narrows t setup others w small s programs rules ran none reached shown are keep 
           keys = shows.keys;
           live = shows.live;
           limit = shows.limit;
-          floors = shows.floors;
+          floors = (sound.kept.reached, reached);
           runners = from_starts setup stepless is.start small is.is_new.runners is.world ∙ sym runs;
           begun = λ id r found. beginnings_agree.begun setup id r (sym (ap (runner_at id) runs) ∙ found);
           keeps = λ id r found. one_within t programs (id - 1) r.task.program parts.1 (are id r found);
@@ -165,7 +164,7 @@ narrows t setup others w small s programs rules ran none reached shown are keep 
         within = parts.0;
       };
       within = each_within t rules both.1;
-      sound = subst IsSound (sym is.world) (worlds_are_sound.goes_on (filter is_start setup) is.start is.is_new.sound);
+      sound = sound;
     }
 
 -- ---- where there is one

@@ -2,7 +2,7 @@
 --
 -- It has a small world: the keys and leases that programs, rules and the others' transactions name, as they are where the schedules begin, and the same
 -- runners.
-use Rattle.std.specs.Prelude.{◌≡◌, ◌≤◌, ℕ, Bool, true, ◌&&◌, List, [], filter}
+use Rattle.std.specs.Prelude.{◌≡◌, ℕ, Bool, true, ◌&&◌, List, [], filter}
 use Rattle.std.specs.BTreeSet.{contains}
 use Rattle.std.specs.List.{AllByRecursion, list_all}
 use Rattle.std.specs.Ordering.{nat_cmp}
@@ -55,13 +55,12 @@ abbrev pub name_alone : Touched → List WorldEvent → List ProgramTree → Lis
 name_alone t others programs rules =
     list_all (brings_within t) others && list_all (keeps_to t) programs && list_all (keeps_to t) rules
 
--- two stores show the same of these, neither of them compacted above its counter
+-- two stores show the same of these
 pub record ShowTheSame (t : Touched) (r s : Standing) : Type 0 where
   pub reached : now r.history ≡ now s.history
   pub keys : (key : List ℕ) → is_key_of t key ≡ true → key_now r.history key ≡ key_now s.history key
   pub live : (id : ℕ) → is_lease_of t id ≡ true → is_live_in r.live id ≡ is_live_in s.live id
   pub limit : r.limit ≡ s.limit
-  pub floors : (r.floor ≤ now r.history) × (s.floor ≤ now s.history)
 
 -- ---- worlds
 

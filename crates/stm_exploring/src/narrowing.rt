@@ -3,7 +3,7 @@
 //!
 //! The steps of runners are told the same in both, transactions change the same, and rules end the same there. What the small one is to show is looked up in both
 //! once it is made.
-ghost use Rattle.std.specs.Prelude.{◌≡◌, ◌≤◌, ◌∷◌, ℕ, List, true, false, [], filter, if◌then◌else◌, option_copied, IfOk, IfSome, OnOk};
+ghost use Rattle.std.specs.Prelude.{◌≡◌, ◌∷◌, ℕ, List, true, false, [], filter, if◌then◌else◌, option_copied, IfOk, IfSome, OnOk};
 ghost use Rattle.std.specs.BTreeSet.{contains};
 ghost use Rattle.std.specs.Cmp.Lexicographic.{slice_cmp};
 ghost use Rattle.std.specs.List.{list_any};
@@ -138,17 +138,12 @@ fn is_same(one: Option<&KeyState>, other: Option<&KeyState>) -> bool
     }
 }
 
-/// Whether both stores have come to the same revision and take as many operations, and neither is compacted above it.
+/// Whether both stores have come to the same revision, and take as many operations.
 fn have_same_terms(one: &Store, other: &Store) -> bool
     ensures reached { result ≡ true → now one.now.standing.history ≡ now other.now.standing.history }
     ensures limit { result ≡ true → one.now.standing.limit ≡ other.now.standing.limit }
-    ensures floor { result ≡ true → one.now.standing.floor ≤ now one.now.standing.history }
-    ensures other_floor { result ≡ true → other.now.standing.floor ≤ now other.now.standing.history }
 {
-    one.floor() <= one.keys().revision()
-        && other.floor() <= other.keys().revision()
-        && one.limit() == other.limit()
-        && one.keys().revision() == other.keys().revision()
+    one.limit() == other.limit() && one.keys().revision() == other.keys().revision()
 }
 
 /// Whether each of these keys is in the same state in both.

@@ -209,13 +209,18 @@ fn write_within(touched: &Touched, ops: &[Op]) -> bool
     ops.iter().all(|op| writes_within(touched, op))
 }
 
-/// Whether compares look at these keys alone.
+/// Whether a compare looks at one of these keys.
+fn compares_within(touched: &Touched, compare: &Compare) -> bool
+    ensures { result ≡ is_key_of touched.now compare.now.key }
+{
+    touched.keys.contains(&compare.key)
+}
+
+/// The same of all compares.
 fn compare_within(touched: &Touched, compares: &[Compare]) -> bool
     ensures { result ≡ list_all (λ (compare : CompareValue). is_key_of touched.now compare.key) compares.now }
 {
-    compares
-        .iter()
-        .all(|compare| touched.keys.contains(&compare.key))
+    compares.iter().all(|compare| compares_within(touched, compare))
 }
 
 /// Whether a transaction compares and writes these keys alone, whichever of its lists runs.

@@ -1,11 +1,11 @@
--- A step from a world with its attempts levelled.
+-- A step from a world with what can be seen of its attempts.
 use Rattle.std.proofs.Common.{◌≡◌, ℕ, ◌+◌, ◌-◌, Bool, true, false, cond, List, [], ◌∷◌, ◌++◌, length, map, Option, Some, None, option_map, Result, Ok, Err}
 use Rattle.std.proofs.Common.{refl, sym, ◌∙◌, ap, subst}
 use Rattle.std.proofs.lemmas.List.{map-set, length-map}
 use Rattle.std.proofs.lemmas.Option.{slice_get-map}
 use Rattle.std.specs.Prelude.{nat_lt, nat_eq, slice_get, slice_set}
+use Rattle.stm_history.specs.declared.key_state.ReadAnswer.{ReadAnswer}
 use Rattle.stm_history.specs.History.{now}
-use Rattle.stm_program.specs.Levels.{is_comparing}
 use Rattle.stm_program.specs.Writes.{latest_writes}
 use Rattle.stm_steps.specs.declared.run.End.{End}
 use Rattle.stm_steps.specs.declared.run.End.TheVariants.{Done as DoneEnd, Aborted as AbortedEnd, Faulted as FaultedEnd}
@@ -19,26 +19,25 @@ use Rattle.stm_outcome.specs.Commits.{revision_read}
 use Rattle.stm_outcome.specs.Terms.{is_below_floor}
 use Rattle.stm_txn.specs.Standing.{Standing, terms_of, with_history}
 use Rattle.stm_compile.specs.Answers.{answer_now}
-use Rattle.stm_compile.specs.Committed.{committed}
+use Rattle.stm_compile.specs.Committed.{committed, conflict_now}
 use Rattle.stm_compile.specs.Conflicts.{Seen, seen_by, seen_in}
 use Rattle.stm_attempt.specs.Known.{known_of}
 use Rattle.stm_attempt.specs.Settled.{run_on}
 use Rattle.stm_attempt.specs.Entering.{is_due, gone_on}
 use Rattle.stm_attempt.specs.Fetches.{at_of}
-use Rattle.stm_entries.specs.Entered.{answers_kept}
 use Rattle.stm_events.specs.declared.event.WorldEvent.{WorldEvent}
 use Rattle.stm_events.specs.declared.event.WorldEvent.TheVariants.{Start, Step}
 use Rattle.stm_events.specs.declared.reply.Reply.{Reply}
 use Rattle.stm_events.specs.declared.reply.Reply.TheVariants.{Started, Committed, Conflict, GaveUp}
 use Rattle.stm_events.specs.declared.reply.CommittedRead.{CommittedRead}
 use Rattle.stm_events.specs.declared.refusal.Denied.{Denied}
-use Rattle.stm_events.specs.Replies.{committed_read}
 use Rattle.stm_world.specs.Task.{Task, answer_at}
 use Rattle.stm_world.specs.World.{World, Runner, Slot, Over, Live, Stepped, live_in, runner_at, with_slot, begin, start_runner, replied, fetch, fetch_at, fetch_list, decided}
 use Rattle.stm_world.specs.World.{commit_reported, commit, finish, step_on, step_live, step_runner, step}
-use Rattle.stm_alike.specs.Levelled.{levelled}
-use Rattle.stm_alike.proofs.Levelling.{levelled_again, same_run, same_due, same_at, fetched_same, mapped_same, same_reread, same_seen, same_commit}
-use Rattle.stm_alike.specs.Seen.{seen_runner, seen_slot}
+use Rattle.stm_world.proofs.CommitCases.{fails}
+use Rattle.stm_alike.specs.Levelled.{reported_of, reads_seen}
+use Rattle.stm_alike.specs.Seen.{seen_runner, seen_slot, seen_reply}
+use Rattle.stm_alike.proofs.SeenAttempts.{seen_again, seen_more, seen_run, seen_due, seen_at, seen_reread, seen_commit, seen_conflict, seen_kept}
 
 -- a world with its attempts levelled, and without its entries
 abbrev pub levelled_world : World → World
@@ -49,7 +48,7 @@ levelled_world w = record { standing = w.standing; runners = map seen_slot w.run
 slot_again : (slot : Slot) → seen_slot (seen_slot slot) ≡ seen_slot slot
 slot_again Over = refl
 slot_again (Live r) =
-    ap (λ reads. Live (record { task = r.task; failures = r.failures; known = known_of reads r.known.prefetched })) (levelled_again r.known.reads)
+    ap (λ reads. Live (record { task = r.task; failures = r.failures; known = known_of reads r.known.prefetched })) (seen_again r.task.level r.known.prefetched r.known.reads)
 
 pub slots_again : (slots : List Slot) → map seen_slot (map seen_slot slots) ≡ map seen_slot slots
 slots_again [] = refl
@@ -78,7 +77,7 @@ runner_seen id slots = by_zero (nat_eq id 0)
 -- ---- what comes of a step
 
 record Same (a b : Stepped) : Type 0 where
-  reply : a.reply ≡ b.reply
+  reply : seen_reply a.reply ≡ seen_reply b.reply
   next : levelled_world a.next ≡ levelled_world b.next
 
 in_store : (s : Standing) (one other : List Slot) → one ≡ other → (let it : World = record { standing = s; runners = one; entries = [] } in it) ≡ record { standing = s; runners = other; entries = [] }
@@ -91,7 +90,7 @@ by_test false x1 y1 x2 y2 first second = second
 replied_same : (reply1 reply2 : Reply) (id : ℕ) (slot1 slot2 : Slot) (w : World) → reply1 ≡ reply2 → seen_slot slot1 ≡ seen_slot slot2 →
     Same (replied reply1 id slot1 (levelled_world w)) (replied reply2 id slot2 w)
 replied_same reply1 reply2 id slot1 slot2 w reply slot = record {
-  reply = ap (λ r. let it : Result Reply Denied = Ok r in it) reply;
+  reply = ap (λ r. let it : Result Reply Denied = seen_reply (Ok r) in it) reply;
   next = in_store w.standing _ _ (both_put id slot1 slot2 w.runners slot);
 }
 
@@ -99,7 +98,7 @@ fetch_same : (id : ℕ) (r : Runner) (key : List ℕ) (of_rev : ℕ) (w : World)
 unfolding fetch
 fetch_same id r key of_rev w = replied_same _ _ id _ _ w refl
     (ap (λ reads. Live (record { task = r.task; failures = r.failures; known = known_of reads r.known.prefetched }))
-    (fetched_same r.task.program r.known.prefetched r.known.reads (answer_at w.standing.history key of_rev)))
+    (seen_more r.task.level r.task.program r.known.prefetched r.known.reads (answer_at w.standing.history key of_rev)))
 
 fetch_at_same : (id : ℕ) (r : Runner) (key : List ℕ) (base : ℕ) (w : World) → Same (fetch_at id (seen_runner r) key base (levelled_world w)) (fetch_at id r key base w)
 fetch_at_same id r key base w =
@@ -109,22 +108,24 @@ fetch_list_same : (id : ℕ) (r : Runner) (w : World) → Same (fetch_list id (s
 fetch_list_same id r w =
     by_test (nat_lt w.standing.limit (length r.task.program.prefetch)) _ _ _ _ (replied_same _ _ id Over Over w refl refl) (replied_same _ _ id _ _ w refl refl)
 
-kept_same : (r : Runner) → map committed_read (answers_kept r.task.level (levelled r.known.reads)) ≡ map committed_read (answers_kept r.task.level r.known.reads)
-kept_same r = by_level (is_comparing r.task.level)
-  where
-    by_level : (b : Bool) → map committed_read (cond b [] (levelled r.known.reads)) ≡ map committed_read (cond b [] r.known.reads)
-    by_level true = refl
-    by_level false = mapped_same committed_read r.known.reads (λ n a. refl)
+-- what can be seen of the answers of an attempt
+abbrev seen_reads : Runner → List ReadAnswer
+seen_reads r = reads_seen r.task.level r.known.prefetched r.known.reads
 
 decided_same : (id : ℕ) (r : Runner) (run : Run) (done : Done) (o : Option FailedCompare) (w : World) →
-    Same (decided id (seen_runner r) (levelled r.known.reads) run done o (levelled_world w)) (decided id r r.known.reads run done o w)
-decided_same id r run done None w = record {
-  reply = ap (λ (reads : List CommittedRead). let it : Result Reply Denied = Ok (Committed id (now done.history) (r.failures + 1) run.output run.trace reads) in it) (kept_same r);
+    committed (terms_of w.standing) r.task.level r.known.reads run ≡ Ok done → done.answer.failed ≡ o →
+    Same (decided id (seen_runner r) (seen_reads r) run done o (levelled_world w)) (decided id r r.known.reads run done o w)
+decided_same id r run done None w is found = record {
+  reply = ap (λ (reads : List CommittedRead). let it : Result Reply Denied = Ok (Committed id (now done.history) (r.failures + 1) run.output run.trace reads) in it)
+      (seen_kept r.task.level r.known.prefetched r.known.reads);
   next = in_store (with_history w.standing done.history) _ _ (both_put id Over Over w.runners refl);
 }
-decided_same id r run done (Some failed) w =
-    let seen : seen_in (slice_get (seen_by (levelled r.known.reads) (latest_writes run.writes)) failed.index) ≡ seen_in (slice_get (seen_by r.known.reads (latest_writes run.writes)) failed.index) =
-    ap (λ ss. seen_in (slice_get ss failed.index)) (same_seen r.known.reads (latest_writes run.writes)) in
+decided_same id r run done (Some failed) w is found =
+    let conflict : conflict_now w.standing.history r.task.level r.known.reads (latest_writes run.writes) ≡ Some failed =
+    (fails (terms_of w.standing) r.task.level r.known.reads run failed done is found).conflict in
+    let seen : reported_of (seen_in (slice_get (seen_by (seen_reads r) (latest_writes run.writes)) failed.index))
+    ≡ reported_of (seen_in (slice_get (seen_by r.known.reads (latest_writes run.writes)) failed.index)) =
+    seen_conflict w.standing.history r.task.level r.known.prefetched r.known.reads (latest_writes run.writes) failed conflict in
     by_test (nat_lt (r.failures + 1) r.task.limit) _ _ _ _
     (replied_same _ _ id _ _ w (ap (λ (s : Seen). Conflict id s.key s.mod_rev failed.mod_rev) seen)
     (ap (λ keys. Live (seen_runner (record {
@@ -135,33 +136,33 @@ decided_same id r run done (Some failed) w =
         prefetched = map (answer_now w.standing.history) keys;
       };
     })))
-    (same_reread r.task.level r.known.reads)))
+    (seen_reread r.task.level r.known.prefetched r.known.reads)))
     (replied_same _ _ id Over Over w (ap (λ (s : Seen). GaveUp id (r.failures + 1) s.key s.mod_rev failed.mod_rev) seen) refl)
 
-reported_same : (id : ℕ) (r : Runner) (run : Run) (o : Result Done StoreRefusal) (w : World) →
-    Same (commit_reported id (seen_runner r) (levelled r.known.reads) run o (levelled_world w)) (commit_reported id r r.known.reads run o w)
-reported_same id r run (Ok done) w = decided_same id r run done done.answer.failed w
-reported_same id r run (Err cause) w = replied_same _ _ id Over Over w refl refl
+reported_same : (id : ℕ) (r : Runner) (run : Run) (o : Result Done StoreRefusal) (w : World) → committed (terms_of w.standing) r.task.level r.known.reads run ≡ o →
+    Same (commit_reported id (seen_runner r) (seen_reads r) run o (levelled_world w)) (commit_reported id r r.known.reads run o w)
+reported_same id r run (Ok done) w is = decided_same id r run done done.answer.failed w is refl
+reported_same id r run (Err cause) w is = replied_same _ _ id Over Over w refl refl
 
-commit_same : (id : ℕ) (r : Runner) (run : Run) (w : World) → Same (commit id (seen_runner r) (levelled r.known.reads) run (levelled_world w)) (commit id r r.known.reads run w)
+commit_same : (id : ℕ) (r : Runner) (run : Run) (w : World) → Same (commit id (seen_runner r) (seen_reads r) run (levelled_world w)) (commit id r r.known.reads run w)
 unfolding commit
 commit_same id r run w =
-    subst (λ (o : Result Done StoreRefusal). Same (commit_reported id (seen_runner r) (levelled r.known.reads) run o (levelled_world w))
+    subst (λ (o : Result Done StoreRefusal). Same (commit_reported id (seen_runner r) (seen_reads r) run o (levelled_world w))
     (commit_reported id r r.known.reads run (committed (terms_of w.standing) r.task.level r.known.reads run) w))
-    (sym (same_commit (terms_of w.standing) r.task.level r.known.reads run))
-    (reported_same id r run (committed (terms_of w.standing) r.task.level r.known.reads run) w)
+    (sym (seen_commit (terms_of w.standing) r.task.level r.known.prefetched r.known.reads run))
+    (reported_same id r run (committed (terms_of w.standing) r.task.level r.known.reads run) w refl)
 
 finish_same : (id : ℕ) (r : Runner) (run : Run) (end : End) (w : World) →
-    Same (finish id (seen_runner r) (levelled r.known.reads) run end (levelled_world w)) (finish id r r.known.reads run end w)
+    Same (finish id (seen_runner r) (seen_reads r) run end (levelled_world w)) (finish id r r.known.reads run end w)
 finish_same id r run DoneEnd w = commit_same id r run w
 finish_same id r run (AbortedEnd text) w = replied_same _ _ id Over Over w refl refl
 finish_same id r run (FaultedEnd fault) w = replied_same _ _ id Over Over w refl refl
 
 step_on_same : (id : ℕ) (r : Runner) (answered : Answered) (w : World) →
-    Same (step_on id (seen_runner r) (levelled r.known.reads) answered (levelled_world w)) (step_on id r r.known.reads answered w)
+    Same (step_on id (seen_runner r) (seen_reads r) answered (levelled_world w)) (step_on id r r.known.reads answered w)
 step_on_same id r (Wants key trace) w =
     subst (λ n. Same (fetch_at id (seen_runner r) key n (levelled_world w)) (fetch_at id r key (at_of r.task.level r.known.reads) w))
-    (sym (same_at r.task.level r.known.reads)) (fetch_at_same id r key (at_of r.task.level r.known.reads) w)
+    (sym (seen_at r.task.level r.known.prefetched r.known.reads)) (fetch_at_same id r key (at_of r.task.level r.known.reads) w)
 step_on_same id r (EndedRun run) w = finish_same id r run run.end w
 
 live_same : (id : ℕ) (r : Runner) (w : World) → Same (step_live id (seen_runner r) (levelled_world w)) (step_live id r w)
@@ -169,14 +170,14 @@ unfolding step_live
 live_same id r w =
     subst (λ b. Same
     (cond b (fetch_list id (seen_runner r) (levelled_world w))
-    (step_on id (seen_runner r) (levelled r.known.reads) (run_on r.task.program (levelled r.known.reads)) (levelled_world w)))
+    (step_on id (seen_runner r) (seen_reads r) (run_on r.task.program (seen_reads r)) (levelled_world w)))
     (cond (is_due r.task.program.prefetch r.known.reads) (fetch_list id r w) (step_on id r r.known.reads (run_on r.task.program r.known.reads) w)))
-    (sym (same_due r.task.program.prefetch r.known.reads))
+    (sym (seen_due r.task.level r.task.program.prefetch r.known.prefetched r.known.reads))
     (subst (λ (run : Answered). Same
     (cond (is_due r.task.program.prefetch r.known.reads) (fetch_list id (seen_runner r) (levelled_world w))
-    (step_on id (seen_runner r) (levelled r.known.reads) run (levelled_world w)))
+    (step_on id (seen_runner r) (seen_reads r) run (levelled_world w)))
     (cond (is_due r.task.program.prefetch r.known.reads) (fetch_list id r w) (step_on id r r.known.reads (run_on r.task.program r.known.reads) w)))
-    (sym (same_run r.task.program r.known.reads))
+    (sym (seen_run r.task.level r.task.program r.known.prefetched r.known.reads))
     (by_test (is_due r.task.program.prefetch r.known.reads) _ _ _ _ (fetch_list_same id r w) (step_on_same id r (run_on r.task.program r.known.reads) w)))
 
 world_again : (w : World) → levelled_world (levelled_world w) ≡ levelled_world w
@@ -210,7 +211,7 @@ next_levelled (Start program level limit) w = (started_same (record { program = 
 next_levelled (Step id) w = (step_same id w).next
 next_levelled _ w = in_store _ _ _ (slots_again w.runners)
 
-pub told_levelled : (event : WorldEvent) (w : World) → (step event (levelled_world w)).reply ≡ (step event w).reply
+pub told_levelled : (event : WorldEvent) (w : World) → seen_reply (step event (levelled_world w)).reply ≡ seen_reply (step event w).reply
 told_levelled (Start program level limit) w = (started_same (record { program = program; level = level; limit = limit }) w).reply
 told_levelled (Step id) w = (step_same id w).reply
 told_levelled _ w = refl

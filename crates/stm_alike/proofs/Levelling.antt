@@ -184,20 +184,28 @@ same_seen reads writes =
     ap (λ n. map seen_of_read (levelled reads) ++ map (seen_of_write n) writes) (carried_again reads)
     ∙ ap (λ cs. cs ++ map (seen_of_write (first_carried reads)) writes) (mapped_same seen_of_read reads (λ n a. refl))
 
-judged_same : (terms : Terms) (level : Level) (reads : List ReadAnswer) (run : Run) (o : Option FailedCompare) → judged terms level (levelled reads) run o ≡ judged terms level reads run o
-judged_same terms level reads run None = refl
-judged_same terms level reads run (Some failed) =
-    ap (λ keys. let it : Result Done Refusal = Ok (turned_down terms.history failed keys) in it) (same_reread level reads)
+judged_by : (terms : Terms) (level : Level) (xs reads : List ReadAnswer) (run : Run) (o : Option FailedCompare) →
+    reread_keys level xs ≡ reread_keys level reads → judged terms level xs run o ≡ judged terms level reads run o
+judged_by terms level xs reads run None same = refl
+judged_by terms level xs reads run (Some failed) same =
+    ap (λ keys. let it : Result Done Refusal = Ok (turned_down terms.history failed keys) in it) same
+
+-- the same commit of as many answers that are compared alike
+pub commit_by : (terms : Terms) (level : Level) (xs reads : List ReadAnswer) (run : Run) → length xs ≡ length reads →
+    compares_of level xs (latest_writes run.writes) ≡ compares_of level reads (latest_writes run.writes) → reread_keys level xs ≡ reread_keys level reads →
+    committed terms level xs run ≡ committed terms level reads run
+commit_by terms level xs reads run long compares reread =
+    let ws : List Change = latest_writes run.writes in
+    ap (λ n. let it : Result Done Refusal = cond (nat_lt terms.limit (compared level n (length ws)) || nat_lt terms.limit (length ws)) (Err TooManyOps)
+    (judged terms level xs run (first_failed (key_now terms.history) 0 (compares_of level xs ws))) in it) long
+    ∙ ap (λ cs. let it : Result Done Refusal = cond (sends_too_many terms.limit level reads ws) (Err TooManyOps)
+    (judged terms level xs run (first_failed (key_now terms.history) 0 cs)) in it) compares
+    ∙ ap (λ j. let it : Result Done Refusal = cond (sends_too_many terms.limit level reads ws) (Err TooManyOps) j in it)
+    (judged_by terms level xs reads run (conflict_now terms.history level reads ws) reread)
 
 pub same_commit : (terms : Terms) (level : Level) (reads : List ReadAnswer) (run : Run) → committed terms level (levelled reads) run ≡ committed terms level reads run
 same_commit terms level reads run =
-    let ws : List Change = latest_writes run.writes in
-    ap (λ n. let it : Result Done Refusal = cond (nat_lt terms.limit (compared level n (length ws)) || nat_lt terms.limit (length ws)) (Err TooManyOps)
-    (judged terms level (levelled reads) run (first_failed (key_now terms.history) 0 (compares_of level (levelled reads) ws))) in it) (length_same reads)
-    ∙ ap (λ cs. let it : Result Done Refusal = cond (sends_too_many terms.limit level reads ws) (Err TooManyOps)
-    (judged terms level (levelled reads) run (first_failed (key_now terms.history) 0 cs)) in it) (same_compares level reads ws)
-    ∙ ap (λ j. let it : Result Done Refusal = cond (sends_too_many terms.limit level reads ws) (Err TooManyOps) j in it)
-    (judged_same terms level reads run (conflict_now terms.history level reads ws))
+    commit_by terms level (levelled reads) reads run (length_same reads) (same_compares level reads (latest_writes run.writes)) (same_reread level reads)
 
 pub levelled_attempts_are_same : LevelledAttemptsAreSame
 levelled_attempts_are_same = record {

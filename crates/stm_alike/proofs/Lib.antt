@@ -1,5 +1,7 @@
 pub mod Comparing
 pub mod Levelling
+pub mod Undating
+pub mod SeenAttempts
 pub mod Stepping
 pub mod LevelledSteps
 pub mod SeenSteps

@@ -2,7 +2,7 @@
 use Rattle.std.proofs.Common.{◌≡◌, sym, ◌∙◌, ap}
 use Rattle.stm_events.specs.declared.event.WorldEvent.{WorldEvent}
 use Rattle.stm_world.specs.World.{World, step}
-use Rattle.stm_alike.specs.Seen.{seen_world, IsNoWatch, AlikeWorldsAreSame}
+use Rattle.stm_alike.specs.Seen.{seen_world, seen_reply, IsNoWatch, AlikeWorldsAreSame}
 use Rattle.stm_alike.proofs.Stepping.{plain_world, next_same, told_same}
 use Rattle.stm_alike.proofs.LevelledSteps.{levelled_world, runner_seen, next_levelled, told_levelled}
 
@@ -11,14 +11,14 @@ next_seen : (event : WorldEvent) (w : World) → seen_world (step event (seen_wo
 next_seen event w =
     ap levelled_world (next_same event (levelled_world w)) ∙ ap plain_world (next_levelled event w)
 
-told_seen : (event : WorldEvent) (w : World) → IsNoWatch event → (step event (seen_world w)).reply ≡ (step event w).reply
-told_seen event w plain = told_same event (levelled_world w) plain ∙ told_levelled event w
+told_seen : (event : WorldEvent) (w : World) → IsNoWatch event → seen_reply (step event (seen_world w)).reply ≡ seen_reply (step event w).reply
+told_seen event w plain = ap seen_reply (told_same event (levelled_world w) plain) ∙ told_levelled event w
 
 pub alike_worlds_are_same : AlikeWorldsAreSame
 alike_worlds_are_same = record {
   next = next_seen;
   told = told_seen;
   after = λ event v w same. sym (next_seen event v) ∙ ap (λ x. seen_world (step event x).next) same ∙ next_seen event w;
-  replies = λ event v w plain same. sym (told_seen event v plain) ∙ ap (λ x. (step event x).reply) same ∙ told_seen event w plain;
+  replies = λ event v w plain same. sym (told_seen event v plain) ∙ ap (λ x. seen_reply (step event x).reply) same ∙ told_seen event w plain;
   seen_at = runner_seen;
 }

@@ -2,10 +2,11 @@
 ghost use Rattle.std.specs.Prelude.{◌≡◌, true, ℕ, map, min, fold, Option};
 ghost use Rattle.stm_history.specs.declared.key_state.ReadAnswer.{ReadAnswer as Answer};
 ghost use Rattle.stm_compile.specs.CommitTxn.{first_carried};
-ghost use Rattle.stm_alike.specs.Levelled.{carrying, levelled};
+ghost use Rattle.stm_alike.specs.Levelled.{carrying, levelled, undated, reads_seen};
 
 use crate::transactions::is_same_text;
 use stm_history::{HIGHEST_REVISION, KeyState, ReadAnswer, are_same_states};
+use stm_program::Level;
 
 /// Whether a key is absent in both, or has the same state in both.
 fn is_same_kv(left: &Option<KeyState>, right: &Option<KeyState>) -> bool
@@ -20,6 +21,16 @@ fn is_same_kv(left: &Option<KeyState>, right: &Option<KeyState>) -> bool
     }
 }
 
+/// Whether two answers are of one key in one state: the same but for the revisions that they show and carry.
+fn finds_the_same(left: &ReadAnswer, right: &ReadAnswer) -> bool
+    ensures { result ≡ true → undated left.now ≡ undated right.now }
+{
+    if !is_same_text(&left.key, &right.key) {
+        return false;
+    }
+    is_same_kv(&left.kv, &right.kv)
+}
+
 /// Whether two answers are the same but for the revision that they carry.
 fn shows_the_same(left: &ReadAnswer, right: &ReadAnswer) -> bool
     ensures { result ≡ true → (n : ℕ) → carrying n left.now ≡ carrying n right.now }
@@ -27,10 +38,7 @@ fn shows_the_same(left: &ReadAnswer, right: &ReadAnswer) -> bool
     if left.of_rev != right.of_rev {
         return false;
     }
-    if !is_same_text(&left.key, &right.key) {
-        return false;
-    }
-    is_same_kv(&left.kv, &right.kv)
+    finds_the_same(left, right)
 }
 
 /// Whether two answers are the same.
@@ -73,6 +81,21 @@ fn show_the_same(left: &[ReadAnswer], right: &[ReadAnswer]) -> bool
     true
 }
 
+/// Whether these answers are those but for the revisions that they show and carry.
+fn find_the_same(left: &[ReadAnswer], right: &[ReadAnswer]) -> bool
+    ensures { result ≡ true → map undated left.now ≡ map undated right.now }
+{
+    if left.len() != right.len() {
+        return false;
+    }
+    for i in 0..left.len() {
+        if !finds_the_same(&left[i], &right[i]) {
+            return false;
+        }
+    }
+    true
+}
+
 /// The least of a revision and of those that these answers carry.
 fn least_of(first: u64, answers: &[ReadAnswer]) -> u64
     ensures { result ≡ fold (λ least (b : Answer). min least b.revision) first answers.now }
@@ -95,11 +118,27 @@ fn least_carried(answers: &[ReadAnswer]) -> u64
 }
 
 /// Whether these answers are those but for the revisions that later ones carry.
-pub fn are_level(left: &[ReadAnswer], right: &[ReadAnswer]) -> bool
+fn are_level(left: &[ReadAnswer], right: &[ReadAnswer]) -> bool
     ensures { result ≡ true → levelled left.now ≡ levelled right.now }
 {
     if !show_the_same(left, right) {
         return false;
     }
     least_carried(left) == least_carried(right)
+}
+
+/// Whether an attempt at this level that has these answers, and others prefetched, goes on as one that has those: they are the same but for the revisions that
+/// later ones carry, or, where the level reads each key as it is now, but for all revisions that they show.
+pub fn are_seen_alike(
+    level: Level,
+    prefetched: &[ReadAnswer],
+    left: &[ReadAnswer],
+    right: &[ReadAnswer],
+) -> bool
+    ensures { result ≡ true → reads_seen level prefetched.now left.now ≡ reads_seen level prefetched.now right.now }
+{
+    if level.is_serializable() || !prefetched.is_empty() {
+        return are_level(left, right);
+    }
+    find_the_same(left, right)
 }

@@ -10,6 +10,6 @@ pub mod laws;
 mod leases;
 mod transactions;
 
-pub use answers::{are_level, are_same_answers};
+pub use answers::{are_same_answers, are_seen_alike};
 pub use entries::{are_same_entries, is_same_entry};
 pub use leases::leave_same_leases;

@@ -10,11 +10,11 @@ use Rattle.stm_txn.specs.Standing.{Step as StoreStep, watched, polled, cancelled
 use Rattle.stm_events.specs.declared.event.WorldEvent.{WorldEvent}
 use Rattle.stm_events.specs.declared.event.WorldEvent.TheVariants.{Step, WatchKey, WatchRange, Poll, Cancel}
 use Rattle.stm_events.specs.declared.reply.Reply.{Reply}
-use Rattle.stm_events.specs.declared.reply.Reply.TheVariants.{Watching, Cancelled}
+use Rattle.stm_events.specs.declared.reply.Reply.TheVariants.{Committed, Watching, Cancelled}
 use Rattle.stm_events.specs.declared.refusal.Denied.{Denied}
 use Rattle.stm_events.specs.Replies.{reply_to, poll_reply}
 use Rattle.stm_world.specs.World.{World, Runner, Slot, runner_at, step}
-use Rattle.stm_alike.specs.Seen.{seen_runner, seen_slot, AreAlike}
+use Rattle.stm_alike.specs.Seen.{seen_runner, seen_slot, seen_reply, AreAlike}
 use Rattle.stm_alike.proofs.SeenSteps.{alike_worlds_are_same}
 use Rattle.stm_schedules.specs.declared.moves.Move.{Move}
 use Rattle.stm_schedules.specs.declared.moves.Move.TheVariants.{Step as StepOf, Other}
@@ -112,9 +112,16 @@ poll_says watcher floor (Ok done) ends = refl
 poll_says watcher floor (Err Compacted) ends = refl
 poll_says watcher floor (Err cause) ends = refl
 
-same_reply : (event : WorldEvent) (v w : World) (ends : Ends) → (step event v).reply ≡ (step event w).reply →
+-- nor do the revisions that the reads of a commit show
+seen_says : (r : Result Reply Denied) (ends : Ends) → after_reported (seen_reply r) ends ≡ after_reported r ends
+seen_says (Ok (Committed id revision attempts output trace reads)) ends = refl
+seen_says (Ok reply) ends = refl
+seen_says (Err denied) ends = refl
+
+same_reply : (event : WorldEvent) (v w : World) (ends : Ends) → seen_reply (step event v).reply ≡ seen_reply (step event w).reply →
     after_reported (step event v).reply ends ≡ after_reported (step event w).reply ends
-same_reply event v w ends same = ap (λ (r : Result Reply Denied). after_reported r ends) same
+same_reply event v w ends same =
+    sym (seen_says (step event v).reply ends) ∙ ap (λ (r : Result Reply Denied). after_reported r ends) same ∙ seen_says (step event w).reply ends
 
 -- the same is known after the same event
 same_ends : (event : WorldEvent) (v w : World) (ends : Ends) → AreAlike v w → after_reported (step event v).reply ends ≡ after_reported (step event w).reply ends

@@ -42,6 +42,7 @@ use Rattle.stm_world.proofs.Slots.{other_number, runner_there, runner_other}
 use Rattle.stm_alike.specs.Levelled.{carrying, levelled}
 use Rattle.stm_alike.specs.Seen.{seen_slot, AreAlike}
 use Rattle.stm_alike.proofs.Levelling.{both_gone_on}
+use Rattle.stm_alike.proofs.SeenAttempts.{seen_level}
 use Rattle.stm_retry.specs.AtBase.{FetchesAtBase, NextIsAtBase}
 use Rattle.stm_retry.proofs.StepDoes.{world, after_step, step_of, step_does}
 
@@ -176,7 +177,7 @@ seen_after r f before after adds reached =
     subst (λ (reads : List ReadAnswer). levelled (reads ++ a ∷ []) ≡ levelled (reads ++ b ∷ [])) (sym f.reads)
     (level_with f.first f.rest a b (omega (arith, carried, reached)) (omega (arith, carried, reached, grows)) same) in
     ap (λ (reads : List ReadAnswer). Live (record { task = r.task; failures = r.failures; known = known_of reads r.known.prefetched }))
-    (both_gone_on r.task.program r.known.prefetched (r.known.reads ++ a ∷ []) (r.known.reads ++ b ∷ []) level)
+    (seen_level r.task.level r.known.prefetched _ _ (both_gone_on r.task.program r.known.prefetched (r.known.reads ++ a ∷ []) (r.known.reads ++ b ∷ []) level))
 
 -- ---- before or after a step of another runner
 

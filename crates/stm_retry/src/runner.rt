@@ -18,7 +18,7 @@ use crate::alike::{is_same_level, is_same_program, mix};
 use std::alloc::{AllocError, Global};
 use std::marker::Model;
 use std::mem;
-use stm_alike::{are_level, are_same_answers};
+use stm_alike::{are_same_answers, are_seen_alike};
 use stm_attempt::{Attempt, Next};
 use stm_history::{ReadAnswer, Sequence, found_mod_rev, mod_rev_of};
 use stm_keys::Keys;
@@ -90,8 +90,12 @@ impl Runner {
     /// A number that alike runners have in common.
     pub(crate) fn hint(&self) -> u64 {
         let mut hint = mix(self.failures as u64, 7);
+        let is_dated = self.level.is_serializable();
         for answer in self.attempt.reads() {
-            hint = mix(mix(hint, answer.of_rev), mod_rev_of(&answer.kv));
+            if is_dated {
+                hint = mix(hint, answer.of_rev);
+            }
+            hint = mix(hint, mod_rev_of(&answer.kv));
         }
         for answer in self.attempt.prefetched() {
             hint = mix(mix(hint, answer.of_rev), mod_rev_of(&answer.kv));
@@ -99,7 +103,7 @@ impl Runner {
         hint
     }
 
-    /// Whether another runner is alike: it may differ in the revisions that later answers carry.
+    /// Whether another runner is alike: it may differ in revisions of its answers that its level makes no use of.
     pub(crate) fn is_alike(&self, other: &Runner) -> bool
         ensures { result ≡ true → seen_runner self.now.runner ≡ seen_runner other.now.runner }
     {
@@ -109,10 +113,15 @@ impl Runner {
         if !is_same_level(self.level, other.level) {
             return false;
         }
-        if !are_level(self.attempt.reads(), other.attempt.reads()) {
+        if !are_same_answers(self.attempt.prefetched(), other.attempt.prefetched()) {
             return false;
         }
-        if !are_same_answers(self.attempt.prefetched(), other.attempt.prefetched()) {
+        if !are_seen_alike(
+            self.level,
+            self.attempt.prefetched(),
+            self.attempt.reads(),
+            other.attempt.reads(),
+        ) {
             return false;
         }
         is_same_program(&self.program, &other.program)

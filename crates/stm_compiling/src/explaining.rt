@@ -4,10 +4,12 @@ ghost use Rattle.stm_explain.specs.Explaining.{explanation};
 ghost use Rattle.stm_compiling.specs.Faults.{IsExplanation, place_of};
 
 use crate::calls::{listed_behind, parameters_of, takes_list};
+use crate::compares::is_set_in_condition;
 use crate::elses::said_of_else;
 use crate::fault::position_in;
 use crate::habits::{
-    said_of_ending, said_of_event, said_of_lease, said_of_no_event, said_of_operation, said_of_word,
+    said_of_digits, said_of_ending, said_of_event, said_of_lease, said_of_no_event,
+    said_of_operation, said_of_outer, said_of_word,
 };
 use crate::misfits::said_of_start;
 use crate::more_faults::{MOST_MORE, Rest};
@@ -17,7 +19,7 @@ use crate::signs::{
     CHOICE, CONDITION, OTHER_TEXT, said_anywhere, said_in_program, said_of_colon, said_of_setting,
 };
 use crate::spots::{Event, Place, Spot, name_in, spot_at};
-use crate::titles::{near_name, said_of_names};
+use crate::titles::{let_below, near_name, said_of_names};
 use crate::wanted::{
     EVENT_NOUN, EVENTS, OPTION_NOUN, STATEMENT, Wanted, allowed, is_behind_condition_word, nearest,
     numbers_at, wanted_at,
@@ -278,8 +280,9 @@ fn no_such_word(
         return format!(in alloc; "{found} is no {noun}: {said}");
     }
     if noun == STATEMENT && begins_at_the_top(spot) {
+        let said = said_of_outer(spot);
         return format!(in alloc;
-            "{found} is no statement, and stands outside of blocks alone: a }} is missing before it"
+            "{found} is no statement, and stands outside of blocks alone{said}"
         );
     }
     let said = said_of_no_event(spot);
@@ -332,9 +335,8 @@ fn syntax_words(
     spot: Spot<'_>,
 ) -> Result<String, AllocError> {
     if is_glued(source, spot) && !name_in(spot).is_empty() {
-        return format!(in alloc;
-            "{found} has no meaning here: a number has the digits 0 to 9 alone"
-        );
+        let said = said_of_digits(spot);
+        return format!(in alloc; "{found} has no meaning here: {said}");
     }
     let said = said_behind_a_way_out(spot);
     if !said.is_empty() {
@@ -388,6 +390,11 @@ fn sort_words(
     if !said.is_empty() {
         return format!(in alloc; "{found} has no parts: {said}");
     }
+    if is_behind_condition_word(spot) && is_set_in_condition(spot) {
+        return format!(in alloc;
+            "{found} begins a value, where a condition is wanted: values are compared by ==, and = compares nothing"
+        );
+    }
     if is_behind_condition_word(spot) {
         return format!(in alloc;
             "{found} begins a value, where a condition is wanted: two values with ==, !=, <, <=, > or >= between them"
@@ -416,8 +423,12 @@ fn said_of_name(source: &[u8], spot: Spot<'_>) -> &'static str {
     }
 }
 
-/// Which name given above is nearest to one that is none, in words; nothing where none is near.
-fn near_words(alloc: Global, spot: Spot<'_>) -> Result<String, AllocError> {
+/// Where below a name is given that is none yet, or which one given above is nearest to it, in words; nothing where neither is.
+fn near_words(alloc: Global, source: &[u8], spot: Spot<'_>) -> Result<String, AllocError> {
+    if let Some(at) = let_below(alloc, name_in(spot), spot)? {
+        let line = position_in(source, at).line;
+        return format!(in alloc; "; its let stands below, in line {line}");
+    }
     let near = near_name(alloc, name_in(spot), spot)?;
     if near.is_empty() {
         return Ok(String::new(alloc));
@@ -435,7 +446,7 @@ fn name_words(
     if let Some(said) = said_of_names(alloc, found, name_in(spot), spot)? {
         return Ok(said);
     }
-    let near = near_words(alloc, spot)?;
+    let near = near_words(alloc, source, spot)?;
     let said = said_of_name(source, spot);
     if !said.is_empty() {
         return format!(in alloc; "{found} is no name of anything here: {said}{near}");

@@ -1,5 +1,6 @@
 //! What is said of words and signs that people bring along from other languages.
 
+use crate::kept::open_behind;
 use crate::spots::{Event, Spot, name_in};
 use crate::wanted::{is_behind_number_name, is_level};
 use stm_tokens::{Operator, Symbol, TokenKind, Word};
@@ -27,6 +28,9 @@ pub(crate) fn said_of_word(word: &str) -> &'static str {
         "try" | "catch" | "defer" | "recover" => "a fault ends the run, and nothing is committed",
         "go" | "async" | "await" | "select" => "what runs beside others has a start of its own",
         "map" => "a map is a key for each of its entries: put(\"m/\" ++ NAME, VALUE)",
+        "invariant" => {
+            "a rule says what is not to be: rule NAME { if CONDITION { abort(TEXT) } }"
+        }
         "import" | "package" | "type" | "struct" => {
             "a source has programs, rules and events alone"
         }
@@ -69,6 +73,7 @@ pub(crate) fn said_of_no_event(spot: Spot<'_>) -> &'static str {
 /// What is said of a name behind an event; nothing of others.
 fn said_of_name(spot: Spot<'_>, name: &str) -> &'static str {
     match (name, spot.event()) {
+        ("begin", _) if !is_behind_number_name(spot) => "it stands before all other events, once",
         ("prefix", _) => "the keys of a range are watch FIRST..END",
         ("commit" | "commits", Some(Event::Start)) => {
             "a runner that waits for a commit has after RUNNER committed"
@@ -132,4 +137,35 @@ pub(crate) fn said_of_lease(spot: Spot<'_>) -> &'static str {
     } else {
         ""
     }
+}
+
+/// What is said of digits that go on with letters.
+pub(crate) fn said_of_digits(spot: Spot<'_>) -> &'static str {
+    if spot.is_behind(1, "grant") || spot.is_behind(1, "keep") || spot.is_behind(1, "revoke") {
+        return "a number has the digits 0 to 9 alone: of a lease that etcdctl prints, printf %d 0xID makes one";
+    }
+    "a number has the digits 0 to 9 alone"
+}
+
+/// Whether all brackets of a source are closed.
+fn closes_all(spot: Spot<'_>) -> bool {
+    let mut open = 0;
+    for token in spot.before {
+        open = open_behind(open, &token.kind);
+    }
+    for token in spot.from {
+        open = open_behind(open, &token.kind);
+    }
+    open == 0
+}
+
+/// What is said behind a word in a block that stands outside of blocks alone.
+pub(crate) fn said_of_outer(spot: Spot<'_>) -> &'static str {
+    if !closes_all(spot) {
+        return ": a } is missing before it";
+    }
+    if name_in(spot) == "txn" {
+        return ", and a program is one transaction as a whole: if get(KEY) == TEXT { put(KEY, VALUE) }";
+    }
+    ""
 }

@@ -7,6 +7,7 @@
 
 mod calls;
 mod command;
+mod compares;
 mod elses;
 mod explaining;
 mod fault;

@@ -15,6 +15,8 @@ struct Misfit {
     number: usize,
     /// Whether a number is wanted there, and not a text.
     wants_number: bool,
+    /// Whether no argument behind it is one.
+    is_last: bool,
 }
 
 /// Whether an argument that begins with this token is a number; nothing where none begins there.
@@ -35,26 +37,40 @@ fn wants_number(kinds: &[Kind], place: usize) -> Option<bool> {
     }
 }
 
+/// The first misfit, where the argument of this place is one behind those found before.
+fn with_misfit(found: Option<Misfit>, place: usize, wants_number: bool) -> Misfit {
+    match found {
+        Some(first) => Misfit {
+            number: first.number,
+            wants_number: first.wants_number,
+            is_last: false,
+        },
+        None => Misfit {
+            number: place.saturating_add(1),
+            wants_number,
+            is_last: true,
+        },
+    }
+}
+
 /// The first argument among these tokens, behind their bracket, that is of another kind than is wanted.
 fn first_misfit(tokens: &[Token], kinds: &[Kind]) -> Option<Misfit> {
     let mut place = 0usize;
+    let mut found: Option<Misfit> = None;
     for token in tokens {
         if token.kind.is_symbol(Symbol::RightParenthesis) {
-            return None;
+            return found;
         }
         if token.kind.is_symbol(Symbol::Comma) {
             place = place.saturating_add(1);
         }
         if let (Some(is), Some(wanted)) = (is_number(&token.kind), wants_number(kinds, place)) {
             if is != wanted {
-                return Some(Misfit {
-                    number: place.saturating_add(1),
-                    wants_number: wanted,
-                });
+                found = Some(with_misfit(found, place, wanted));
             }
         }
     }
-    None
+    found
 }
 
 /// What the arguments of a program have to be that stands in a source before a byte.
@@ -73,15 +89,23 @@ fn kinds_before(
     }
 }
 
-/// What is said of an argument that is of another kind than is wanted.
-fn misfit_words(alloc: Global, name: &str, misfit: Misfit) -> Result<Option<String>, AllocError> {
+/// What is said of an argument that is of another kind than is wanted, and in which line, where that is known.
+fn misfit_words(
+    alloc: Global,
+    name: &str,
+    misfit: Misfit,
+    line: Option<usize>,
+) -> Result<Option<String>, AllocError> {
     let number = misfit.number;
     let words = if misfit.wants_number {
         "a text, where the program needs a number"
     } else {
         "a number, where the program needs a text"
     };
-    let said = format!(in alloc; "argument {number} of {name} is {words}")?;
+    let said = match line {
+        Some(line) => format!(in alloc; "argument {number} of {name} is {words}, in line {line}")?,
+        None => format!(in alloc; "argument {number} of {name} is {words}")?,
+    };
     Ok(Some(said))
 }
 
@@ -107,6 +131,21 @@ fn both_words(
     }
 }
 
+/// The line in which a program wants the other kind of an argument; nothing, where that is not known, or another argument is a misfit, too.
+fn line_of_misfit(
+    alloc: Global,
+    source: &[u8],
+    spot: Spot<'_>,
+    name: &str,
+    misfit: Misfit,
+) -> Result<Option<usize>, AllocError> {
+    if misfit.is_last {
+        line_of_second_use(alloc, source, spot, name)
+    } else {
+        Ok(None)
+    }
+}
+
 /// What is said of the name of a program that is started, with which argument it cannot be; nothing of other names.
 fn said_of_name(
     alloc: Global,
@@ -122,7 +161,10 @@ fn said_of_name(
     let behind = spot.from.get(1..).unwrap_or(&[]);
     let kinds = kinds_before(alloc, source, start.at, name.as_str())?;
     match first_misfit(behind, kinds.as_slice()) {
-        Some(misfit) => misfit_words(alloc, name.as_str(), misfit),
+        Some(misfit) => {
+            let line = line_of_misfit(alloc, source, spot, name.as_str(), misfit)?;
+            misfit_words(alloc, name.as_str(), misfit, line)
+        }
         None => Ok(Some(both_words(alloc, source, spot, name.as_str())?)),
     }
 }
@@ -152,8 +194,9 @@ pub(crate) fn said_of_start(
         let misfit = Misfit {
             number,
             wants_number,
+            is_last: false,
         };
-        return misfit_words(alloc, name, misfit);
+        return misfit_words(alloc, name, misfit, None);
     }
     said_of_name(alloc, source, spot)
 }

@@ -186,6 +186,9 @@ pub(crate) fn said_of_colon(spot: Spot<'_>, sets: bool) -> &'static str {
     if is_parameter(spot) {
         return "parameters have names and no types";
     }
+    if spot.is_behind_word(1, Word::Rule) || spot.is_behind_word(1, Word::Finally) {
+        return "a rule stands in braces: rule NAME { if CONDITION { abort(TEXT) } }";
+    }
     if spot.is_before_a_block() {
         return "a block stands in braces, { .. }";
     }

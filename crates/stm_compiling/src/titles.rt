@@ -135,6 +135,23 @@ pub(crate) fn near_name<'a>(
     nearest(alloc, names.as_slice(), name)
 }
 
+/// The byte at which a `let` behind a place gives a name, in its block or outside of all; none, where none does.
+pub(crate) fn let_below(
+    alloc: Global,
+    name: &str,
+    spot: Spot<'_>,
+) -> Result<Option<usize>, AllocError> {
+    let items = items_of(alloc, spot.from)?;
+    for begun in items.as_slice() {
+        if let Some([first, second, ..]) = spot.from.get(begun.place..) {
+            if first.kind.is_word(Word::Let) && second.kind.is_named(name) {
+                return Ok(Some(first.at));
+            }
+        }
+    }
+    Ok(None)
+}
+
 /// Whether a name is among these.
 fn is_among(names: &[&str], name: &str) -> bool {
     for known in names {

@@ -1,6 +1,7 @@
 //! What is wanted in a place of a source.
 
-use crate::calls::{behind_asked, behind_value, is_asked, is_parameter, value_in};
+use crate::calls::{behind_asked, behind_value, is_argument, is_asked, is_parameter, value_in};
+use crate::compares::{is_chained, wanted_of_compares};
 use crate::spots::{Event, Place, Spot};
 use std::alloc::{AllocError, Global};
 use stm_program::Operator;
@@ -17,9 +18,9 @@ pub(crate) const EVENTS: [&str; 16] = [
 ];
 
 /// What may stand behind the program of a start.
-const OPTIONS: [&str; 16] = [
-    "as", "at", "limit", "after", "start", "step", "txn", "grant", "keep", "revoke", "advance",
-    "watch", "poll", "cancel", "compact", "begin",
+const OPTIONS: [&str; 19] = [
+    "as", "at", "limit", "after", "program", "start", "step", "txn", "grant", "keep", "revoke",
+    "advance", "watch", "poll", "cancel", "compact", "rule", "finally", "let",
 ];
 
 const ORDERS: [&str; 4] = ["==", "!=", "<", ">"];
@@ -101,6 +102,20 @@ pub(crate) fn is_behind_number_name(spot: Spot<'_>) -> bool {
     false
 }
 
+/// What is wanted where a number stands, of which a name has no place in all.
+fn number_wanted(spot: Spot<'_>) -> Wanted {
+    match spot.kind() {
+        Some(TokenKind::Name(_)) => Wanted::Said("a number as it stands"),
+        _ => Wanted::Said("a whole number"),
+    }
+}
+
+/// Whether a place is that of the level from which on a rule or a final is asked.
+fn is_level_of_a_rule(spot: Spot<'_>) -> bool {
+    spot.is_behind(0, "from")
+        && (spot.is_behind_word(2, Word::Rule) || spot.is_behind_word(2, Word::Finally))
+}
+
 /// What is wanted behind the word of a declaration.
 fn behind_declaration(spot: Spot<'_>) -> Option<Wanted> {
     if spot.is_behind_word(0, Word::Program) {
@@ -132,8 +147,15 @@ fn in_event(spot: Spot<'_>) -> Wanted {
     if let Some(wanted) = behind_name(spot) {
         return wanted;
     }
+    let wanted = wanted_of_compares(spot);
+    if !wanted.is_empty() {
+        return Wanted::Said(wanted);
+    }
+    if is_level_of_a_rule(spot) {
+        return Wanted::Words("level", &LEVELS, "");
+    }
     if is_behind_number_name(spot) {
-        return Wanted::Said("a whole number");
+        return number_wanted(spot);
     }
     if spot.is_behind_symbol(0, Symbol::Arithmetic(Operator::Mul)) {
         return Wanted::Said("a number of steps, as in step ana*2,");
@@ -233,6 +255,9 @@ fn is_count_without_max(spot: Spot<'_>) -> bool {
 
 /// What is wanted in a program, where a new statement may begin.
 fn statement_or_more(spot: Spot<'_>) -> Wanted {
+    if spot.is_before_a_block() && is_chained(spot) {
+        return Wanted::Said("&&, as in 1 < n && n < 3,");
+    }
     if spot.is_before_a_block() && is_count_without_max(spot) {
         return Wanted::OperatorOr("max NUMBER, since the count is no number as it stands,");
     }
@@ -300,6 +325,12 @@ fn in_parentheses(spot: Spot<'_>) -> Wanted {
     if is_number_of_transaction(spot) {
         return Wanted::Said("a text, in quotes,");
     }
+    if spot.is_behind_symbol(0, Symbol::LeftParenthesis) && is_asked(spot) {
+        return Wanted::Said("a runner, by its name without quotes or its number,");
+    }
+    if is_behind_opening(spot) && is_argument(spot) {
+        return Wanted::Said("a text or a number as it stands, or the name of one,");
+    }
     if is_behind_opening(spot) {
         return Wanted::Said(value_in(spot));
     }
@@ -308,6 +339,11 @@ fn in_parentheses(spot: Spot<'_>) -> Wanted {
     }
     if is_asked(spot) {
         return Wanted::Said(behind_asked(spot));
+    }
+    if is_argument(spot) {
+        return Wanted::Said(
+            "a comma, or the ) behind the arguments, which are texts and numbers as they stand,",
+        );
     }
     if is_parameter(spot) {
         return Wanted::Said(

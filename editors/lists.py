@@ -26,6 +26,11 @@ def arms(file, what):
     return set(re.findall(rf'"(\w+)" (?:=> )?\{{?\s*Some\({what}::', read(file)))
 
 
+def variants(file, what):
+    """The words of the variants of this enum that a function of Rust has cases for."""
+    return {re.sub(r"\B([A-Z])", r"_\1", it).lower() for it in re.findall(rf"\b{what}::(\w+) =>", read(file))}
+
+
 def table(file, name):
     """The words of a table of Rust."""
     return set(re.findall(r'"(\w+)"', re.search(rf"const {name}: [^=]*= &?\[(.*?)\];", read(file), re.DOTALL)[1]))
@@ -57,10 +62,11 @@ def lists_of_sources(of):
     yield "the reader's levels (stm_source, words.rt)", arms("crates/stm_source/src/words.rt", "Level"), levels
     yield "the reader's compares (stm_source, words.rt)", arms("crates/stm_source/src/words.rt", "TargetWord"), compares
     yield f"EVENTS of {spoken}", table(spoken, "EVENTS"), of("declaration event")
-    yield f"OPTIONS of {spoken}", table(spoken, "OPTIONS"), events | {"as", "at", "limit", "after"}
+    yield f"OPTIONS of {spoken}", table(spoken, "OPTIONS"), of("declaration event") - {"begin"} | {"as", "at", "limit", "after"}
     yield f"STATEMENTS of {spoken}", table(spoken, "STATEMENTS"), of("statement") - {"prefetch"} | {"let", "if", "for", "return"}
     yield f"COMPARES of {spoken}", table(spoken, "COMPARES"), compares
     yield f"LEVELS of {spoken}", table(spoken, "LEVELS"), levels
+    yield "the forms of crates/stm_compiling/src/forms.rt", variants("crates/stm_compiling/src/forms.rt", "Word"), of("statement function")
     yield "LEVELS of crates/stm_arguments/src/levels.rt", table("crates/stm_arguments/src/levels.rt", "LEVELS"), levels
     yield "KEYWORDS of tests/source/tokens.py", script("tests/source/tokens.py", "KEYWORDS"), reserved
     yield "EVENTS of tests/source/tokens.py", script("tests/source/tokens.py", "EVENTS"), events

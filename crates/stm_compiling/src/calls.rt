@@ -1,5 +1,6 @@
 //! What is wanted in the parentheses of a call.
 
+use crate::forms::{ANY_END, form_in};
 use crate::kept::open_behind;
 use crate::spots::{Call, Event, Spot};
 use stm_tokens::{Symbol, Token, TokenKind, Word};
@@ -155,50 +156,26 @@ pub(crate) fn behind_asked(spot: Spot<'_>) -> &'static str {
 
 /// What is wanted in a place where a value of a call begins.
 pub(crate) fn value_in(spot: Spot<'_>) -> &'static str {
-    match word_of(spot.call()) {
-        Some((Word::Put, 0)) => "the key of put(KEY, VALUE)",
-        Some((Word::Put, 1)) => "the value of put(KEY, VALUE)",
-        Some((Word::Put, _)) => "the lease of put(KEY, VALUE, LEASE), a number",
-        Some((Word::Del, _)) => "the key of del(KEY)",
-        Some((Word::Emit, _)) => "the value of emit(VALUE)",
-        Some((Word::Abort, _)) => "the text of abort(TEXT)",
-        Some((Word::Get, _)) => "the key of get(KEY)",
-        Some((Word::Rev, _)) => "the key of rev(KEY)",
-        Some((Word::NumOf, _)) => "the text of num_of(TEXT)",
-        Some((Word::TextOf, _)) => "the number of text_of(NUMBER)",
-        Some((Word::Prefetch, _)) => "a key of the list, a text,",
+    match (word_of(spot.call()), form_in(spot)) {
+        (Some((Word::Put, 1)), _) => "the value of put(KEY, VALUE)",
+        (Some((Word::Put, values)), _) if values > 1 =>
+            "the lease of put(KEY, VALUE, LEASE), a number",
+        (_, Some(form)) => form.value,
         _ => "a value",
-    }
-}
-
-/// What is wanted behind a put's value, of which so many stand before it.
-fn behind_value_of_put(values: usize) -> &'static str {
-    match values {
-        0 => "a comma and the value of put(KEY, VALUE)",
-        1 => "the ) of put(KEY, VALUE), or a comma and the lease of put(KEY, VALUE, LEASE)",
-        _ => "the ) of put(KEY, VALUE, LEASE)",
-    }
-}
-
-/// What is wanted behind the key of a `get`.
-fn behind_key_of_get(spot: Spot<'_>) -> &'static str {
-    match spot.event() {
-        Some(Event::Transaction) => "the ) of get(KEY), or a comma and a revision",
-        _ => "the ) of get(KEY)",
     }
 }
 
 /// What is wanted behind a value in parentheses, beside an operator.
 pub(crate) fn behind_value(spot: Spot<'_>) -> &'static str {
-    match word_of(spot.call()) {
-        Some((Word::Put, values)) => behind_value_of_put(values),
-        Some((Word::Get, _)) => behind_key_of_get(spot),
-        Some((Word::Del, _)) => "the ) of del(KEY)",
-        Some((Word::Emit, _)) => "the ) of emit(VALUE)",
-        Some((Word::Abort, _)) => "the ) of abort(TEXT)",
-        Some((Word::Rev, _)) => "the ) of rev(KEY)",
-        Some((Word::NumOf, _)) => "the ) of num_of(TEXT)",
-        Some((Word::TextOf, _)) => "the ) of text_of(NUMBER)",
-        _ => "a comma, or the ) that ends what stands in it",
+    match (word_of(spot.call()), form_in(spot)) {
+        (Some((Word::Put, 1)), _) => {
+            "the ) of put(KEY, VALUE), or a comma and the lease of put(KEY, VALUE, LEASE)"
+        }
+        (Some((Word::Put, values)), _) if values > 1 => "the ) of put(KEY, VALUE, LEASE)",
+        (Some((Word::Get, _)), _) if spot.event() == Some(Event::Transaction) => {
+            "the ) of get(KEY), or a comma and a revision"
+        }
+        (_, Some(form)) => form.behind,
+        _ => ANY_END,
     }
 }

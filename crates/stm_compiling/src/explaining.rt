@@ -14,7 +14,7 @@ use crate::habits::{
 use crate::misfits::said_of_start;
 use crate::more_faults::{MOST_MORE, Rest};
 use crate::naming::{is_called, said_of_call, said_of_function, said_of_place};
-use crate::other_kinds::said_of_value;
+use crate::other_kinds::{is_number, said_of_value};
 use crate::signs::{
     CHOICE, CONDITION, OTHER_TEXT, said_anywhere, said_in_program, said_of_colon, said_of_setting,
 };
@@ -164,11 +164,6 @@ pub(crate) fn is_comparison(symbol: Symbol) -> bool {
     )
 }
 
-/// Whether a value begins with a word.
-fn begins_value(word: Word) -> bool {
-    matches!(word, Word::Get | Word::Rev | Word::NumOf | Word::TextOf)
-}
-
 /// What is said of a token behind a statement that leaves its block, where only a `}` may stand; nothing of others.
 fn said_behind_a_way_out(spot: Spot<'_>) -> &'static str {
     let behind = if spot.is_behind_symbol(0, Symbol::Semicolon) {
@@ -176,10 +171,8 @@ fn said_behind_a_way_out(spot: Spot<'_>) -> &'static str {
     } else {
         0
     };
-    let begins_a_statement = match spot.kind() {
-        Some(TokenKind::Word(word)) => !begins_value(*word),
-        _ => false,
-    };
+    let begins_a_statement = matches!(spot.kind(), Some(TokenKind::Word(_)))
+        && is_number(spot.kind()).is_none();
     match (spot.back(behind), begins_a_statement) {
         (Some(TokenKind::Word(Word::Return)), true) => {
             "nothing comes to it, since a return stands before it"

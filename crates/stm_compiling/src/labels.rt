@@ -57,7 +57,7 @@ fn sends_nothing(tokens: &[Token]) -> bool {
 }
 
 /// The names that a start gives, by the tokens behind its word.
-fn names_of(alloc: Global, tokens: &[Token]) -> Result<Vec<&str>, AllocError> {
+pub(crate) fn names_of(alloc: Global, tokens: &[Token]) -> Result<Vec<&str>, AllocError> {
     let mut names = Vec::new(alloc);
     let mut open = 0;
     let mut is_named = false;
@@ -121,7 +121,7 @@ fn push_started(
 }
 
 /// The tokens from one place to another.
-fn tokens_between(tokens: &[Token], from: usize, to: usize) -> &[Token] {
+pub(crate) fn tokens_between(tokens: &[Token], from: usize, to: usize) -> &[Token] {
     match tokens.get(from..to) {
         Some(some) => some,
         None => &tokens[..0],
@@ -129,7 +129,7 @@ fn tokens_between(tokens: &[Token], from: usize, to: usize) -> &[Token] {
 }
 
 /// The place of the first token of an item: this one, where there are fewer.
-fn place_of(items: &[Begun], index: usize, end: usize) -> usize {
+pub(crate) fn place_of(items: &[Begun], index: usize, end: usize) -> usize {
     match items.get(index) {
         Some(begun) => begun.place,
         None => end,

@@ -11,6 +11,7 @@ mod compares;
 mod elses;
 mod explaining;
 mod fault;
+mod forms;
 mod habits;
 mod kept;
 mod labels;

@@ -2,24 +2,24 @@
 
 use crate::calls::given_at;
 use crate::explaining::is_comparison;
-use crate::spots::{Call, Spot};
+use crate::forms::{form_in, form_of};
+use crate::spots::Spot;
 use std::alloc::{AllocError, Global};
 use stm_program::Operator;
-use stm_tokens::{Symbol, TokenKind, Word};
+use stm_tokens::{Symbol, TokenKind};
 
 /// A line of more bytes than this is not shown.
 const MOST_SHOWN: usize = 100;
 
 /// Whether a value that begins with this token is a number, and not a text; nothing where the token does not tell.
-fn is_number(kind: Option<&TokenKind>) -> Option<bool> {
+pub(crate) fn is_number(kind: Option<&TokenKind>) -> Option<bool> {
     match kind {
-        Some(
-            TokenKind::Number(_)
-            | TokenKind::Symbol(Symbol::Arithmetic(Operator::Sub))
-            | TokenKind::Word(Word::NumOf | Word::Rev),
-        ) => Some(true),
-        Some(TokenKind::Text(_) | TokenKind::Word(Word::Get | Word::TextOf)) => Some(false),
-        _ => None,
+        Some(TokenKind::Number(_) | TokenKind::Symbol(Symbol::Arithmetic(Operator::Sub))) => {
+            Some(true)
+        }
+        Some(TokenKind::Text(_)) => Some(false),
+        Some(kind) => form_of(kind)?.gives_number,
+        None => None,
     }
 }
 
@@ -41,18 +41,9 @@ fn wants_number_beside(kind: Option<&TokenKind>) -> Option<bool> {
     }
 }
 
-/// Whether a number is wanted in the parentheses of a call, and not a text; nothing where the call does not tell.
-fn wants_number_in(call: Option<Call<'_>>) -> Option<bool> {
-    match call {
-        Some(call) => match call.word {
-            TokenKind::Word(Word::TextOf) => Some(true),
-            TokenKind::Word(
-                Word::Get | Word::Rev | Word::Put | Word::Del | Word::Abort | Word::NumOf,
-            ) => Some(false),
-            _ => None,
-        },
-        None => None,
-    }
+/// Whether a number is wanted in the parentheses in which a place is, and not a text; nothing where their word does not tell.
+fn wants_number_in(spot: Spot<'_>) -> Option<bool> {
+    form_in(spot)?.takes_number
 }
 
 /// Whether a number is wanted in a place where the other kind stands, and not a text; nothing where what stands there does not tell.
@@ -65,7 +56,7 @@ fn wants_number(spot: Spot<'_>) -> Option<bool> {
     }
     match wants_number_beside(spot.back(0)) {
         Some(wants) => Some(wants),
-        None => wants_number_in(spot.call()),
+        None => wants_number_in(spot),
     }
 }
 
@@ -100,7 +91,7 @@ fn begins_text_of_numbers(spot: Spot<'_>) -> bool {
         && wants_number_beside(spot.next()) == Some(true)
         && (spot.is_behind_symbol(0, Symbol::LeftParenthesis)
             || spot.is_behind_symbol(0, Symbol::Comma))
-        && wants_number_in(spot.call()) == Some(false)
+        && wants_number_in(spot) == Some(false)
 }
 
 /// What is said of a value that is compared with one of the other kind, and is a number or a text, where its first token tells.

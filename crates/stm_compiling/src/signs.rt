@@ -1,7 +1,8 @@
 //! What is said of signs and words that stand where other languages have them, and this one does not.
 
-use crate::calls::is_parameter;
+use crate::calls::{is_listed, is_parameter};
 use crate::explaining::is_comparison;
+use crate::forms::form_in;
 use crate::spots::{Event, Place, Spot};
 use crate::wanted::is_behind_operator;
 use stm_tokens::{Operator, Symbol, TokenKind, Word};
@@ -39,22 +40,7 @@ fn said_of_joined(spot: Spot<'_>) -> &'static str {
 
 /// Whether a place is in the parentheses of a word that takes values.
 fn is_in_call(spot: Spot<'_>) -> bool {
-    match spot.call() {
-        Some(call) => matches!(
-            call.word,
-            TokenKind::Word(
-                Word::Put
-                    | Word::Del
-                    | Word::Emit
-                    | Word::Abort
-                    | Word::Get
-                    | Word::Rev
-                    | Word::NumOf
-                    | Word::TextOf
-            )
-        ),
-        None => false,
-    }
+    form_in(spot).is_some() && !is_listed(spot)
 }
 
 /// Whether a place is in the parentheses of a `get`.

@@ -2,6 +2,7 @@
 
 use crate::calls::{behind_asked, behind_value, is_argument, is_asked, is_parameter, value_in};
 use crate::compares::{is_chained, wanted_of_compares};
+use crate::forms::form_of;
 use crate::spots::{Event, Place, Spot};
 use std::alloc::{AllocError, Global};
 use stm_program::Operator;
@@ -223,19 +224,8 @@ pub(crate) fn is_behind_condition_word(spot: Spot<'_>) -> bool {
 /// Whether what stands before a place is a word behind which an opened parenthesis stands.
 fn is_behind_call(spot: Spot<'_>) -> bool {
     match spot.back(0) {
-        Some(TokenKind::Word(word)) => matches!(
-            word,
-            Word::Put
-                | Word::Del
-                | Word::Emit
-                | Word::Abort
-                | Word::Prefetch
-                | Word::Get
-                | Word::Rev
-                | Word::NumOf
-                | Word::TextOf
-        ),
-        _ => false,
+        Some(kind) => form_of(kind).is_some(),
+        None => false,
     }
 }
 

@@ -19,3 +19,4 @@ pub mod WaitingPlaces
 pub mod LeadLemmas
 pub mod TurnLemmas
 pub mod OrderLemmas
+pub mod Replays

@@ -151,7 +151,7 @@ pub made_next : (others : List WorldEvent) (ms : List Move) (i : ℕ) (d : Move)
 made_next others ms i d p q end within is so_far =
     made_again others ms i (get_or ms i d) p q end within (get_or_default ms i d (get_or ms i d) within) is so_far
 
-drop_first : (ms : List Move) → drop 0 ms ≡ ms
+pub drop_first : (ms : List Move) → drop 0 ms ≡ ms
 drop_first [] = refl
 drop_first (m ∷ ms) = refl
 

@@ -7,6 +7,7 @@ pub mod ReadingLemmas
 pub mod PlaceLemmas
 pub mod ScheduledSpells
 pub mod AnswerLemmas
+pub mod NarrowOutcomes
 pub mod NarrowLemmas
 pub mod SmallWorlds
 pub mod SerialLevelLemmas

@@ -40,6 +40,7 @@ use Rattle.stm_exploring.specs.declared.rules.Rule.{Rule}
 use Rattle.stm_exploring.specs.declared.rules.RuleAnswer.{RuleAnswer}
 use Rattle.stm_exploring.specs.Judging.{AreFoundFrom, IsAnswer, IsFoundWhen}
 use Rattle.stm_exploring.specs.Narrowing.{Narrows, StandsFor}
+use Rattle.stm_exploring.proofs.NarrowOutcomes.{answered_there, gathered_there}
 
 -- ---- what a rule sees
 
@@ -199,22 +200,20 @@ stands_for rules p q n = record {
   comparing = λ is. record {
     sound = n.sound;
     comparing = subst AreComparing (sym n.agree.worlds.runners) is.comparing;
-    foreign = subst AreForeign (sym n.agree.alone) tt;
+    foreign = subst AreForeign (sym n.agree.others) is.foreign;
   };
   found = λ waits ends answers found. found_from n.touched n.leased n.since rules p q waits ends answers n.agree n.within found;
+  outcomes = λ ends found are. gathered_there n.touched n.leased n.since ends p q n.agree found are;
+  serial = λ ends answer is. answered_there n.touched n.leased n.since ends p q n.agree answer is;
 }
 
-pub itself : (rules : List Rule) (p : Place) → StandsFor rules p p
-itself rules p = record { runners = refl; comparing = λ is. is; found = λ waits ends answers found. found }
-
--- the same of a world that was found, if one was: it is searched in the place of another one where the others bring nothing
-pub all_stand : {E : Type 0} (rules : List Rule) (asked : List ProgramTree) (w : World) (others : List WorldEvent) (r : Result (Option World) E) → others ≡ [] →
+-- the same of a world that was found, if one was
+pub all_stand : {E : Type 0} (rules : List Rule) (asked : List ProgramTree) (w : World) (others : List WorldEvent) (r : Result (Option World) E) →
     asked ≡ map (λ (rule : Rule). rule.program) rules →
-    IfOk r (λ o. IfSome o (λ small. Narrows asked (record { world = small; others = [] }) (record { world = w; others = [] }))) →
+    IfOk r (λ o. IfSome o (λ small. Narrows asked (record { world = small; others = others }) (record { world = w; others = others }))) →
     IfOk r (λ o. IfSome o (λ small. StandsFor rules (record { world = small; others = others }) (record { world = w; others = others })))
-all_stand rules asked w others (Ok (Some small)) none are narrow =
-    subst (λ (es : List WorldEvent). StandsFor rules (record { world = small; others = es }) (record { world = w; others = es })) (sym none)
-    (stands_for rules (record { world = small; others = [] }) (record { world = w; others = [] })
-    (subst (λ (ps : List ProgramTree). Narrows ps (record { world = small; others = [] }) (record { world = w; others = [] })) are narrow))
-all_stand rules asked w others (Ok None) none are narrow = tt
-all_stand rules asked w others (Err e) none are narrow = tt
+all_stand rules asked w others (Ok (Some small)) are narrow =
+    stands_for rules (record { world = small; others = others }) (record { world = w; others = others })
+    (subst (λ (ps : List ProgramTree). Narrows ps (record { world = small; others = others }) (record { world = w; others = others })) are narrow)
+all_stand rules asked w others (Ok None) are narrow = tt
+all_stand rules asked w others (Err e) are narrow = tt

@@ -3,7 +3,7 @@ use Rattle.std.proofs.Common.{◌≡◌, Bool, true, List, [], sym, ap, ◌∙�
 use Rattle.stm_txn.specs.Standing.{Setup}
 use Rattle.stm_events.specs.declared.event.WorldEvent.{WorldEvent}
 use Rattle.stm_world.specs.World.{World, opened, world_after, replies_to}
-use Rattle.stm_schedules.specs.Outcomes.{after_replies}
+use Rattle.stm_schedules.specs.Outcomes.{Ends, after_replies}
 use Rattle.stm_schedules.specs.Places.{Place}
 use Rattle.stm_schedules.specs.Scenarios.{up_to_last_start, after_last_start}
 use Rattle.stm_program.specs.Syntax.{ProgramTree}
@@ -34,6 +34,14 @@ pub ends_are : (s : Scenario) (setup events : List WorldEvent) (start : Setup) (
 ends_are s setup events start w front all new opens =
     ap (λ (es : List WorldEvent). after_replies (replies_to es w) []) (front ∙ ap up_to_last_start all)
     ∙ ap (λ (x : World). after_replies (replies_to (up_to_last_start s.events) x) []) (new ∙ ap opened opens)
+
+-- what is so there is so where the schedules begin
+pub so_begun : (So : Place → Ends → Type 0) (s : Scenario) (setup others events : List WorldEvent) (start : Setup) (w : World) → setup ≡ up_to_last_start events →
+    others ≡ after_last_start events → events ≡ s.events → w ≡ opened start → start ≡ setup_of s.opening →
+    So (placed setup others w) (after_replies (replies_to setup w) []) → So (place_of s) (ends_of s)
+so_begun So s setup others events start w front rest all new opens is =
+    subst (λ (p : Place). So p (ends_of s)) (placed_is s setup others events start w front rest all new opens)
+    (subst (So (placed setup others w)) (ends_are s setup events start w front all new opens) is)
 
 -- ---- the programs of its runners
 

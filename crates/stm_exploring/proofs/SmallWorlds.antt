@@ -1,17 +1,16 @@
--- A small world agrees with the whole one on what programs and rules name.
-use Rattle.std.proofs.Common.{◌≡◌, ◌⊎◌, inl, inr, ◌<◌, ◌+◌, ◌-◌, ℕ, zero, suc, Bool, true, false, cond, ◌&&◌, ◌||◌, List, [], ◌∷◌, ◌++◌, length, drop, filter, get_or, Some, refl, sym, ap, ◌∙◌, subst, arith}
+-- A small world agrees with the whole one on what programs, rules and the others' transactions name.
+use Rattle.std.proofs.Common.{◌≡◌, ◌⊎◌, inl, inr, ◌<◌, ◌≤◌, ◌+◌, ◌-◌, ℕ, zero, suc, Bool, true, false, cond, ◌&&◌, ◌||◌, List, [], ◌∷◌, ◌++◌, length, drop, filter, get_or, Some, refl, sym, ap, ◌∙◌, subst, arith}
 use Rattle.std.proofs.Math.Seq.{drop-cons}
 use Rattle.std.proofs.lemmas.Bool.{and_parts}
-use Rattle.std.proofs.lemmas.Bool.Decides.{nat_tests}
 use Rattle.std.specs.BTreeMap.{is_at}
 use Rattle.std.specs.FinMap as finmap
 use Rattle.std.specs.List.{AllByRecursion, list_all, list_any}
 use Rattle.std.specs.Ordering.{is_eq}
 use Rattle.std.specs.declared.cmp.Ordering.{Ordering}
 use Rattle.std.specs.declared.cmp.Ordering.TheVariants.{Less, Equal, Greater}
-use Rattle.std.specs.Prelude.{Option, None, Result, Ok, Err, IfOk, IfSome, slice_get, nat_lt, if◌then◌else◌}
-use Rattle.stm_history.specs.History.{History, now}
-use Rattle.stm_history.specs.Cut.{cut, opening_of_cut, revisions_above}
+use Rattle.std.specs.Prelude.{Option, None, Result, Ok, Err, IfOk, IfSome, slice_get, if◌then◌else◌}
+use Rattle.stm_history.specs.History.{now, key_now}
+use Rattle.stm_history.proofs.CutLaws.{cut_keeps_keys_now, cut_keeps_now}
 use Rattle.stm_program.specs.Syntax.{ProgramTree}
 use Rattle.stm_named_keys.specs.Named.{looked_up}
 use Rattle.stm_named_keys.specs.Written.{written}
@@ -27,7 +26,7 @@ use Rattle.stm_narrow.specs.Touching.{KeepsTo, is_touched, is_written}
 use Rattle.stm_narrow.proofs.Beginnings.{beginnings_agree}
 use Rattle.stm_narrow.proofs.Naming.{named_keys_are_kept}
 use Rattle.stm_exploring.specs.declared.touched.Touched.{Touched}
-use Rattle.stm_exploring.specs.Narrowing.{HasRun, IsNew, IsSmall, Narrows, ShowTheSame, is_key_of, is_lease_of, keeps_to}
+use Rattle.stm_exploring.specs.Narrowing.{HasRun, IsNew, IsSmall, Narrows, ShowTheSame, brings_within, is_key_of, is_lease_of, keeps_to, name_alone}
 
 -- ---- loops
 
@@ -75,20 +74,29 @@ all_so cmp P all so_far k among = by (so_far k among)
     by (inl known) = known
     by (inr there) = absurd (cc)
 
--- ---- a store that was never compacted
+-- ---- a store without the revisions that a compaction dropped shows the same as with them
 
-none_below : (n : ℕ) → nat_lt n 0 ≡ false
-none_below n = grind (arith, nat_tests)
+counter_stays : (s : Standing) → s.floor ≤ now s.history → now (kept s).history ≡ now s.history
+counter_stays s reached = cut_keeps_now s.history (s.floor - 1) (omega (arith, reached))
 
-uncut : (s : Standing) → s.floor ≡ 0 → kept s ≡ s
-uncut s is =
-    let h : History = s.history in
-    ap (λ (n : ℕ). record s { history = cut (n - 1) h }) is
-    ∙ ap (λ (b : Bool). record s { history = cond b (let it : History = record { opening = opening_of_cut 0 h; revisions = revisions_above h.opening 0 h.revisions } in it) h })
-    (none_below h.opening.number)
+key_stays : (s : Standing) → s.floor ≤ now s.history → (key : List ℕ) → key_now (kept s).history key ≡ key_now s.history key
+key_stays s reached = cut_keeps_keys_now s.history (s.floor - 1) (omega (arith, reached))
 
-pub whole_shows : (t : Touched) (s r : Standing) → ShowTheSame t (kept s) r → ShowTheSame t s r
-whole_shows t s r shows = subst (λ (x : Standing). ShowTheSame t x r) (uncut s shows.floors.0) shows
+pub whole_shows : (t : Touched) (s r : Standing) → s.floor ≤ now s.history → ShowTheSame t (kept s) r → ShowTheSame t s r
+whole_shows t s r reached shows = record {
+  reached = sym (counter_stays s reached) ∙ shows.reached;
+  keys = λ key is. sym (key_stays s reached key) ∙ shows.keys key is;
+  live = shows.live;
+  limit = shows.limit;
+}
+
+shows_whole : (t : Touched) (r s : Standing) → s.floor ≤ now s.history → ShowTheSame t r (kept s) → ShowTheSame t r s
+shows_whole t r s reached shows = record {
+  reached = shows.reached ∙ counter_stays s reached;
+  keys = λ key is. shows.keys key is ∙ key_stays s reached key;
+  live = shows.live;
+  limit = shows.limit;
+}
 
 -- ---- programs that keep to what is touched
 
@@ -127,14 +135,15 @@ module _ (setup : List WorldEvent) (stepless : has_step setup ≡ false) where
       ap (λ (x : World). x.runners) is ∙ beginnings_agree.runners (filter is_start setup) start (beginnings_agree.no_step setup)
       ∙ ap (λ (slots : List Slot). slots ++ started (filter is_start setup)) none ∙ beginnings_agree.starts setup
 
-narrows : (t : Touched) (setup : List WorldEvent) (w small : World) (s : Standing) (programs rules : List ProgramTree) → HasRun setup w →
-    list_any is_step setup ≡ false → w.standing.floor ≡ 0 → s ≡ kept w.standing → AreProgramsOf programs w.runners →
-    (list_all (keeps_to t) programs && list_all (keeps_to t) rules) ≡ true → IsSmall t setup s small →
-    Narrows rules (record { world = small; others = [] }) (record { world = w; others = [] })
-narrows t setup w small s programs rules ran none floor shown are keep is =
+narrows : (t : Touched) (setup others : List WorldEvent) (w small : World) (s : Standing) (programs rules : List ProgramTree) → HasRun setup w →
+    list_any is_step setup ≡ false → w.standing.floor ≤ now w.standing.history → s ≡ kept w.standing → AreProgramsOf programs w.runners →
+    name_alone t others programs rules ≡ true → IsSmall t setup s small → Narrows rules (record { world = small; others = others }) (record { world = w; others = others })
+narrows t setup others w small s programs rules ran none reached shown are keep is =
     let stepless : has_step setup ≡ false = sym (some_step setup) ∙ none in
-    let parts = and_parts (list_all (keeps_to t) programs) (list_all (keeps_to t) rules) keep in
-    let shows : ShowTheSame t small.standing w.standing = subst (ShowTheSame t small.standing) (shown ∙ uncut w.standing floor) is.shows in
+    let both = and_parts (list_all (brings_within t) others && list_all (keeps_to t) programs) (list_all (keeps_to t) rules) keep in
+    let parts = and_parts (list_all (brings_within t) others) (list_all (keeps_to t) programs) both.0 in
+    let shows : ShowTheSame t small.standing w.standing = shows_whole t small.standing w.standing reached (subst (ShowTheSame t small.standing) shown is.shows) in
+    let sound : IsSound small = subst IsSound (sym is.world) (worlds_are_sound.goes_on (filter is_start setup) is.start is.is_new.sound) in
     let runs : w.runners ≡ started setup = from_start setup stepless ran.start w ran.runners ran.world in
     record {
       touched = is_key_of t;
@@ -146,16 +155,16 @@ narrows t setup w small s programs rules ran none floor shown are keep is =
           keys = shows.keys;
           live = shows.live;
           limit = shows.limit;
-          floors = shows.floors;
+          floors = (sound.kept.reached, reached);
           runners = from_starts setup stepless is.start small is.is_new.runners is.world ∙ sym runs;
           begun = λ id r found. beginnings_agree.begun setup id r (sym (ap (runner_at id) runs) ∙ found);
-          keeps = λ id r found. one_within t programs (id - 1) r.task.program parts.0 (are id r found);
+          keeps = λ id r found. one_within t programs (id - 1) r.task.program parts.1 (are id r found);
         });
-        alone = refl;
-        also_alone = refl;
+        others = refl;
+        within = parts.0;
       };
-      within = each_within t rules parts.1;
-      sound = subst IsSound (sym is.world) (worlds_are_sound.goes_on (filter is_start setup) is.start is.is_new.sound);
+      within = each_within t rules both.1;
+      sound = sound;
     }
 
 -- ---- where there is one
@@ -167,10 +176,11 @@ is_small t setup s start (Ok (Some w)) new is shows = record { start = start; is
 is_small t setup s start (Ok None) new is shows = tt
 is_small t setup s start (Err e) new is shows = tt
 
-pub all_narrow : {E : Type 0} (t : Touched) (setup : List WorldEvent) (w : World) (s : Standing) (programs rules : List ProgramTree) (r : Result (Option World) E) →
-    HasRun setup w → list_any is_step setup ≡ false → w.standing.floor ≡ 0 → s ≡ kept w.standing → AreProgramsOf programs w.runners →
-    (list_all (keeps_to t) programs && list_all (keeps_to t) rules) ≡ true → IfOk r (λ o. IfSome o (IsSmall t setup s)) →
-    IfOk r (λ o. IfSome o (λ small. Narrows rules (record { world = small; others = [] }) (record { world = w; others = [] })))
-all_narrow t setup w s programs rules (Ok (Some small)) ran none floor shown are keep is = narrows t setup w small s programs rules ran none floor shown are keep is
-all_narrow t setup w s programs rules (Ok None) ran none floor shown are keep is = tt
-all_narrow t setup w s programs rules (Err e) ran none floor shown are keep is = tt
+pub all_narrow : {E : Type 0} (t : Touched) (setup others : List WorldEvent) (w : World) (s : Standing) (programs rules : List ProgramTree)
+    (r : Result (Option World) E) → HasRun setup w → list_any is_step setup ≡ false → w.standing.floor ≤ now w.standing.history → s ≡ kept w.standing →
+    AreProgramsOf programs w.runners → name_alone t others programs rules ≡ true → IfOk r (λ o. IfSome o (IsSmall t setup s)) →
+    IfOk r (λ o. IfSome o (λ small. Narrows rules (record { world = small; others = others }) (record { world = w; others = others })))
+all_narrow t setup others w s programs rules (Ok (Some small)) ran none reached shown are keep is =
+    narrows t setup others w small s programs rules ran none reached shown are keep is
+all_narrow t setup others w s programs rules (Ok None) ran none reached shown are keep is = tt
+all_narrow t setup others w s programs rules (Err e) ran none reached shown are keep is = tt

@@ -5,6 +5,7 @@ pub mod Waits
 pub mod Anomalies
 pub mod Exploring
 pub mod Levels
+pub mod Replaying
 pub mod Narrowing
 pub mod SerialLevels
 pub mod Questions

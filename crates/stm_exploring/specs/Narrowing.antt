@@ -1,6 +1,7 @@
 -- A place that stands for another one in a search: the same is found of rules from both.
 --
--- It has a small world: the keys and leases that programs and rules name, as they are where the schedules begin, and the same runners.
+-- It has a small world: the keys and leases that programs, rules and the others' transactions name, as they are where the schedules begin, and the same
+-- runners.
 use Rattle.std.specs.Prelude.{◌≡◌, ℕ, Bool, true, ◌&&◌, List, [], filter}
 use Rattle.std.specs.BTreeSet.{contains}
 use Rattle.std.specs.List.{AllByRecursion, list_all}
@@ -19,13 +20,19 @@ use Rattle.stm_schedules.specs.Outcomes.{Ends}
 use Rattle.stm_schedules.specs.Places.{Place}
 use Rattle.stm_schedules.specs.Scenarios.{is_start}
 use Rattle.stm_narrow.specs.AgreeingPlaces.{PlacesAgree}
+use Rattle.stm_narrow.specs.Foreign.{event_keeps_to}
 use Rattle.stm_narrow.specs.Touching.{KeepsTo, is_touched, is_written}
 use Rattle.stm_serial.specs.Serial.{IsComparing}
+use Rattle.stm_explore.specs.declared.finding.Outcomes.{Outcomes}
+use Rattle.stm_explore.specs.declared.orders.SerialAnswer.{SerialAnswer}
 use Rattle.stm_explore.specs.declared.waits.Wait.{Wait}
+use Rattle.stm_explore.specs.Orders.{IsSerialAnswer}
 use Rattle.stm_exploring.specs.declared.rules.Rule.{Rule}
 use Rattle.stm_exploring.specs.declared.rules.RuleAnswer.{RuleAnswer}
 use Rattle.stm_exploring.specs.declared.touched.Touched.{Touched}
 use Rattle.stm_exploring.specs.Judging.{AreFoundFrom}
+use Rattle.stm_exploring.specs.Questions.{AreGathered}
+use Rattle.stm_exploring.specs.Replaying.{answer_there, outcomes_there}
 
 -- ---- keys and leases
 
@@ -39,13 +46,21 @@ is_lease_of t id = contains nat_cmp t.leases id
 abbrev pub keeps_to : Touched → ProgramTree → Bool
 keeps_to t p = list_all (is_touched (is_key_of t)) (looked_up p) && list_all (is_written (is_key_of t) (is_lease_of t)) (written p)
 
--- two stores that were never compacted show the same of these
+-- an event of the others names nothing else
+abbrev pub brings_within : Touched → WorldEvent → Bool
+brings_within t e = event_keeps_to (is_key_of t) (is_lease_of t) e
+
+-- the others, programs and rules name nothing else
+abbrev pub name_alone : Touched → List WorldEvent → List ProgramTree → List ProgramTree → Bool
+name_alone t others programs rules =
+    list_all (brings_within t) others && list_all (keeps_to t) programs && list_all (keeps_to t) rules
+
+-- two stores show the same of these
 pub record ShowTheSame (t : Touched) (r s : Standing) : Type 0 where
   pub reached : now r.history ≡ now s.history
   pub keys : (key : List ℕ) → is_key_of t key ≡ true → key_now r.history key ≡ key_now s.history key
   pub live : (id : ℕ) → is_lease_of t id ≡ true → is_live_in r.live id ≡ is_live_in s.live id
   pub limit : r.limit ≡ s.limit
-  pub floors : (r.floor ≡ 0) × (s.floor ≡ 0)
 
 -- ---- worlds
 
@@ -79,8 +94,10 @@ pub record Narrows (rules : List ProgramTree) (p q : Place) : Type 0 where
   pub sound : IsSound p.world
 
 -- The runners are the same, serial runs are enough from the one where they are from the other, and what is found of these rules from the one is so from the
--- other.
+-- other; so is what is found of outcomes, once its schedules are made there.
 pub record StandsFor (rules : List Rule) (p q : Place) : Type 0 where
   pub runners : p.world.runners ≡ q.world.runners
   pub comparing : IsComparing q → IsComparing p
   pub found : (waits : List Wait) (ends : Ends) (answers : List RuleAnswer) → AreFoundFrom waits rules p ends answers → AreFoundFrom waits rules q ends answers
+  pub outcomes : (ends : Ends) (found : Outcomes) → AreGathered p ends found → AreGathered q ends (outcomes_there q ends found)
+  pub serial : (ends : Ends) (answer : SerialAnswer) → IsSerialAnswer p ends answer → IsSerialAnswer q ends (answer_there q ends answer)

@@ -39,7 +39,7 @@ pub(crate) const LEVELS: [Level; 4] = [
 ];
 
 /// Puts each start of a scenario at a level.
-pub(crate) fn put_starts(alloc: Global, scenario: &mut Scenario, level: Level)
+fn put_starts(alloc: Global, scenario: &mut Scenario, level: Level)
     ensures { scenario.new ≡ leveled level scenario.old }
 {
     let mut events = mem::replace(&mut scenario.events, Sequence::new(alloc)).into_vec();
@@ -48,7 +48,7 @@ pub(crate) fn put_starts(alloc: Global, scenario: &mut Scenario, level: Level)
 }
 
 /// Puts each start of a scenario without steps at a level.
-fn put_level(alloc: Global, scenario: &mut Scenario, level: Level)
+pub(crate) fn put_level(alloc: Global, scenario: &mut Scenario, level: Level)
     requires { HaveNoStep scenario.old.events }
     ensures leveled { scenario.new ≡ leveled level scenario.old }
     ensures stepless { HaveNoStep scenario.new.events }

@@ -38,6 +38,7 @@ mod progress;
 mod question;
 mod reading;
 mod refused;
+mod replaying;
 mod rules;
 mod schedule_lines;
 mod searching;

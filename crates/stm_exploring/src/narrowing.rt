@@ -1,11 +1,12 @@
-//! A small world in the place of a whole one: with the keys and leases alone that programs and rules name. A commit copies the store, so that each move of a
-//! search is dear beside many other keys.
+//! A small world in the place of a whole one: with the keys and leases alone that programs, rules and the others' transactions name. A commit copies the store,
+//! so that each move of a search is dear beside many other keys.
 //!
-//! The steps of runners are told the same in both, and rules end the same there. What the small one is to show is looked up in both once it is made.
-ghost use Rattle.std.specs.Prelude.{◌≡◌, ◌∷◌, ◌&&◌, ℕ, List, true, false, [], filter, if◌then◌else◌, option_copied, IfOk, IfSome, OnOk};
+//! The steps of runners are told the same in both, transactions change the same, and rules end the same there. What the small one is to show is looked up in both
+//! once it is made.
+ghost use Rattle.std.specs.Prelude.{◌≡◌, ◌∷◌, ℕ, List, true, false, [], filter, if◌then◌else◌, option_copied, IfOk, IfSome, OnOk};
 ghost use Rattle.std.specs.BTreeSet.{contains};
 ghost use Rattle.std.specs.Cmp.Lexicographic.{slice_cmp};
-ghost use Rattle.std.specs.List.{list_all, list_any};
+ghost use Rattle.std.specs.List.{list_any};
 ghost use Rattle.std.specs.Ordering.{nat_cmp};
 ghost use Rattle.stm_history.specs.History.{key_now, now};
 ghost use Rattle.stm_leases.specs.Live.{is_live_in};
@@ -13,12 +14,12 @@ ghost use Rattle.stm_narrow.specs.Beginning.{is_step};
 ghost use Rattle.stm_schedules.specs.Scenarios.{is_start};
 ghost use Rattle.stm_serial_search.specs.Search.{AreProgramsOf};
 ghost use Rattle.stm_world.specs.World.{world_after};
-ghost use Rattle.stm_exploring.specs.Narrowing.{HasRun, IsNew, IsSmall, Narrows, ShowTheSame, StandsFor, keeps_to};
+ghost use Rattle.stm_exploring.specs.Narrowing.{HasRun, IsNew, IsSmall, Narrows, ShowTheSame, StandsFor, name_alone};
 
 use crate::grouping::asked_by;
 use crate::rules::Rule;
 use crate::setup::is_start;
-use crate::touched::{Touched, keep_to, touched_by};
+use crate::touched::{Touched, bring_within, keep_to, touched_by};
 use std::alloc::{AllocError, Global};
 use std::collections::BTreeSet;
 use std::slice;
@@ -29,7 +30,7 @@ use stm_retry::World;
 use stm_texts::WorldEvent;
 use stm_txn::{Checkpoint, KeptLease, Store};
 
-/// The time to live of each lease of a small world, all of which are granted at moment 0. No event is left there that could look at that.
+/// The time to live of each lease of a small world, all of which are granted at moment 0. No event that is left there looks at that.
 const TTL: u64 = 1;
 
 /// What those of these keys are now that are present.
@@ -137,17 +138,12 @@ fn is_same(one: Option<&KeyState>, other: Option<&KeyState>) -> bool
     }
 }
 
-/// Whether both stores have come to the same revision, take as many operations, and were never compacted.
+/// Whether both stores have come to the same revision, and take as many operations.
 fn have_same_terms(one: &Store, other: &Store) -> bool
     ensures reached { result ≡ true → now one.now.standing.history ≡ now other.now.standing.history }
     ensures limit { result ≡ true → one.now.standing.limit ≡ other.now.standing.limit }
-    ensures floor { result ≡ true → one.now.standing.floor ≡ 0 }
-    ensures other_floor { result ≡ true → other.now.standing.floor ≡ 0 }
 {
-    one.floor() == 0
-        && other.floor() == 0
-        && one.limit() == other.limit()
-        && one.keys().revision() == other.keys().revision()
+    one.limit() == other.limit() && one.keys().revision() == other.keys().revision()
 }
 
 /// Whether each of these keys is in the same state in both.
@@ -225,44 +221,47 @@ fn small_world(
     }
 }
 
-/// Whether programs and rules name these keys and leases alone.
+/// Whether the others, programs and rules name these keys and leases alone.
 fn name_alone(
     alloc: Global,
     touched: &Touched,
+    others: &[WorldEvent],
     programs: &[Program],
     rules: &[Program],
 ) -> Result<bool, AllocError>
-    ensures { IfOk result (λ alone. alone ≡ (list_all (keeps_to touched.now) programs.now && list_all (keeps_to touched.now) rules.now)) }
+    ensures { IfOk result (λ alone. alone ≡ name_alone touched.now others.now programs.now rules.now) }
 {
     let first = keep_to(alloc, touched, programs)?;
     let second = keep_to(alloc, touched, rules)?;
-    Ok(first && second)
+    Ok(bring_within(touched, others) && first && second)
 }
 
-/// The small world in which these rules are searched for in the place of a whole one: none where a program or a rule makes a key of variables.
+/// The small world in which these rules are searched for in the place of a whole one: none where a program or a rule makes a key of variables, or where the
+/// others bring something that is no transaction.
 fn narrowed_to(
     alloc: Global,
     world: &World,
     setup: &[WorldEvent],
+    others: &[WorldEvent],
     programs: &[Program],
     rules: &[Program],
 ) -> Result<Option<World>, AllocError>
     requires programs { AreProgramsOf programs.now world.now.runners }
     requires ran { HasRun setup.now world.now }
     requires stepless { list_any is_step setup.now ≡ false }
-    requires floor { world.now.standing.floor ≡ 0 }
-    ensures { IfOk result (λ o. IfSome o (λ small. Narrows rules.now (record { world = small; others = [] }) (record { world = world.now; others = [] }))) }
+    ensures { IfOk result (λ o. IfSome o (λ small. Narrows rules.now (record { world = small; others = others.now }) (record { world = world.now; others = others.now }))) }
 {
     let store = world.store();
-    let touched = touched_by(alloc, programs, rules, store.keys())?;
-    if !name_alone(alloc, &touched, programs, rules)? {
+    let touched = touched_by(alloc, others, programs, rules, store.keys())?;
+    if !name_alone(alloc, &touched, others, programs, rules)? {
         return Ok(None);
     }
     small_world(alloc, &touched, store, setup)
 }
 
 /// The small world in which these rules are searched for in the place of this one: none where a program or a rule makes a key of variables, where the others
-/// bring events, or where the search would come to other places. These events were run in this one, which had no runner before.
+/// bring something else than transactions of the current state, or where the search would come to other places. These events were run in this one, which had no
+/// runner before.
 pub(crate) fn narrowed(
     alloc: Global,
     world: &World,
@@ -275,9 +274,9 @@ pub(crate) fn narrowed(
     requires ran { HasRun setup.now world.now }
     ensures { IfOk result (λ o. IfSome o (λ small. StandsFor rules.now (record { world = small; others = others.now }) (record { world = world.now; others = others.now }))) }
 {
-    if !others.is_empty() || has_step(setup) || world.store().floor() != 0 {
+    if has_step(setup) {
         return Ok(None);
     }
     let asked = asked_by(alloc, rules)?;
-    narrowed_to(alloc, world, setup, programs, asked.as_slice())
+    narrowed_to(alloc, world, setup, others, programs, asked.as_slice())
 }

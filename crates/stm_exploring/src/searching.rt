@@ -357,7 +357,7 @@ fn explore_programs<O: Audience>(
 }
 
 /// The programs of a scenario's runners, by their numbers.
-fn programs_of(alloc: Global, scenario: &Scenario) -> Result<Vec<Program>, AllocError>
+pub(crate) fn programs_of(alloc: Global, scenario: &Scenario) -> Result<Vec<Program>, AllocError>
     requires { HaveNoStep scenario.now.events }
     ensures { IfOk result (λ programs. AreProgramsOf programs.items (place_of scenario.now).world.runners) }
 {

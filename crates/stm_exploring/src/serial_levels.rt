@@ -3,6 +3,7 @@ ghost use Rattle.std.specs.Prelude.{◌≡◌, ◌++◌, map, IfOk, OnOk, string
 ghost use Rattle.std.specs.List.{concat, list_all, list_any};
 ghost use Rattle.serde_json.specs.View.{view};
 ghost use Rattle.stm_report_lines.specs.Text.{line_text};
+ghost use Rattle.stm_serial_search.specs.Started.{HaveNoStep};
 ghost use Rattle.stm_explore.specs.Orders.{IsSerialAnswer};
 ghost use Rattle.stm_exploring.specs.Asking.{ends_of, place_of};
 ghost use Rattle.stm_exploring.specs.Levels.{leveled, levels};
@@ -12,7 +13,7 @@ use crate::audience::Audience;
 use crate::enough::tell_enough_serial;
 use crate::heard::{AtLevel, HeardLine, tell_heard};
 use crate::level_lines::{level_name, push_enough};
-use crate::leveled::{LEVELS, put_starts};
+use crate::leveled::{LEVELS, put_level};
 use crate::lines::push_word;
 use crate::printed::{Printed, SearchAnswer};
 use crate::serial::{compare_scenario, serial_parts};
@@ -40,11 +41,13 @@ fn compare_level<O: Audience>(
     heard: &mut Vec<HeardLine>,
     audience: &mut O,
 ) -> Result<SerialLevel, AllocError>
+    requires { HaveNoStep scenario.old.events }
     ensures leveled { OnOk result (scenario.new ≡ leveled level scenario.old) }
+    ensures stepless { OnOk result (HaveNoStep scenario.new.events) }
     ensures level { IfOk result (λ a. a.level ≡ level) }
     ensures answer { IfOk result (λ a. IsSerialAnswer (place_of scenario.new) (ends_of scenario.new) a.answer) }
 {
-    put_starts(alloc, scenario, level);
+    put_level(alloc, scenario, level);
     let observer = AtLevel {
         alloc,
         level,
@@ -67,6 +70,7 @@ fn compare_levels<O: Audience>(
     most: u64,
     audience: &mut O,
 ) -> Result<Vec<SerialLevel>, AllocError>
+    requires { HaveNoStep scenario.old.events }
     ensures { IfOk result (λ at. AreComparedAt levels.now scenario.old at.items) }
 {
     let mut heard = Vec::new(alloc);
@@ -85,6 +89,7 @@ fn compare_each<O: Audience>(
     scenario: &mut Scenario,
     budget: &mut Budget<O>,
 ) -> Result<Vec<SerialLevel>, AllocError>
+    requires { HaveNoStep scenario.old.events }
     ensures { IfOk result (λ at. AreComparedAt levels scenario.old at.items) }
 {
     let most = budget.left;
@@ -203,6 +208,7 @@ pub(crate) fn compare_at_levels<O: Audience>(
     scenario: &mut Scenario,
     budget: &mut Budget<O>,
 ) -> Result<Printed, AllocError>
+    requires { HaveNoStep scenario.old.events }
     ensures { IfOk result (ArePrintedAt scenario.old) }
 {
     let at = compare_each(alloc, scenario, budget)?;

@@ -1,8 +1,10 @@
-//! The keys and leases that programs name.
+//! The keys and leases that programs and the others' transactions name.
 ghost use Rattle.std.specs.Prelude.{◌≡◌, IfOk};
 ghost use Rattle.std.specs.List.{list_all};
+ghost use Rattle.stm_outcome.specs.declared.txn.Compare.{Compare as CompareValue};
+ghost use Rattle.stm_narrow.specs.Foreign.{op_keeps_to, txn_keeps_to};
 ghost use Rattle.stm_narrow.specs.Touching.{is_touched, is_written};
-ghost use Rattle.stm_exploring.specs.Narrowing.{is_key_of, is_lease_of, keeps_to};
+ghost use Rattle.stm_exploring.specs.Narrowing.{brings_within, is_key_of, is_lease_of, keeps_to};
 
 use std::alloc::{AllocError, Global};
 use std::collections::BTreeSet;
@@ -10,6 +12,8 @@ use stm_history::Text;
 use stm_keys::Keys;
 use stm_named_keys::{Name, Written, keys_looked_up, keys_written};
 use stm_program::Program;
+use stm_texts::WorldEvent;
+use stm_txn::{Compare, Op, Txn};
 
 /// Keys and leases.
 #[derive(Drop)]
@@ -57,6 +61,38 @@ fn add_programs(
     Ok(())
 }
 
+/// Adds what operations name: their keys, and the leases on which they are put.
+fn add_ops(touched: &mut Touched, ops: &[Op]) -> Result<(), AllocError> {
+    for op in ops {
+        let key = op.key().clone()?;
+        touched.keys.insert(key)?;
+        if let Op::Put { lease, .. } = op {
+            touched.leases.insert(*lease)?;
+        }
+    }
+    Ok(())
+}
+
+/// Adds what a transaction names.
+fn add_txn(touched: &mut Touched, txn: &Txn) -> Result<(), AllocError> {
+    for compare in txn.compares.as_slice() {
+        let key = compare.key.clone()?;
+        touched.keys.insert(key)?;
+    }
+    add_ops(touched, txn.success.as_slice())?;
+    add_ops(touched, txn.failure.as_slice())
+}
+
+/// Adds what the transactions among these events name.
+fn add_events(touched: &mut Touched, events: &[WorldEvent]) -> Result<(), AllocError> {
+    for event in events {
+        if let WorldEvent::Txn { txn } = event {
+            add_txn(touched, txn)?;
+        }
+    }
+    Ok(())
+}
+
 /// Adds the leases to which these keys are attached in a store.
 fn add_attached(
     leases: &mut BTreeSet<u64>,
@@ -71,22 +107,25 @@ fn add_attached(
     Ok(())
 }
 
-/// Adds what these programs and rules name, and the leases to which the keys are attached in a store.
+/// Adds what these events, programs and rules name, and the leases to which the keys are attached in a store.
 fn add_all(
     alloc: Global,
     touched: &mut Touched,
+    events: &[WorldEvent],
     programs: &[Program],
     rules: &[Program],
     store: &Keys,
 ) -> Result<(), AllocError> {
+    add_events(touched, events)?;
     add_programs(alloc, touched, programs)?;
     add_programs(alloc, touched, rules)?;
     add_attached(&mut touched.leases, &touched.keys, store)
 }
 
-/// What these programs and rules name, and the leases to which the keys are attached in a store. Of a key that is not spelled whole it is the beginning.
+/// What these events, programs and rules name, and the leases to which the keys are attached in a store. Of a key that is not spelled whole it is the beginning.
 pub(crate) fn touched_by(
     alloc: Global,
+    events: &[WorldEvent],
     programs: &[Program],
     rules: &[Program],
     store: &Keys,
@@ -95,7 +134,7 @@ pub(crate) fn touched_by(
         keys: BTreeSet::new(alloc),
         leases: BTreeSet::new(alloc),
     };
-    add_all(alloc, &mut touched, programs, rules, store)?;
+    add_all(alloc, &mut touched, events, programs, rules, store)?;
     Ok(touched)
 }
 
@@ -150,4 +189,62 @@ pub(crate) fn keep_to(
         }
     }
     Ok(true)
+}
+
+/// Whether an operation writes one of these keys, on one of these leases, or reads the current state.
+fn writes_within(touched: &Touched, op: &Op) -> bool
+    ensures { result ≡ op_keeps_to (is_key_of touched.now) (is_lease_of touched.now) op.now }
+{
+    match op {
+        Op::Get { rev, .. } => *rev == 0,
+        Op::Put { key, lease, .. } => touched.keys.contains(key) && touched.leases.contains(lease),
+        Op::Del { key } => touched.keys.contains(key),
+    }
+}
+
+/// The same of all operations.
+fn write_within(touched: &Touched, ops: &[Op]) -> bool
+    ensures { result ≡ list_all (op_keeps_to (is_key_of touched.now) (is_lease_of touched.now)) ops.now }
+{
+    ops.iter().all(|op| writes_within(touched, op))
+}
+
+/// Whether a compare looks at one of these keys.
+fn compares_within(touched: &Touched, compare: &Compare) -> bool
+    ensures { result ≡ is_key_of touched.now compare.now.key }
+{
+    touched.keys.contains(&compare.key)
+}
+
+/// The same of all compares.
+fn compare_within(touched: &Touched, compares: &[Compare]) -> bool
+    ensures { result ≡ list_all (λ (compare : CompareValue). is_key_of touched.now compare.key) compares.now }
+{
+    compares.iter().all(|compare| compares_within(touched, compare))
+}
+
+/// Whether a transaction compares and writes these keys alone, whichever of its lists runs.
+fn is_txn_within(touched: &Touched, txn: &Txn) -> bool
+    ensures { result ≡ txn_keeps_to (is_key_of touched.now) (is_lease_of touched.now) txn.now }
+{
+    compare_within(touched, txn.compares.as_slice())
+        && write_within(touched, txn.success.as_slice())
+        && write_within(touched, txn.failure.as_slice())
+}
+
+/// Whether an event is such a transaction.
+fn brings_within(touched: &Touched, event: &WorldEvent) -> bool
+    ensures { result ≡ brings_within touched.now event.now }
+{
+    match event {
+        WorldEvent::Txn { txn } => is_txn_within(touched, txn),
+        _ => false,
+    }
+}
+
+/// Whether each of these events is.
+pub(crate) fn bring_within(touched: &Touched, events: &[WorldEvent]) -> bool
+    ensures { result ≡ list_all (brings_within touched.now) events.now }
+{
+    events.iter().all(|event| brings_within(touched, event))
 }

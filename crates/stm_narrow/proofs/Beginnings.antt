@@ -45,13 +45,13 @@ begun_within touched leased v w alike id r is =
 
 begin_agree : (touched : List ℕ → Bool) (leased : ℕ → Bool) (v w : World) → BeginAlike touched leased v w → Agree touched leased (now w.standing.history) v w
 begin_agree touched leased v w alike =
-    let one : v.standing.floor ≡ 0 = alike.floors.0 in
-    let other : w.standing.floor ≡ 0 = alike.floors.1 in
+    let floor : v.standing.floor ≤ now v.standing.history = alike.floors.0 in
+    let same : now v.standing.history ≡ now w.standing.history = alike.now in
     record {
       store = record {
         history = keys_since touched leased v w alike;
         limit = alike.limit;
-        floors = (omega arith, omega arith);
+        floors = (omega arith, alike.floors.1);
         live = alike.live;
       };
       runners = alike.runners;

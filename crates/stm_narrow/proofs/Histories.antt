@@ -93,7 +93,7 @@ module _ (touched : List ℕ → Bool) (since : ℕ) where
 
 -- ---- compares
 
-same_failed : (s t : List ℕ → Option KeyState) (index : ℕ) (cs : List Compare) → AllByRecursion (λ (c : Compare). s c.key ≡ t c.key) cs →
+pub same_failed : (s t : List ℕ → Option KeyState) (index : ℕ) (cs : List Compare) → AllByRecursion (λ (c : Compare). s c.key ≡ t c.key) cs →
     first_failed s index cs ≡ first_failed t index cs
 same_failed s t index [] same = refl
 same_failed s t index (c ∷ cs) same =
@@ -101,7 +101,7 @@ same_failed s t index (c ∷ cs) same =
     ∙ ap (λ (rest : Option FailedCompare). cond (holds c (t c.key)) rest (Some record { index = index; mod_rev = mod_of (t c.key) }))
     (same_failed s t (index + 1) cs same.1)
 
-key_within : (touched : List ℕ → Bool) (leased : ℕ → Bool) (w : Change) → WritesWithin touched leased w → IsTouched touched (key_of w)
+pub key_within : (touched : List ℕ → Bool) (leased : ℕ → Bool) (w : Change) → WritesWithin touched leased w → IsTouched touched (key_of w)
 key_within touched leased (Put key value lease) is = is.0
 key_within touched leased (Del key) is = is
 
@@ -161,7 +161,7 @@ module _ (touched : List ℕ → Bool) (leased : ℕ → Bool) (since : ℕ) whe
   done_by true cause x y same = refl
   done_by false cause x y same = same
 
-  finished_same : (g h : History) (failed : Option FailedCompare) (changes : List Change) (answers others : List OpAnswer) → SameSince touched since g h →
+  pub finished_same : (g h : History) (failed : Option FailedCompare) (changes : List Change) (answers others : List OpAnswer) → SameSince touched since g h →
       SameDone (finished g failed changes answers) (finished h failed changes others)
   finished_same g h failed changes answers others same =
       subst (λ b. SameDone (finished g failed changes answers) (cond b (Err RevisionsUsedUp)

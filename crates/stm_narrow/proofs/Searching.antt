@@ -1,11 +1,12 @@
 -- Schedules from places that agree.
-use Rattle.std.proofs.Common.{◌≡◌, ℕ, suc, zero, Bool, List, [], ◌∷◌, ◌++◌, length, Some, refl, sym, ◌∙◌, ap, subst}
+use Rattle.std.proofs.Common.{◌≡◌, ℕ, suc, zero, Bool, true, List, [], ◌∷◌, ◌++◌, length, Some, refl, sym, ◌∙◌, ap, subst}
 use Rattle.std.specs.Prelude.{Contains}
-use Rattle.std.specs.List.{list_any}
+use Rattle.std.specs.List.{list_all, list_any}
+use Rattle.std.proofs.lemmas.Bool.{and_parts}
 use Rattle.stm_program.specs.Syntax.{ProgramTree}
 use Rattle.stm_compile.specs.Answers.{seen_of, state_now}
 use Rattle.stm_events.specs.declared.event.WorldEvent.{WorldEvent}
-use Rattle.stm_world.specs.World.{world_after, replies_to}
+use Rattle.stm_world.specs.World.{World, world_after, replies_to}
 use Rattle.stm_schedules.specs.declared.moves.Move.{Move}
 use Rattle.stm_schedules.specs.declared.moves.Move.TheVariants.{Step as StepOf, Other}
 use Rattle.stm_schedules.specs.Places.{Place, moves, moved, steps_up_to, next_other, event_of, left_after}
@@ -14,9 +15,11 @@ use Rattle.stm_schedules.specs.Keeping.{end_of, is_done, end_alone, keeps, IsFir
 use Rattle.stm_schedules.specs.Outcomes.{Ends, after_reported, after_replies, ends_moved, ends_after}
 use Rattle.stm_schedules.proofs.Gathered.{ends_go_along}
 use Rattle.stm_narrow.specs.Touching.{KeepsTo}
+use Rattle.stm_narrow.specs.Foreign.{event_keeps_to}
 use Rattle.stm_narrow.specs.Agree.{Agree}
 use Rattle.stm_narrow.specs.AgreeingPlaces.{PlacesAgree, AgreeingPlacesAreSame}
 use Rattle.stm_narrow.proofs.Histories.{same_now}
+use Rattle.stm_narrow.proofs.Others.{foreign_same, nothing_told}
 use Rattle.stm_narrow.proofs.SameRun.{same_runs}
 use Rattle.stm_narrow.proofs.Stepping.{step_same, turned}
 
@@ -24,37 +27,59 @@ module _ (touched : List ℕ → Bool) (leased : ℕ → Bool) (since : ℕ) whe
   abbrev Alike : Place → Place → Type 0
   Alike = PlacesAgree touched leased since
 
+  abbrev AllKeepTo : List WorldEvent → Type 0
+  AllKeepTo events = list_all (event_keeps_to touched leased) events ≡ true
+
+  also_within : (p q : Place) → Alike p q → AllKeepTo q.others
+  also_within p q same = subst AllKeepTo same.others same.within
+
   turned_places : (p q : Place) → Alike p q → Alike q p
-  turned_places p q same =
-      record { worlds = turned touched leased since p.world q.world same.worlds; alone = same.also_alone; also_alone = same.alone }
+  turned_places p q same = record {
+    worlds = turned touched leased since p.world q.world same.worlds;
+    others = sym same.others;
+    within = also_within p q same;
+  }
+
+  -- ---- the next event of the others
+
+  next_agree : (others : List WorldEvent) (v w : World) → AllKeepTo others → Agree touched leased since v w →
+      Agree touched leased since (world_after (event_of Other others) v) (world_after (event_of Other others) w)
+  next_agree [] v w all agree = agree
+  next_agree (e ∷ es) v w all agree = foreign_same touched leased since e v w (and_parts (event_keeps_to touched leased e) (list_all (event_keeps_to touched leased) es) all).0 agree
+
+  left_within : (others : List WorldEvent) → AllKeepTo others → AllKeepTo (left_after Other others)
+  left_within [] all = all
+  left_within (e ∷ es) all = (and_parts (event_keeps_to touched leased e) (list_all (event_keeps_to touched leased) es) all).1
+
+  -- it neither begins a runner nor ends one
+  next_told : (others : List WorldEvent) (w : World) (known : Ends) → AllKeepTo others → after_replies (replies_to (event_of Other others) w) known ≡ known
+  next_told [] w known all = refl
+  next_told (e ∷ es) w known all = nothing_told touched leased e w known (and_parts (event_keeps_to touched leased e) (list_all (event_keeps_to touched leased) es) all).0
 
   -- ---- moves
 
   moves_same : (p q : Place) → Alike p q → moves p ≡ moves q
   moves_same p q same =
       ap (λ slots. steps_up_to (length slots) slots ++ next_other p.others) same.worlds.runners
-      ∙ ap (λ others. steps_up_to (length q.world.runners) q.world.runners ++ next_other others) (same.alone ∙ sym same.also_alone)
+      ∙ ap (λ others. steps_up_to (length q.world.runners) q.world.runners ++ next_other others) same.others
 
   moved_same : (m : Move) (p q : Place) → Alike p q → Alike (moved m p) (moved m q)
   moved_same (StepOf id) p q same = record {
     worlds = (step_same touched leased since id p.world q.world same.worlds).next;
-    alone = same.alone;
-    also_alone = same.also_alone;
+    others = same.others;
+    within = same.within;
   }
   moved_same Other p q same = record {
     worlds =
-        subst (λ (events : List WorldEvent). Agree touched leased since (world_after events p.world) (world_after (event_of Other q.others) q.world))
-        (sym (ap (event_of Other) same.alone))
-        (subst (λ (events : List WorldEvent). Agree touched leased since p.world (world_after events q.world)) (sym (ap (event_of Other) same.also_alone)) same.worlds);
-    alone = ap (left_after Other) same.alone;
-    also_alone = ap (left_after Other) same.also_alone;
+        subst (λ (others : List WorldEvent). Agree touched leased since (world_after (event_of Other p.others) p.world) (world_after (event_of Other others) q.world))
+        same.others (next_agree p.others p.world q.world same.within same.worlds);
+    others = ap (left_after Other) same.others;
+    within = left_within p.others same.within;
   }
 
   known_same : (m : Move) (p q : Place) (known : Ends) → Alike p q → ends_moved m p known ≡ ends_moved m q known
   known_same (StepOf id) p q known same = ap (λ reported. after_reported reported known) (step_same touched leased since id p.world q.world same.worlds).reply
-  known_same Other p q known same =
-      ap (λ (events : List WorldEvent). after_replies (replies_to events p.world) known) (ap (event_of Other) same.alone)
-      ∙ sym (ap (λ (events : List WorldEvent). after_replies (replies_to events q.world) known) (ap (event_of Other) same.also_alone))
+  known_same Other p q known same = next_told p.others p.world known same.within ∙ sym (next_told q.others q.world known (also_within p q same))
 
   -- ---- schedules
 

@@ -40,7 +40,7 @@ use Rattle.stm_world.specs.World.{commit_reported, commit, finish, step_on, step
 use Rattle.stm_world.proofs.Served.{KnowsAll, one_more, served_all}
 use Rattle.stm_world.proofs.Slots.{equal_numbers, differ, runner_there, runner_own, runner_other}
 use Rattle.stm_narrow.specs.Touching.{IsTouched, WritesWithin}
-use Rattle.stm_narrow.specs.Agree.{SameSince, SameStore, IsReadSince, RunsWithin, Agree, AgreeingWorldsAreSame}
+use Rattle.stm_narrow.specs.Agree.{SameSince, SameStore, IsReadSince, RunsWithin, Agree}
 use Rattle.stm_narrow.proofs.Histories.{mapped_same, all_weaker, all_of_map, turned_history, same_now, SameDone, committed_same}
 
 module _ (touched : List ℕ → Bool) (leased : ℕ → Bool) (since : ℕ) where
@@ -320,10 +320,3 @@ module _ (touched : List ℕ → Bool) (leased : ℕ → Bool) (since : ℕ) whe
     runners = sym agree.runners;
     within = λ id r is. agree.within id r (ap (runner_at id) agree.runners ∙ is);
   }
-
-pub agreeing_worlds_are_same : AgreeingWorldsAreSame
-agreeing_worlds_are_same = record {
-  turned = λ touched leased since v w. turned touched leased since v w;
-  replies = λ touched leased since id v w agree. (step_same touched leased since id v w agree).reply;
-  next = λ touched leased since id v w agree. (step_same touched leased since id v w agree).next;
-}

@@ -1,16 +1,19 @@
 -- Worlds that agree on some keys since a revision.
 --
--- No step of a runner reads the entries, the watchers, the moment or the terms of leases. Of the history it reads the keys that its program names, at its
--- base or now; of the leases, whether those that it puts keys on are live.
+-- No step of a runner reads the entries, the watchers, the moment or the terms of leases, and no transaction of others does. Of the history a step reads the
+-- keys that its program names, at its base or now, and a transaction those that it compares or deletes, as they are now; of the leases both read whether those
+-- that they put keys on are live.
 use Rattle.std.specs.Prelude.{◌≡◌, ◌≤◌, ℕ, Bool, true, List, Some}
 use Rattle.std.specs.List.{AllByRecursion}
 use Rattle.stm_history.specs.declared.key_state.ReadAnswer.{ReadAnswer}
 use Rattle.stm_history.specs.History.{History, now, key_at}
 use Rattle.stm_leases.specs.Live.{is_live_in}
 use Rattle.stm_txn.specs.Standing.{Standing}
+use Rattle.stm_events.specs.declared.event.WorldEvent.{WorldEvent}
 use Rattle.stm_events.specs.declared.event.WorldEvent.TheVariants.{Step}
 use Rattle.stm_world.specs.World.{World, Runner, runner_at, step}
 use Rattle.stm_narrow.specs.Touching.{IsTouched, KeepsTo}
+use Rattle.stm_narrow.specs.Foreign.{event_keeps_to}
 
 -- the counters are the same, and each touched key was the same since the revision
 pub record SameSince (touched : List ℕ → Bool) (since : ℕ) (g h : History) : Type 0 where
@@ -50,3 +53,6 @@ pub record AgreeingWorldsAreSame : Type 0 where
       → (step (Step id) v).reply ≡ (step (Step id) w).reply
   pub next : (touched : List ℕ → Bool) (leased : ℕ → Bool) (since id : ℕ) (v w : World) → Agree touched leased since v w
       → Agree touched leased since (step (Step id) v).next (step (Step id) w).next
+  -- they agree after an event of others that keeps to the same keys
+  pub foreign : (touched : List ℕ → Bool) (leased : ℕ → Bool) (since : ℕ) (e : WorldEvent) (v w : World) → event_keeps_to touched leased e ≡ true
+      → Agree touched leased since v w → Agree touched leased since (step e v).next (step e w).next

@@ -1,18 +1,20 @@
--- Places whose worlds agree, where the others bring nothing: the schedules from the one are those from the other.
-use Rattle.std.specs.Prelude.{◌≡◌, ℕ, Bool, List, []}
+-- Places whose worlds agree, where the others bring the same, which keeps to the same keys: the schedules from the one are those from the other.
+use Rattle.std.specs.Prelude.{◌≡◌, ℕ, Bool, true, List}
+use Rattle.std.specs.List.{list_all}
 use Rattle.stm_program.specs.Syntax.{ProgramTree}
 use Rattle.stm_schedules.specs.declared.moves.Move.{Move}
 use Rattle.stm_schedules.specs.Places.{Place, moves, moved}
 use Rattle.stm_schedules.specs.Schedules.{place_after, IsSchedule, IsLongest}
 use Rattle.stm_schedules.specs.Keeping.{end_alone, keeps, AllKeep, AllKeepUpTo, IsFirstBad, goes_on}
-use Rattle.stm_schedules.specs.Outcomes.{Ends, ends_moved, ends_after}
+use Rattle.stm_schedules.specs.Outcomes.{Ends, ends_moved, ends_after, state_shown}
 use Rattle.stm_narrow.specs.Touching.{KeepsTo}
+use Rattle.stm_narrow.specs.Foreign.{event_keeps_to}
 use Rattle.stm_narrow.specs.Agree.{Agree}
 
 pub record PlacesAgree (touched : List ℕ → Bool) (leased : ℕ → Bool) (since : ℕ) (p q : Place) : Type 0 where
   pub worlds : Agree touched leased since p.world q.world
-  pub alone : p.others ≡ []
-  pub also_alone : q.others ≡ []
+  pub others : p.others ≡ q.others
+  pub within : list_all (event_keeps_to touched leased) p.others ≡ true
 
 -- what a search from the one place finds holds of the other
 pub record AreSearchedAlike (touched : List ℕ → Bool) (leased : ℕ → Bool) (since : ℕ) (p q : Place) : Type 0 where
@@ -34,9 +36,16 @@ pub record AreSearchedAlike (touched : List ℕ → Bool) (leased : ℕ → Bool
   pub first_bad : (rule : ProgramTree) (schedule : List Move) → KeepsTo touched leased rule → IsFirstBad (keeps rule) p schedule
       → IsFirstBad (keeps rule) q schedule
 
--- ---- law
+-- ---- laws
 
 abbrev pub AgreeingPlacesAreSame : Type 0
 AgreeingPlacesAreSame =
     (touched : List ℕ → Bool) (leased : ℕ → Bool) (since : ℕ) (p q : Place) → PlacesAgree touched leased since p q
     → AreSearchedAlike touched leased since p q
+
+-- Two schedules that leave the same to be shown from the one place do so from the other: other keys than those that the programs keep to stay as they were.
+abbrev pub SchedulesShowAlike : Type 0
+SchedulesShowAlike =
+    (touched : List ℕ → Bool) (leased : ℕ → Bool) (since : ℕ) (p q : Place) → PlacesAgree touched leased since p q → (one other : List Move)
+    → state_shown (place_after one p).world.standing.history ≡ state_shown (place_after other p).world.standing.history
+    → state_shown (place_after one q).world.standing.history ≡ state_shown (place_after other q).world.standing.history

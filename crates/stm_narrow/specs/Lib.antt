@@ -1,4 +1,5 @@
 pub mod Touching
+pub mod Foreign
 pub mod Agree
 pub mod AgreeingPlaces
 pub mod Beginning

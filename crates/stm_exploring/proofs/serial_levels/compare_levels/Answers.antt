@@ -12,6 +12,7 @@ loop-level-preserved g c =
     let done = c.in_ok-answer.ensures in
     record {
       same = same_more [] [] s c.loop-level.scenario c.compare_level.new.scenario _ done.leveled so_far.same;
+      stepless = done.stepless;
       listed = rw c.in_ok-push.ensures.items (listed_more (λ (a : SerialLevel). a.level) c.loop-level.at.items c.in_ok-answer.answer c.args.levels.now
           c.loop-level.level-index _ (omega (arith, c.loop-level-test.true)) done.level so_far.listed);
       found = rw c.in_ok-push.ensures.items (serial_levels_more s c.loop-level.at.items c.in_ok-answer.answer

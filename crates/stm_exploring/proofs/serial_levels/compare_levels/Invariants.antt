@@ -1,5 +1,6 @@
 use Rattle.std.proofs.Common.{◌≡◌, All, map, take}
 use Rattle.stm_program.specs.declared.level.Level.{Level}
+use Rattle.stm_serial_search.specs.Started.{HaveNoStep}
 use Rattle.stm_explore.specs.Orders.{IsSerialAnswer}
 use Rattle.stm_exploring.specs.declared.serial_levels.SerialLevel.{SerialLevel}
 use Rattle.stm_exploring.specs.Asking.{ends_of, place_of}
@@ -10,6 +11,7 @@ use Rattle.stm_exploring.proofs.serial_levels.compare_levels.Given as goal
 abbrev pub invariant-loop-level : goal.invariant-loop-level
 invariant-loop-level g l = record {
   same : (k : Level) → leveled k l.scenario ≡ leveled k l.fn.scenario;
+  stepless : HaveNoStep l.scenario.events;
   listed : map (λ (a : SerialLevel). a.level) l.at.items ≡ take l.level-index l.levels;
   found : All (λ (a : SerialLevel). IsSerialAnswer (place_of (leveled a.level l.fn.scenario)) (ends_of (leveled a.level l.fn.scenario)) a.answer) l.at.items;
 }

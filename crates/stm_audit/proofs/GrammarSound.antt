@@ -3,33 +3,37 @@ use Rattle.std.proofs.Common.{◌≡◌, ℕ, ◌≤◌, List, [], ◌∷◌, le
 use Rattle.std.specs.Prelude.{nat_lt, is_some, option_and_then}
 use Rattle.std.proofs.lemmas.Bool.Decides.{nat_tests}
 use Rattle.std.proofs.lemmas.Slice.Eq.{bytes_eq-Decides}
-use Rattle.serde_json.specs.Data.{Data, null, boolean, number, string, array, object, Items}
+use Rattle.serde_json.specs.Data.{Data, null, boolean, number, string, array, object, Items, no_items, item}
 use Rattle.serde_json.specs.Find.{as_array, as_null}
 use Rattle.serde_json.specs.View.{items_of}
 use Rattle.stm_history.specs.declared.revisions.TheConstants.{HIGHEST_NUMBER, HIGHEST_REVISION}
 use Rattle.stm_json.specs.declared.cause.Cause.TheVariants.{Shape, TooLong}
 use Rattle.stm_json.specs.declared.limits.TheConstants.{MOST_BYTES}
 use Rattle.stm_json.specs.Bytes.{data_of}
-use Rattle.stm_json.specs.Elements.{worded, one_of, two_of, four_of, number_up_to, number_in}
+use Rattle.stm_json.specs.Elements.{worded, one_of, two_of, three_of, four_of, number_up_to, number_in}
 use Rattle.stm_json.specs.Outcome.{bad, ◌>>=◌, within}
-use Rattle.stm_json.specs.Parts.{same, spelled, text_of}
+use Rattle.stm_json.specs.Parts.{same, spelled, each_from, text_of}
 use Rattle.stm_json.proofs.OutcomeLemmas.{bind_ok, within_ok}
-use Rattle.stm_json.proofs.ElementLemmas.{one_of-is, two_of-is, four_of-is}
+use Rattle.stm_json.proofs.ElementLemmas.{worded-is, one_of-is, two_of-is, three_of-is, four_of-is}
 use Rattle.stm_json.proofs.PartLemmas.{text_of-is, on_text-is, list_is, number_is, up_to_is, word_and}
-use Rattle.stm_json.proofs.ListLemmas.{list_sound}
+use Rattle.stm_json.proofs.ListLemmas.{each_sound, list_sound}
 use Rattle.stm_txn_json.proofs.WordLemmas.{chosen, no_word}
 use Rattle.stm_program.specs.declared.level.Level.{Level}
 use Rattle.stm_program.specs.declared.level.Level.TheVariants.{SerializableSnapshot, Serializable, RepeatableReads, ReadCommitted}
+use Rattle.stm_history.specs.declared.key_state.KeyState.{KeyState}
 use Rattle.stm_history.specs.declared.change.Change.{Change}
 use Rattle.stm_history.specs.declared.change.Change.TheVariants.{Put, Del}
 use Rattle.stm_events.specs.declared.reply.CommittedRead.{CommittedRead}
 use Rattle.stm_texts.specs.Grammar.{level_text}
-use Rattle.stm_texts.specs.Reading.{level_named, level_of}
+use Rattle.stm_txn.specs.declared.restored.Checkpoint.{Checkpoint}
+use Rattle.stm_texts.specs.Reading.{level_named, level_of, begins}
 use Rattle.stm_audit.specs.declared.commit.Commit.{Commit}
-use Rattle.stm_audit.specs.Grammar.{SpellsValue, SpellsRead, SpellsWrite, SpellsCommit, SpellsTrace}
-use Rattle.stm_audit.specs.Reading.{quad, listed, text_or_null, read_by, read_of, put_of, del_of, write_worded, write_of, commit_by, commit_of, trace_read, trace_in}
+use Rattle.stm_audit.specs.declared.trace.Trace.{Trace}
+use Rattle.stm_audit.specs.Grammar.{SpellsValue, SpellsRead, SpellsWrite, SpellsCommit, SpellsKey, SpellsBeginning, SpellsElements, SpellsTrace}
+use Rattle.stm_audit.specs.Reading.{triple, quad, listed, text_or_null, read_by, read_of, put_of, del_of, write_worded, write_of, commit_by, commit_of}
+use Rattle.stm_audit.specs.Reading.{stood, key_by, key_of, began, beginning_by, beginning_of, trace_after, trace_list, trace_of, trace_read, trace_in}
 
--- ---- arrays of four
+-- ---- arrays of three and of four
 
 quad_at : (d : Data) (o : Option Items) (p : Data × Data × Data × Data) → as_array d ≡ o → option_and_then four_of o ≡ Some p
     → d ≡ array (items_of (p.0 ∷ p.1 ∷ p.2 ∷ p.3 ∷ []))
@@ -38,6 +42,14 @@ quad_at d (Some ds) p e h = list_is d ds e ∙ ap array (four_of-is ds p h)
 
 quad_is : (d : Data) (p : Data × Data × Data × Data) → quad d ≡ Some p → d ≡ array (items_of (p.0 ∷ p.1 ∷ p.2 ∷ p.3 ∷ []))
 quad_is d p h = quad_at d (as_array d) p refl h
+
+triple_at : (d : Data) (o : Option Items) (p : Data × Data × Data) → as_array d ≡ o → option_and_then three_of o ≡ Some p
+    → d ≡ array (items_of (p.0 ∷ p.1 ∷ p.2 ∷ []))
+triple_at d None p e h = absurd (cc (h))
+triple_at d (Some ds) p e h = list_is d ds e ∙ ap array (three_of-is ds p h)
+
+triple_is : (d : Data) (p : Data × Data × Data) → triple d ≡ Some p → d ≡ array (items_of (p.0 ∷ p.1 ∷ p.2 ∷ []))
+triple_is d p h = triple_at d (as_array d) p refl h
 
 -- ---- reads
 
@@ -178,19 +190,99 @@ commit_sound : (d : Data) (t : Commit) → commit_of d ≡ Ok t → SpellsCommit
 unfolding commit_of
 commit_sound d t h = commit_parts d (quad d) t refl h
 
+-- ---- what a trace begins with
+
+key_parts : (d : Data) (o : Option (Data × Data × Data)) (e : List ℕ × KeyState) → triple d ≡ o → key_by o ≡ Ok e → SpellsKey d e
+key_parts d None e is h = cc
+key_parts d (Some p) e is h =
+    let key = bind_ok (within 0 (text_of p.0)) _ e h in
+    let value = bind_ok (within 1 (text_of p.1)) _ e key.2 in
+    let revision = bind_ok (within 2 (number_in 1 HIGHEST_REVISION p.2)) _ e value.2 in
+    let made : (key.0, stood value.0 revision.0) ≡ e = cc revision.2 in
+    let first : p.0 ≡ string key.0 = text_of-is p.0 key.0 (within_ok 0 _ _ key.1) in
+    let second : p.1 ≡ string value.0 = text_of-is p.1 value.0 (within_ok 1 _ _ value.1) in
+    subst (SpellsKey d) made (
+      p.2,
+      triple_is d p is
+          ∙ ap (λ (x : Data). array (items_of (x ∷ p.1 ∷ p.2 ∷ []))) first
+          ∙ ap (λ (x : Data). array (items_of (string key.0 ∷ x ∷ p.2 ∷ []))) second,
+      number_is 1 HIGHEST_REVISION p.2 revision.0 (within_ok 2 _ _ revision.1),
+      refl,
+    )
+
+key_sound : (d : Data) (e : List ℕ × KeyState) → key_of d ≡ Ok e → SpellsKey d e
+unfolding key_of
+key_sound d e h = key_parts d (triple d) e refl h
+
+beginning_parts : (d : Data) (parts : Items) (o : Option (Data × Data)) (c : Checkpoint) → two_of parts ≡ o
+    → d ≡ array (item (string (codes "begin")) parts) → beginning_by o ≡ Ok c → SpellsBeginning d c
+beginning_parts d parts None c two is h = cc
+beginning_parts d parts (Some p) c two is h =
+    let revision = bind_ok (within 1 (number_in 1 HIGHEST_REVISION p.0)) _ c h in
+    let states = bind_ok (within 2 (listed key_of p.1)) _ c revision.2 in
+    let made : began revision.0 states.0 ≡ c = cc states.2 in
+    let keys = list_sound key_of SpellsKey key_sound p.1 states.0 (within_ok 2 _ _ states.1) in
+    subst (SpellsBeginning d) made (
+      p.0,
+      keys.0,
+      is
+          ∙ ap (λ (x : Items). array (item (string (codes "begin")) x)) (two_of-is parts p two)
+          ∙ ap (λ (x : Data). spelled (codes "begin") (p.0 ∷ x ∷ [])) keys.1,
+      number_is 1 HIGHEST_REVISION p.0 revision.0 (within_ok 1 _ _ revision.1),
+      keys.2,
+      refl,
+    )
+
+begins_with : (p : List ℕ × Items) (parts : Items) (b : Bool) → same p.0 (codes "begin") ≡ b → cond b (Some p.1) None ≡ Some parts
+    → (p.0 ≡ codes "begin") × (p.1 ≡ parts)
+begins_with p parts true t h = ((bytes_eq-Decides p.0 (codes "begin")).0 t, cc)
+begins_with p parts false t h = cc
+
+begins_is : (d : Data) (o : Option (List ℕ × Items)) (parts : Items) → worded d ≡ o → begins o ≡ Some parts → d ≡ array (item (string (codes "begin")) parts)
+begins_is d None parts w h = cc
+begins_is d (Some p) parts w h =
+    let is = begins_with p parts (same p.0 (codes "begin")) refl h in
+    worded-is d p w ∙ rw (is.0, is.1) refl
+
 -- ---- traces
 
-data_sound : (bytes : List ℕ) (ts : List Commit) (o : Option Data) → length bytes ≤ MOST_BYTES → data_of bytes ≡ o → trace_read o ≡ Ok ts → SpellsTrace bytes ts
-data_sound bytes ts None short e h = cc
-data_sound bytes ts (Some d) short e h =
-    let all = list_sound commit_of SpellsCommit commit_sound d ts h in
+abbrev Spelled : Items → Trace → Type 0
+Spelled ds t = SpellsElements ds t.opening t.commits
+
+abbrev trace_with : Option Checkpoint → List Commit → Trace
+trace_with opening ts = record { opening = opening; commits = ts }
+
+after_sound : (d : Data) (ds : Items) (o : Option Items) (t : Trace) → begins (worded d) ≡ o → trace_after o (item d ds) ds ≡ Ok t → Spelled (item d ds) t
+after_sound d ds None t e h =
+    let ts = bind_ok (each_from commit_of 0 (item d ds)) _ t h in
+    let is : trace_with None ts.0 ≡ t = cc ts.2 in
+    subst (Spelled (item d ds)) is (each_sound commit_of SpellsCommit commit_sound 0 (item d ds) ts.0 ts.1)
+after_sound d ds (Some parts) t e h =
+    let c = bind_ok (within 0 (beginning_of parts)) _ t h in
+    let ts = bind_ok (each_from commit_of 1 ds) _ t c.2 in
+    let begin : SpellsBeginning d c.0 = beginning_parts d parts (two_of parts) c.0 refl (begins_is d (worded d) parts refl e) (within_ok 0 _ _ c.1) in
+    let is : trace_with (Some c.0) ts.0 ≡ t = cc ts.2 in
+    subst (Spelled (item d ds)) is (d, ds, refl, begin, each_sound commit_of SpellsCommit commit_sound 1 ds ts.0 ts.1)
+
+elements_sound : (d : Data) (o : Option Items) (t : Trace) → as_array d ≡ o → trace_list o ≡ Ok t → (ds : Items) × (d ≡ array ds) × Spelled ds t
+elements_sound d None t e h = cc
+elements_sound d (Some no_items) t e h =
+    let is : trace_with None [] ≡ t = cc h in
+    (no_items, list_is d no_items e, subst (Spelled no_items) is refl)
+elements_sound d (Some (item a ds)) t e h = (item a ds, list_is d (item a ds) e, after_sound a ds (begins (worded a)) t refl h)
+
+data_sound : (bytes : List ℕ) (t : Trace) (o : Option Data) → length bytes ≤ MOST_BYTES → data_of bytes ≡ o → trace_read o ≡ Ok t → SpellsTrace bytes t
+unfolding trace_of
+data_sound bytes t None short e h = cc
+data_sound bytes t (Some d) short e h =
+    let all = elements_sound d (as_array d) t refl h in
     (short, d, e, all.0, all.1, all.2)
 
-tested : (bytes : List ℕ) (ts : List Commit) (b : Bool) → nat_lt MOST_BYTES (length bytes) ≡ b → cond b (bad TooLong) (trace_read (data_of bytes)) ≡ Ok ts
-    → SpellsTrace bytes ts
-tested bytes ts true t h = cc
-tested bytes ts false t h = data_sound bytes ts (data_of bytes) (grind (arith, nat_tests)) refl h
+tested : (bytes : List ℕ) (t : Trace) (b : Bool) → nat_lt MOST_BYTES (length bytes) ≡ b → cond b (bad TooLong) (trace_read (data_of bytes)) ≡ Ok t
+    → SpellsTrace bytes t
+tested bytes t true long h = cc
+tested bytes t false long h = data_sound bytes t (data_of bytes) (grind (arith, nat_tests)) refl h
 
-pub trace_sound : (bytes : List ℕ) (ts : List Commit) → trace_in bytes ≡ Ok ts → SpellsTrace bytes ts
+pub trace_sound : (bytes : List ℕ) (t : Trace) → trace_in bytes ≡ Ok t → SpellsTrace bytes t
 unfolding trace_in
-trace_sound bytes ts h = tested bytes ts (nat_lt MOST_BYTES (length bytes)) refl h
+trace_sound bytes t h = tested bytes t (nat_lt MOST_BYTES (length bytes)) refl h

@@ -7,22 +7,28 @@ use Rattle.stm_history.specs.declared.revisions.TheConstants.{HIGHEST_NUMBER, HI
 use Rattle.stm_json.specs.declared.cause.Cause.TheVariants.{Shape, TooLong, NotJson}
 use Rattle.stm_json.specs.declared.limits.TheConstants.{MOST_BYTES}
 use Rattle.stm_json.specs.Bytes.{data_of}
-use Rattle.stm_json.specs.Elements.{one_of, two_of, four_of, number_up_to, number_in}
+use Rattle.stm_json.specs.Elements.{worded, one_of, two_of, three_of, four_of, number_up_to, number_in}
 use Rattle.stm_json.specs.Faults.{Faults, Sort, AnyText, WordOf, NumberIn, By, first_of, wrong, at, is_count, parts_faults, word_faults, faults_by, sorted_faults}
 use Rattle.stm_json.specs.Faults.{worded_faults, list_faults, any_number}
-use Rattle.stm_json.specs.Outcome.{Outcome, bad}
+use Rattle.stm_json.specs.Outcome.{Outcome, bad, step}
 use Rattle.stm_json.specs.Parts.{on_text, same, text_of, each_from, list_of}
 use Rattle.stm_json.proofs.FaultLemmas.{fault_of, wrong_is, part_then, made, text_faulted, number_faulted, number_reported, list_faulted}
 use Rattle.stm_program.specs.declared.level.Level.{Level}
 use Rattle.stm_program.specs.declared.level.Level.TheVariants.{SerializableSnapshot, Serializable, RepeatableReads, ReadCommitted}
+use Rattle.stm_history.specs.declared.key_state.KeyState.{KeyState}
+use Rattle.stm_history.specs.Opening.{States}
 use Rattle.stm_history.specs.declared.change.Change.{Change}
 use Rattle.stm_history.specs.declared.change.Change.TheVariants.{Put, Del}
 use Rattle.stm_events.specs.declared.reply.CommittedRead.{CommittedRead}
-use Rattle.stm_texts.specs.Reading.{level_named, level_of}
+use Rattle.stm_txn.specs.declared.restored.Checkpoint.{Checkpoint}
+use Rattle.stm_texts.specs.Reading.{level_named, level_of, begins}
 use Rattle.stm_texts.specs.FirstFault.{level_words}
 use Rattle.stm_audit.specs.declared.commit.Commit.{Commit}
-use Rattle.stm_audit.specs.FirstFault.{elements_faults, all_faults, value_faults, read_faults, write_table, commit_faults, data_faults, first_fault}
-use Rattle.stm_audit.specs.Reading.{listed, text_or_null, read_by, read_of, put_of, del_of, write_of, commit_by, commit_of, trace_read, trace_in}
+use Rattle.stm_audit.specs.declared.trace.Trace.{Trace}
+use Rattle.stm_audit.specs.FirstFault.{elements_faults, all_faults, value_faults, read_faults, write_table, commit_faults, key_faults}
+use Rattle.stm_audit.specs.FirstFault.{beginning_faults, trace_faults, data_faults, first_fault}
+use Rattle.stm_audit.specs.Reading.{listed, text_or_null, read_by, read_of, put_of, del_of, write_of, commit_by, commit_of, stood, key_by, key_of, began}
+use Rattle.stm_audit.specs.Reading.{beginning_by, beginning_of, trace_after, trace_of, trace_read, trace_in}
 
 -- ---- lists
 
@@ -160,11 +166,79 @@ unfolding commit_of
 commit_faulted p (array ds) = commit_parts p ds
 commit_faulted p _ = wrong_is {A = Commit} p Shape (bad Shape) refl
 
+-- ---- what a trace begins with
+
+abbrev key_sorts : List Sort
+key_sorts = AnyText ∷ AnyText ∷ NumberIn 1 HIGHEST_REVISION ∷ []
+
+abbrev entry : List ℕ → List ℕ → ℕ → List ℕ × KeyState
+entry key value revision = (key, stood value revision)
+
+key_parts : (p : List ℕ) (ds : Items) → first_of (cond (is_count key_sorts ds) (parts_faults p 0 key_sorts ds) (wrong p Shape)) ≡ fault_of p (key_by (three_of ds))
+key_parts p no_items = wrong_is p Shape (key_by None) refl
+key_parts p (item a no_items) = wrong_is p Shape (key_by None) refl
+key_parts p (item a (item b no_items)) = wrong_is p Shape (key_by None) refl
+key_parts p (item a (item b (item c no_items))) =
+    part_then p 0 (text_of a) _ (faults_by AnyText (at p 0) a) _ (text_faulted (at p 0) a) (λ (key : List ℕ).
+    part_then p 1 (text_of b) _ (faults_by AnyText (at p 1) b) _ (text_faulted (at p 1) b) (λ (value : List ℕ).
+    part_then p 2 (number_in 1 HIGHEST_REVISION c) (λ revision. Ok (entry key value revision)) (faults_by (NumberIn 1 HIGHEST_REVISION) (at p 2) c) []
+    (number_faulted (at p 2) 1 HIGHEST_REVISION c (omega arith)) (λ revision. refl)))
+key_parts p (item a (item b (item c (item d ds)))) = wrong_is p Shape (key_by None) refl
+
+key_faulted : (p : List ℕ) (d : Data) → first_of (key_faults p d) ≡ fault_of p (key_of d)
+unfolding key_of
+key_faulted p (array ds) = key_parts p ds
+key_faulted p _ = wrong_is {A = List ℕ × KeyState} p Shape (bad Shape) refl
+
+abbrev beginning_sorts : List Sort
+beginning_sorts = NumberIn 1 HIGHEST_REVISION ∷ By (all_faults key_faults) ∷ []
+
+beginning_faulted : (p : List ℕ) (ds : Items) → first_of (sorted_faults p (Some beginning_sorts) ds) ≡ fault_of p (beginning_of ds)
+beginning_faulted p no_items = wrong_is p Shape (beginning_by None) refl
+beginning_faulted p (item a no_items) = wrong_is p Shape (beginning_by None) refl
+beginning_faulted p (item a (item b no_items)) =
+    part_then p 1 (number_in 1 HIGHEST_REVISION a) _ (faults_by (NumberIn 1 HIGHEST_REVISION) (at p 1) a) _
+    (number_faulted (at p 1) 1 HIGHEST_REVISION a (omega arith)) (λ (revision : ℕ).
+    part_then p 2 (listed key_of b) (λ states. Ok (began revision states)) (all_faults key_faults (at p 2) b) []
+    (all_faulted key_faults key_of key_faulted (at p 2) b) (λ (states : States). refl))
+beginning_faulted p (item a (item b (item c ds))) = wrong_is p Shape (beginning_by None) refl
+
 -- ---- traces
 
+abbrev alone : List Commit → Trace
+alone ts = record { opening = None; commits = ts }
+
+abbrev opened : Checkpoint → List Commit → Trace
+opened c ts = record { opening = Some c; commits = ts }
+
+commits_faulted : (index : ℕ) (ds : Items) → first_of (elements_faults commit_faults [] index ds) ≡ fault_of [] (each_from commit_of index ds)
+commits_faulted index ds = each_faulted commit_faults commit_of commit_faulted [] index ds
+
+alone_faulted : (all : Items) → first_of (elements_faults commit_faults [] 0 all) ≡ fault_of [] (trace_after None all all)
+alone_faulted all = made [] (each_from commit_of 0 all) alone (elements_faults commit_faults [] 0 all) (commits_faulted 0 all)
+
+beginning_tested : (parts ds all : Items) (b : Bool)
+    → first_of (cond b (sorted_faults (step 0) (Some beginning_sorts) parts ++ elements_faults commit_faults [] 1 ds) (elements_faults commit_faults [] 0 all))
+    ≡ fault_of [] (trace_after (cond b (Some parts) None) all ds)
+beginning_tested parts ds all true =
+    part_then [] 0 (beginning_of parts) _ (sorted_faults (step 0) (Some beginning_sorts) parts) (elements_faults commit_faults [] 1 ds)
+    (beginning_faulted (step 0) parts)
+    (λ (c : Checkpoint). made [] (each_from commit_of 1 ds) (opened c) (elements_faults commit_faults [] 1 ds) (commits_faulted 1 ds))
+beginning_tested parts ds all false = alone_faulted all
+
+elements_faulted : (d : Data) (ds : Items) → first_of (trace_faults (item d ds)) ≡ fault_of [] (trace_after (begins (worded d)) (item d ds) ds)
+elements_faulted (array (item (string w) parts)) ds = beginning_tested parts ds (item (array (item (string w) parts)) ds) (same w (codes "begin"))
+elements_faulted _ ds = alone_faulted (item _ ds)
+
+trace_faulted : (d : Data) → first_of (data_faults (Some d)) ≡ fault_of [] (trace_of d)
+unfolding trace_of
+trace_faulted (array no_items) = refl
+trace_faulted (array (item d ds)) = elements_faulted d ds
+trace_faulted _ = wrong_is {A = Trace} [] Shape (bad Shape) refl
+
 data_faulted : (o : Option Data) → first_of (data_faults o) ≡ fault_of [] (trace_read o)
-data_faulted None = wrong_is {A = List Commit} [] NotJson (bad NotJson) refl
-data_faulted (Some d) = all_faulted commit_faults commit_of commit_faulted [] d
+data_faulted None = wrong_is {A = Trace} [] NotJson (bad NotJson) refl
+data_faulted (Some d) = trace_faulted d
 
 length_tested : (o : Option Data) (b : Bool) → first_of (cond b (wrong [] TooLong) [] ++ data_faults o) ≡ fault_of [] (cond b (bad TooLong) (trace_read o))
 length_tested o true = refl

@@ -2,7 +2,7 @@
 --
 -- etcd's API reference, "Revisions": a transaction that changes something gets the next revision, and another one has that of the store. So a trace
 -- that has every commit since its first one has their revisions without a gap.
-use Rattle.std.specs.Prelude.{ℕ, suc, ◌-◌, Bool, true, false, nat_eq, nat_lt, if◌then◌else◌, List, [], ◌∷◌, ◌++◌, Option, Some, None, Result, Ok, Err, min, max}
+use Rattle.std.specs.Prelude.{ℕ, suc, ◌-◌, Bool, true, false, nat_eq, nat_lt, if◌then◌else◌, List, [], ◌∷◌, ◌++◌, Option, Some, None, option_map, Result, Ok, Err, min, max}
 use Rattle.std.specs.List.{list_any}
 use Rattle.stm_history.specs.declared.revisions.TheConstants.{HIGHEST_REVISION}
 use Rattle.stm_history.specs.History.{now}
@@ -10,10 +10,13 @@ use Rattle.stm_history.specs.declared.change.Change.{Change}
 use Rattle.stm_history.specs.declared.change.Change.TheVariants.{Put, Del}
 use Rattle.stm_program.specs.Writes.{latest_writes}
 use Rattle.stm_outcome.specs.declared.refusal.Refusal.{Refusal}
+use Rattle.stm_txn.specs.declared.restored.Checkpoint.{Checkpoint}
+use Rattle.stm_txn.specs.Restored.{restored, can_restore}
 use Rattle.stm_txn.specs.Standing.{Standing, Step, made, opening, at_revision}
 use Rattle.stm_audit.specs.declared.auditing.Audited.{Audited}
 use Rattle.stm_audit.specs.declared.commit.Commit.{Commit}
 use Rattle.stm_audit.specs.declared.finding.Finding.{Finding}
+use Rattle.stm_audit.specs.declared.trace.Trace.{Trace}
 use Rattle.stm_audit.specs.Anomalies.{found_in}
 
 -- ---- the store after writes
@@ -71,6 +74,15 @@ before_first (t ∷ ts) = if list_any is_put t.writes then t.revision - 1 else t
 abbrev pub opened : List Commit → ℕ
 opened commits = min HIGHEST_REVISION (max 1 (before_first commits))
 
--- the audit of a trace over a store in which no key was present before it
-abbrev pub audited : List Commit → Audited
-audited commits = audit_from (opening (at_revision (opened commits))) [] 1 commits
+-- the store that a trace says it begins with, if a store can be so
+abbrev pub restoring : Checkpoint → Option Standing
+restoring c = if can_restore c then Some (restored c) else None
+
+-- the store before a trace, in which no key was present where the trace does not say
+abbrev pub beginning : Option Checkpoint → List Commit → Option Standing
+beginning None commits = Some (opening (at_revision (opened commits)))
+beginning (Some c) commits = restoring c
+
+-- the audit of a trace over that store, and none where there is no such store
+abbrev pub audited : Trace → Option Audited
+audited t = option_map (λ s. audit_from s [] 1 t.commits) (beginning t.opening t.commits)

@@ -1,14 +1,17 @@
 -- What the command `audit` does to its devices, and its status.
-use Rattle.std.specs.Prelude.{◌≡◌, ◌⊎◌, ℕ, List, length, take, Bool, true, false, Option, Result, Ok, Err, IfSome, codes}
+use Rattle.std.specs.Prelude.{◌≡◌, ◌⊎◌, ℕ, List, length, take, Bool, true, false, Option, Some, None, Result, Ok, Err, IfSome, codes}
 use Rattle.std.specs.Io.KnownBytes.{Appends, Keeps}
 use Rattle.stm_devices.specs.Ends.{Devices}
 use Rattle.stm_devices.specs.Transfers.{WritesFront}
 use Rattle.stm_devices.specs.declared.transfer.TheConstants.{MOST_READ}
+use Rattle.stm_json.specs.declared.cause.Cause.TheVariants.{Range}
+use Rattle.stm_json.specs.declared.read_error.BadInput.{BadInput}
 use Rattle.stm_explain.specs.Saying.{Reports, bad_input, memory_fault, device_fault}
 use Rattle.stm_audit.specs.declared.command.Printed.{Printed}
 use Rattle.stm_audit.specs.declared.command.AuditFault.{AuditFault}
 use Rattle.stm_audit.specs.declared.command.AuditFault.TheVariants.{OutOfMemory, Bad, Device}
-use Rattle.stm_audit.specs.declared.commit.Commit.{Commit}
+use Rattle.stm_audit.specs.declared.auditing.Audited.{Audited}
+use Rattle.stm_audit.specs.declared.trace.Trace.{Trace}
 use Rattle.stm_audit.specs.Audit.{audited}
 use Rattle.stm_audit.specs.Lines.{audit_text, audit_status}
 use Rattle.stm_audit.specs.Reading.{trace_in}
@@ -16,18 +19,30 @@ use Rattle.stm_audit.specs.Reading.{trace_in}
 -- ---- what is answered of a trace
 
 -- the lines of its audit, and the status
-abbrev pub IsPrintOf : List Commit → Printed → Type 0
-IsPrintOf trace p = (p.text ≡ audit_text (audited trace) (length trace)) × (p.status ≡ audit_status (audited trace))
+abbrev pub IsPrintOf : Trace → Printed → Type 0
+IsPrintOf trace p =
+    (a : Audited) × (audited trace ≡ Some a) × (p.text ≡ audit_text a (length trace.commits)) × (p.status ≡ audit_status a)
 
-abbrev pub Prints : {E : Type 0} → List Commit → Result Printed E → Type 0
+-- the fault of a list of keys that no store can have had
+abbrev pub misfit : BadInput
+misfit = record { place = codes "/0/2"; cause = Range }
+
+abbrev pub IsMisfit : AuditFault → Type 0
+IsMisfit OutOfMemory = Unit {0}
+IsMisfit (Bad bad) = bad ≡ misfit
+IsMisfit Device = ⊥
+
+abbrev pub Prints : Trace → Result Printed AuditFault → Type 0
 Prints trace (Ok p) = IsPrintOf trace p
-Prints trace (Err e) = Unit {0}
+Prints trace (Err OutOfMemory) = Unit {0}
+Prints trace (Err (Bad bad)) = (audited trace ≡ None) × (bad ≡ misfit)
+Prints trace (Err Device) = ⊥
 
 -- the same of the trace that bytes spell, or its first fault
 abbrev pub Answers : List ℕ → Result Printed AuditFault → Type 0
-Answers bytes (Ok p) = (trace : List Commit) × (trace_in bytes ≡ Ok trace) × IsPrintOf trace p
+Answers bytes (Ok p) = (trace : Trace) × (trace_in bytes ≡ Ok trace) × IsPrintOf trace p
 Answers bytes (Err OutOfMemory) = Unit {0}
-Answers bytes (Err (Bad bad)) = trace_in bytes ≡ Err bad
+Answers bytes (Err (Bad bad)) = (trace_in bytes ≡ Err bad) ⊎ ((trace : Trace) × (trace_in bytes ≡ Ok trace) × (audited trace ≡ None) × (bad ≡ misfit))
 Answers bytes (Err Device) = ⊥
 
 -- the same of an input, of which one byte more is read than a trace may have, by whether it has failed

@@ -1,15 +1,16 @@
 -- The first fault of bytes in a trace's place, apart from reading: the faults of all the data in the order of reading, none left out because of another, and
 -- then the first of them.
 use Rattle.std.specs.Prelude.{ℕ, suc, List, [], ◌∷◌, ◌++◌, length, Option, Some, None, if◌then◌else◌, nat_lt, codes}
-use Rattle.serde_json.specs.Data.{Data, null, array, Items, no_items, item}
+use Rattle.serde_json.specs.Data.{Data, null, string, array, Items, no_items, item}
 use Rattle.serde_json.specs.Find.{as_str}
 use Rattle.stm_history.specs.declared.revisions.TheConstants.{HIGHEST_REVISION}
 use Rattle.stm_json.specs.declared.cause.Cause.TheVariants.{NotJson, Shape, TooLong}
 use Rattle.stm_json.specs.declared.limits.TheConstants.{MOST_BYTES}
 use Rattle.stm_json.specs.declared.read_error.BadInput.{BadInput}
 use Rattle.stm_json.specs.Bytes.{data_of}
-use Rattle.stm_json.specs.Faults.{Faults, first_of, wrong, at, Sort, AnyText, WordOf, NumberIn, By, Table, text_faults, is_count, parts_faults, list_faults, any_number}
-use Rattle.stm_texts.specs.FirstFault.{level_words}
+use Rattle.stm_json.specs.Outcome.{step}
+use Rattle.stm_json.specs.Faults.{Faults, first_of, wrong, at, Sort, AnyText, WordOf, NumberIn, By, Table, text_faults, is_count, parts_faults, sorted_faults, list_faults, any_number}
+use Rattle.stm_texts.specs.FirstFault.{level_words, is_opening}
 
 -- ---- arrays
 
@@ -43,9 +44,23 @@ write_table = (codes "put", AnyText ∷ AnyText ∷ []) ∷ (codes "del", AnyTex
 abbrev pub commit_faults : List ℕ → Data → Faults
 commit_faults = array_faults (WordOf level_words ∷ NumberIn 1 HIGHEST_REVISION ∷ By (all_faults read_faults) ∷ By (list_faults write_table) ∷ [])
 
+abbrev pub key_faults : List ℕ → Data → Faults
+key_faults = array_faults (AnyText ∷ AnyText ∷ NumberIn 1 HIGHEST_REVISION ∷ [])
+
+-- the faults of an array of the word begin
+abbrev pub beginning_faults : List ℕ → Data → Faults
+beginning_faults p (array (item (string w) ds)) = sorted_faults p (Some (NumberIn 1 HIGHEST_REVISION ∷ By (all_faults key_faults) ∷ [])) ds
+beginning_faults p _ = wrong p Shape
+
+abbrev pub trace_faults : Items → Faults
+trace_faults no_items = []
+trace_faults (item d ds) =
+    if is_opening d then beginning_faults (step 0) d ++ elements_faults commit_faults [] 1 ds else elements_faults commit_faults [] 0 (item d ds)
+
 abbrev pub data_faults : Option Data → Faults
 data_faults None = wrong [] NotJson
-data_faults (Some d) = all_faults commit_faults [] d
+data_faults (Some (array ds)) = trace_faults ds
+data_faults (Some _) = wrong [] Shape
 
 abbrev pub faults_in : List ℕ → Faults
 faults_in bytes = (if nat_lt MOST_BYTES (length bytes) then wrong [] TooLong else []) ++ data_faults (data_of bytes)

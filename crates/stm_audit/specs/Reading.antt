@@ -1,21 +1,30 @@
--- Reading a trace: the commits that bytes spell, or the first fault. A value is looked at before its elements, and these from the first to the last.
-use Rattle.std.specs.Prelude.{ℕ, List, length, Option, Some, None, Ok, is_some, option_and_then, if◌then◌else◌, nat_lt, codes}
-use Rattle.serde_json.specs.Data.{Data, Items}
+-- Reading a trace: what bytes spell, or the first fault. A value is looked at before its elements, and these from the first to the last.
+use Rattle.std.specs.Prelude.{ℕ, List, [], length, Option, Some, None, Ok, is_some, option_and_then, if◌then◌else◌, nat_lt, codes}
+use Rattle.serde_json.specs.Data.{Data, Items, no_items, item}
 use Rattle.serde_json.specs.Find.{as_array, as_null}
 use Rattle.stm_history.specs.declared.revisions.TheConstants.{HIGHEST_NUMBER, HIGHEST_REVISION}
 use Rattle.stm_json.specs.declared.cause.Cause.TheVariants.{NotJson, Shape, TooLong}
 use Rattle.stm_json.specs.declared.limits.TheConstants.{MOST_BYTES}
 use Rattle.stm_json.specs.Bytes.{data_of}
-use Rattle.stm_json.specs.Elements.{worded, one_of, two_of, four_of, number_up_to, number_in}
+use Rattle.stm_json.specs.Elements.{worded, one_of, two_of, three_of, four_of, number_up_to, number_in}
 use Rattle.stm_json.specs.Outcome.{Outcome, bad, ◌>>=◌, within}
-use Rattle.stm_json.specs.Parts.{same, list_of, text_of}
+use Rattle.stm_json.specs.Parts.{same, each_from, list_of, text_of}
+use Rattle.stm_history.specs.declared.key_state.KeyState.{KeyState}
+use Rattle.stm_history.specs.Opening.{States}
 use Rattle.stm_history.specs.declared.change.Change.{Change}
 use Rattle.stm_history.specs.declared.change.Change.TheVariants.{Put, Del}
 use Rattle.stm_events.specs.declared.reply.CommittedRead.{CommittedRead}
-use Rattle.stm_texts.specs.Reading.{level_of}
+use Rattle.stm_outcome.specs.Terms.{most_operations}
+use Rattle.stm_txn.specs.declared.restored.Checkpoint.{Checkpoint}
+use Rattle.stm_texts.specs.Reading.{level_of, begins}
 use Rattle.stm_audit.specs.declared.commit.Commit.{Commit}
+use Rattle.stm_audit.specs.declared.trace.Trace.{Trace}
 
--- the elements of an array of four
+-- the elements of an array of three, and of one of four
+
+abbrev pub triple : Data → Option (Data × Data × Data)
+triple d = option_and_then three_of (as_array d)
+
 abbrev pub quad : Data → Option (Data × Data × Data × Data)
 quad d = option_and_then four_of (as_array d)
 
@@ -69,15 +78,54 @@ commit_by (Some p) =
 unfoldable pub commit_of : Data → Outcome Commit
 commit_of d = commit_by (quad d)
 
+-- ---- what a trace begins with
+
+-- A key with this value and modification revision, as though one put had made it, on no lease: an audit looks at nothing else of it.
+abbrev pub stood : List ℕ → ℕ → KeyState
+stood value revision = record { value = value; create_rev = revision; mod_rev = revision; version = 1; lease = 0 }
+
+abbrev pub key_by : Option (Data × Data × Data) → Outcome (List ℕ × KeyState)
+key_by None = bad Shape
+key_by (Some p) =
+    within 0 (text_of p.0) >>= λ key. within 1 (text_of p.1) >>= λ value. within 2 (number_in 1 HIGHEST_REVISION p.2) >>= λ revision. Ok
+    (key, stood value revision)
+
+unfoldable pub key_of : Data → Outcome (List ℕ × KeyState)
+key_of d = key_by (triple d)
+
+-- a store with these keys at a revision
+abbrev pub began : ℕ → States → Checkpoint
+began revision states = record { revision = revision; states = states; leases = []; operations = most_operations }
+
+abbrev pub beginning_by : Option (Data × Data) → Outcome Checkpoint
+beginning_by None = bad Shape
+beginning_by (Some p) =
+    within 1 (number_in 1 HIGHEST_REVISION p.0) >>= λ revision. within 2 (listed key_of p.1) >>= λ states. Ok (began revision states)
+
+-- by what follows the word begin
+abbrev pub beginning_of : Items → Outcome Checkpoint
+beginning_of ds = beginning_by (two_of ds)
+
 -- ---- traces
 
-abbrev pub trace_of : Data → Outcome (List Commit)
-trace_of d = listed commit_of d
+-- with what it begins with as the first element, and without
+abbrev pub trace_after : Option Items → Items → Items → Outcome Trace
+trace_after (Some parts) all rest =
+    within 0 (beginning_of parts) >>= λ opening. each_from commit_of 1 rest >>= λ ts. Ok (record { opening = Some opening; commits = ts })
+trace_after None all rest = each_from commit_of 0 all >>= λ ts. Ok (record { opening = None; commits = ts })
 
-abbrev pub trace_read : Option Data → Outcome (List Commit)
+abbrev pub trace_list : Option Items → Outcome Trace
+trace_list None = bad Shape
+trace_list (Some no_items) = Ok (record { opening = None; commits = [] })
+trace_list (Some (item d ds)) = trace_after (begins (worded d)) (item d ds) ds
+
+unfoldable pub trace_of : Data → Outcome Trace
+trace_of d = trace_list (as_array d)
+
+abbrev pub trace_read : Option Data → Outcome Trace
 trace_read None = bad NotJson
 trace_read (Some d) = trace_of d
 
 -- the trace that bytes spell: their number comes first, and then whether they are JSON
-unfoldable pub trace_in : List ℕ → Outcome (List Commit)
+unfoldable pub trace_in : List ℕ → Outcome Trace
 trace_in bytes = if nat_lt MOST_BYTES (length bytes) then bad TooLong else trace_read (data_of bytes)

@@ -1,20 +1,21 @@
 //! The audit of a trace.
-ghost use Rattle.std.specs.Prelude.{◌≡◌, ◌+◌, ◌≤◌, [], ◌++◌, true, false, map, nat_lt, min, max, IfOk, OnOk};
+ghost use Rattle.std.specs.Prelude.{◌≡◌, ◌+◌, ◌≤◌, [], ◌++◌, true, false, map, nat_lt, min, max, option_map, IfOk, OnOk};
 ghost use Rattle.std.specs.List.{list_any};
 ghost use Rattle.stm_history.specs.History.{now};
-ghost use Rattle.stm_txn.specs.Standing.{opening, at_revision};
 ghost use Rattle.stm_audit.specs.Anomalies.{found_in};
-ghost use Rattle.stm_audit.specs.Audit.{after, left_by, revision_of, is_reached, with_found, with_maker, is_put, before_first, opened, audit_from, audited};
+ghost use Rattle.stm_audit.specs.Audit.{after, left_by, revision_of, is_reached, with_found, with_maker, is_put, before_first, opened};
+ghost use Rattle.stm_audit.specs.Audit.{restoring, beginning, audit_from, audited};
 
 use crate::commit::Commit;
 use crate::finding::Finding;
 use crate::stale::found_in;
 use crate::store_after::comes_to;
+use crate::trace::Trace;
 use std::alloc::{AllocError, Global};
 use stm_events::Sequence;
 use stm_history::HIGHEST_REVISION;
 use stm_program::Write;
-use stm_txn::Store;
+use stm_txn::{Checkpoint, Store};
 
 /// What an audit comes to.
 #[derive(Debug, Drop)]
@@ -139,18 +140,44 @@ fn opened(commits: &[Commit]) -> u64
     before_first(commits).max(1).min(HIGHEST_REVISION)
 }
 
-/// Audits a trace: the commits of transactions in the order in which a store took them, of which each has the store's revision after it.
+/// The store that a trace says it begins with; none where no store can be so.
+fn restored(alloc: Global, checkpoint: &Checkpoint) -> Result<Option<Store>, AllocError>
+    ensures { IfOk result (λ o. option_map (λ s. s.standing) o ≡ restoring checkpoint.now) }
+{
+    let store = Store::restored(alloc, checkpoint)?;
+    Ok(store)
+}
+
+/// The store before a trace; none where no store can be as the trace says.
+fn beginning(alloc: Global, trace: &Trace) -> Result<Option<Store>, AllocError>
+    ensures { IfOk result (λ o. option_map (λ s. s.standing) o ≡ beginning trace.now.opening trace.now.commits) }
+{
+    match &trace.opening {
+        None => {
+            let store = Store::with_revision(alloc, opened(trace.commits.as_slice()))?;
+            Ok(Some(store))
+        }
+        Some(checkpoint) => {
+            let store = restored(alloc, checkpoint)?;
+            Ok(store)
+        }
+    }
+}
+
+/// Audits a trace; none where no store can be as it says that its own was (`can_restore`): its keys do not ascend, or a revision is above the store's.
 ///
-/// Before the first one no key is present. A read has to say what its key was at the revision that it is of. At a level that compares the keys read, each of
+/// A read has to say what its key was at the revision that it is of. At a level that compares the keys read, each of
 /// these has to be at the commit as it was read; at `SerializableSnapshot` no key that is written may have been put after the revision of the first read. What
 /// breaks one of these is a broken promise; a read whose key has been changed is a finding at ReadCommitted, too. Of a commit the first of these is found.
 ///
 /// It takes a step for each read and each write, and for each of these a search by halves in its key's revisions. It fails only where an allocation does.
-pub fn audit(alloc: Global, commits: &[Commit]) -> Result<Audited, AllocError>
-    ensures { IfOk result (λ a. a ≡ audited commits.now) }
+pub fn audit(alloc: Global, trace: &Trace) -> Result<Option<Audited>, AllocError>
+    ensures { IfOk result (λ a. a ≡ audited trace.now) }
 {
-    let mut store = Store::with_revision(alloc, opened(commits))?;
-    let audited = audit_each(alloc, &mut store, commits);
+    let Some(mut store) = beginning(alloc, trace)? else {
+        return Ok(None);
+    };
+    let audited = audit_each(alloc, &mut store, trace.commits.as_slice());
     drop(store);
-    audited
+    Ok(Some(audited?))
 }

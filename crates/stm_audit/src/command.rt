@@ -1,18 +1,19 @@
 //! The command `audit` over devices.
-ghost use Rattle.std.specs.Prelude.{◌≡◌, ◌≤◌, ◌+◌, false};
+ghost use Rattle.std.specs.Prelude.{◌≡◌, ◌≤◌, ◌+◌, false, IfOk};
 ghost use Rattle.stm_devices.specs.declared.transfer.TheConstants.{MOST_READ};
 ghost use Rattle.stm_explain.specs.Saying.{Reports};
-ghost use Rattle.stm_audit.specs.Command.{Prints, Answers, Gives, fault_status, fault_text, Writes, Ends};
+ghost use Rattle.stm_audit.specs.Lines.{audit_text, audit_status};
+ghost use Rattle.stm_audit.specs.Command.{misfit, IsMisfit, Prints, Answers, Gives, fault_status, fault_text, Writes, Ends};
 
-use crate::auditing::audit;
-use crate::commit::Commit;
+use crate::auditing::{Audited, audit};
 use crate::lines::{status_of, text_of};
 use crate::reading::read_trace;
+use crate::trace::Trace;
 use std::alloc::{AllocError, Global};
 use stm_devices::{ReadFault, Sink, Source, read_all, write_all};
-use stm_events::{Sequence, Text};
+use stm_events::Text;
 use stm_explain::Message;
-use stm_json::{BadInput, ReadError};
+use stm_json::{BadInput, Cause, ReadError};
 
 /// What is printed of an audit, and its status.
 #[derive(Drop)]
@@ -32,16 +33,50 @@ pub(crate) enum AuditFault {
     Device,
 }
 
-/// What is printed of the audit of these commits.
-fn print(alloc: Global, trace: &Sequence<Commit>) -> Result<Printed, AllocError>
+/// The fault of keys that no store can have had.
+fn misfit(alloc: Global) -> Result<BadInput, AllocError>
+    ensures { IfOk result (λ bad. bad ≡ misfit) }
+{
+    let place = Text::copy_of(alloc, "/0/2")?;
+    Ok(BadInput {
+        place,
+        cause: Cause::Range,
+    })
+}
+
+/// What is printed of an audit, of a trace that has so many commits.
+fn print(alloc: Global, audited: &Audited, commits: u64) -> Result<Printed, AllocError>
+    ensures { IfOk result (λ p. (p.text ≡ audit_text audited.now commits) × (p.status ≡ audit_status audited.now)) }
+{
+    let text = text_of(alloc, audited, commits)?;
+    Ok(Printed {
+        text: Text::new(text),
+        status: status_of(audited),
+    })
+}
+
+/// What is printed of a trace whose keys no store can have had: nothing.
+fn refused(alloc: Global) -> AuditFault
+    ensures { IsMisfit result }
+{
+    match misfit(alloc) {
+        Ok(bad) => AuditFault::Bad(bad),
+        Err(_) => AuditFault::OutOfMemory,
+    }
+}
+
+/// What is printed of a trace, or why nothing is.
+fn printed(alloc: Global, trace: &Trace) -> Result<Printed, AuditFault>
     ensures { Prints trace.now result }
 {
-    let audited = audit(alloc, trace.as_slice())?;
-    let status = status_of(&audited);
-    let text = text_of(alloc, &audited, trace.len() as u64);
-    drop(audited);
-    let text = Text::new(text?);
-    Ok(Printed { text, status })
+    match audit(alloc, trace) {
+        Err(_) => Err(AuditFault::OutOfMemory),
+        Ok(None) => Err(refused(alloc)),
+        Ok(Some(audited)) => match print(alloc, &audited, trace.commits.len() as u64) {
+            Ok(printed) => Ok(printed),
+            Err(_) => Err(AuditFault::OutOfMemory),
+        },
+    }
 }
 
 /// What is printed of the trace that bytes spell, or why nothing is.
@@ -49,10 +84,7 @@ fn printed_of(alloc: Global, bytes: &[u8]) -> Result<Printed, AuditFault>
     ensures { Answers bytes.now result }
 {
     match read_trace(alloc, bytes) {
-        Ok(trace) => match print(alloc, &trace) {
-            Ok(printed) => Ok(printed),
-            Err(_) => Err(AuditFault::OutOfMemory),
-        },
+        Ok(trace) => printed(alloc, &trace),
         Err(ReadError::OutOfMemory) => Err(AuditFault::OutOfMemory),
         Err(ReadError::Bad(bad)) => Err(AuditFault::Bad(bad)),
     }

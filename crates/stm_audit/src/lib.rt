@@ -16,6 +16,7 @@ mod reading;
 mod reads;
 mod stale;
 mod store_after;
+mod trace;
 
 pub use anomaly::Anomaly;
 pub use auditing::{Audited, audit};
@@ -25,6 +26,8 @@ pub use explaining::explain_trace;
 pub use finding::Finding;
 pub use reading::read_trace;
 pub use stm_devices::{Sink, Source, Std};
-pub use stm_events::{CommittedRead, Level, Sequence, Text};
+pub use stm_events::{CommittedRead, KeyState, Level, Sequence, Text};
 pub use stm_json::{BadInput, Cause, ReadError};
 pub use stm_program::Write;
+pub use stm_txn::{Checkpoint, KeptLease};
+pub use trace::Trace;

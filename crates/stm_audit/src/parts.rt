@@ -1,21 +1,21 @@
 //! The parts of commits: what is read of each, and of lists of them.
-ghost use Rattle.std.specs.Prelude.{◌≡◌, option_map};
+ghost use Rattle.std.specs.Prelude.{◌≡◌, ◌≤◌, drop, length, option_map};
 ghost use Rattle.serde_json.specs.Data.{Data};
 ghost use Rattle.serde_json.specs.View.{view, items_view};
-ghost use Rattle.stm_json.specs.Elements.{one_of, two_of};
+ghost use Rattle.stm_json.specs.Elements.{one_of, two_of, number_in};
 ghost use Rattle.stm_json.specs.Outcome.{Outcome, within as within_list};
 ghost use Rattle.stm_json.specs.Returns.{Returns};
 ghost use Rattle.stm_json.specs.Parts.{each_from, text_of};
 ghost use Rattle.stm_texts.specs.Reading.{level_named, level_of};
-ghost use Rattle.stm_audit.specs.Reading.{quad, listed, text_or_null, put_of, del_of};
+ghost use Rattle.stm_audit.specs.Reading.{triple, quad, listed, stood, text_or_null, put_of, del_of};
 
 use serde_json::Value as Json;
 use std::alloc::Global;
-use stm_events::{CommittedRead, Level, Sequence, Text};
-use stm_history::HIGHEST_NUMBER;
+use stm_events::{CommittedRead, KeyState, Level, Sequence, Text};
+use stm_history::{HIGHEST_NUMBER, HIGHEST_REVISION};
 use stm_json::{
-    Cause, ReadError, fault, four, number_part, number_within, one, text, text_part, two, within,
-    worded_array,
+    Cause, ReadError, fault, four, number_between, number_part, one, text, text_part, three, two,
+    within, worded_array,
 };
 use stm_program::Write;
 
@@ -40,12 +40,18 @@ pub(crate) fn read_within<T: Readable>(
     within(alloc, index, T::read(alloc, element))
 }
 
-fn each_element<T: Readable + Drop>(alloc: Global, values: &[Json]) -> Result<Vec<T>, ReadError>
-    ensures { Returns (λ v. v.items) result (each_from T.reading 0 (items_view values.now)) }
+/// What is read of the elements of a list from an index on.
+pub(crate) fn elements_from<T: Readable + Drop>(
+    alloc: Global,
+    first: usize,
+    values: &[Json],
+) -> Result<Vec<T>, ReadError>
+    requires { first ≤ length values.now }
+    ensures { Returns (λ v. v.items) result (each_from T.reading first (items_view (drop first values.now))) }
 {
     let mut elements = Vec::new(alloc);
-    for (index, value) in values.iter().enumerate() {
-        let element = read_within(alloc, index, value)?;
+    for index in first..values.len() {
+        let element = read_within(alloc, index, &values[index])?;
         elements.push(element)?;
     }
     Ok(elements)
@@ -57,7 +63,7 @@ impl<T: Readable + Drop> Readable for Sequence<T> {
     fn read(alloc: Global, value: &Json) -> Result<Sequence<T>, ReadError> {
         match value.as_array() {
             Some(values) => {
-                let elements = each_element(alloc, values.as_slice())?;
+                let elements = elements_from(alloc, 0, values.as_slice())?;
                 Ok(Sequence::of(elements))
             }
             None => Err(fault(alloc, Cause::Shape)),
@@ -71,6 +77,55 @@ pub(crate) fn elements(value: &Json) -> Option<(&Json, &Json, &Json, &Json)>
 {
     let items = value.as_array()?;
     four(items.as_slice())
+}
+
+/// The three elements of an array; `None` of any other value.
+fn three_elements(value: &Json) -> Option<(&Json, &Json, &Json)>
+    ensures { option_map (λ p. (view p.0.now, view p.1.now, view p.2.now)) result ≡ triple (view value.now) }
+{
+    let items = value.as_array()?;
+    three(items.as_slice())
+}
+
+/// A store's revision, which stands at an index.
+pub(crate) fn revision(alloc: Global, index: usize, value: &Json) -> Result<u64, ReadError>
+    ensures { Returns (λ n. n) result (within_list index (number_in 1 HIGHEST_REVISION (view value.now))) }
+{
+    within(
+        alloc,
+        index,
+        number_between(alloc, 1, HIGHEST_REVISION, value),
+    )
+}
+
+/// A key's state of which the value and the modification revision are known, and nothing else matters.
+fn stood(value: Text, revision: u64) -> KeyState
+    ensures { result ≡ stood value revision }
+{
+    KeyState {
+        value,
+        create_rev: revision,
+        mod_rev: revision,
+        version: 1,
+        lease: 0,
+    }
+}
+
+impl Readable for (Text, KeyState) {
+    ghost use Rattle.stm_audit.specs.Reading.{key_of};
+
+    ghost reading = { key_of };
+
+    #[tactic(auto, unfolding(crate::specs::Reading::key_of))]
+    fn read(alloc: Global, value: &Json) -> Result<(Text, KeyState), ReadError> {
+        let Some((first, second, third)) = three_elements(value) else {
+            return Err(fault(alloc, Cause::Shape));
+        };
+        let key = text_part(alloc, 0, first)?;
+        let value = text_part(alloc, 1, second)?;
+        let revision = revision(alloc, 2, third)?;
+        Ok((key, stood(value, revision)))
+    }
 }
 
 /// The level of a word.

@@ -1,16 +1,35 @@
 -- A trace, commit after commit, as a loop goes through it.
-use Rattle.std.proofs.Common.{◌≡◌, ℕ, suc, ◌+◌, ◌<◌, true, false, nat_lt, List, [], ◌∷◌, ◌++◌, length, drop, get_or, Option, Some, None}
-use Rattle.std.proofs.Common.{refl, sym, ◌∙◌, ap, arith, append_assoc, map, option_map, ◌≤◌, slice_get}
+use Rattle.std.proofs.Common.{◌≡◌, ℕ, suc, ◌+◌, ◌<◌, Bool, true, false, cond, nat_lt, List, [], ◌∷◌, ◌++◌, length, drop, get_or, Option, Some, None}
+use Rattle.std.proofs.Common.{refl, sym, ◌∙◌, ap, arith, append_assoc, map, option_map, ◌≤◌, slice_get, IfSome}
+use Rattle.std.specs.Prelude.{is_some}
 use Rattle.std.proofs.lemmas.List.{append-nil}
 use Rattle.std.proofs.lemmas.Option.{slice_get-map, slice_get-get_or, slice_get_past}
 use Rattle.std.proofs.Math.Seq.{drop-cons}
 use Rattle.stm_history.specs.History.{now}
+use Rattle.stm_txn.specs.declared.restored.Checkpoint.{Checkpoint}
+use Rattle.stm_txn.specs.Restored.{restored, can_restore}
 use Rattle.stm_txn.specs.Standing.{Standing}
+use Rattle.stm_txn.specs.Store.{StoreView}
 use Rattle.stm_audit.specs.declared.auditing.Audited.{Audited}
 use Rattle.stm_audit.specs.declared.commit.Commit.{Commit}
 use Rattle.stm_audit.specs.declared.finding.Finding.{Finding}
 use Rattle.stm_audit.specs.Anomalies.{found_in}
-use Rattle.stm_audit.specs.Audit.{after, revision_of, left_by, is_reached, with_found, with_maker, more, audit_from}
+use Rattle.stm_audit.specs.Audit.{after, revision_of, left_by, is_reached, with_found, with_maker, more, audit_from, restoring}
+
+-- ---- the store before a trace
+
+restored_by : (o : Option StoreView) (s : Standing) (b : Bool) → IfSome o (λ v. v.standing ≡ s) → is_some o ≡ b
+    → option_map (λ (v : StoreView). v.standing) o ≡ cond b (Some s) None
+restored_by None s true standing some = absurd (cc)
+restored_by None s false standing some = refl
+restored_by (Some v) s true standing some = ap Some standing
+restored_by (Some v) s false standing some = absurd (cc)
+
+pub restored_as : (o : Option StoreView) (c : Checkpoint) → IfSome o (λ v. v.standing ≡ restored c) → is_some o ≡ can_restore c
+    → option_map (λ (v : StoreView). v.standing) o ≡ restoring c
+restored_as o c standing some = restored_by o (restored c) (can_restore c) standing some
+
+-- ---- what is found
 
 -- what was found so far, and then what the rest comes to
 abbrev pub onto : List Finding → Audited → Audited

@@ -141,6 +141,7 @@ fn opened(commits: &[Commit]) -> u64
 }
 
 /// The store that a trace says it begins with; none where no store can be so.
+#[tactic(auto, using(crate::proofs::AuditLemmas::restored_as))]
 fn restored(alloc: Global, checkpoint: &Checkpoint) -> Result<Option<Store>, AllocError>
     ensures { IfOk result (λ o. option_map (λ s. s.standing) o ≡ restoring checkpoint.now) }
 {

@@ -66,7 +66,8 @@ fn refused(alloc: Global) -> AuditFault
 }
 
 /// What is printed of a trace, or why nothing is.
-fn printed(alloc: Global, trace: &Trace) -> Result<Printed, AuditFault>
+#[tactic(auto, using(crate::proofs::PrintLemmas::prints_of, crate::proofs::PrintLemmas::prints_none))]
+fn judge(alloc: Global, trace: &Trace) -> Result<Printed, AuditFault>
     ensures { Prints trace.now result }
 {
     match audit(alloc, trace) {
@@ -80,11 +81,12 @@ fn printed(alloc: Global, trace: &Trace) -> Result<Printed, AuditFault>
 }
 
 /// What is printed of the trace that bytes spell, or why nothing is.
+#[tactic(auto, using(crate::proofs::PrintLemmas::answers_of, crate::proofs::PrintLemmas::answers_bad))]
 fn printed_of(alloc: Global, bytes: &[u8]) -> Result<Printed, AuditFault>
     ensures { Answers bytes.now result }
 {
     match read_trace(alloc, bytes) {
-        Ok(trace) => printed(alloc, &trace),
+        Ok(trace) => judge(alloc, &trace),
         Err(ReadError::OutOfMemory) => Err(AuditFault::OutOfMemory),
         Err(ReadError::Bad(bad)) => Err(AuditFault::Bad(bad)),
     }

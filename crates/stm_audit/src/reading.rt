@@ -79,7 +79,7 @@ fn trace(alloc: Global, value: &Json) -> Result<Trace, ReadError>
     let Some(elements) = value.as_array() else {
         return Err(fault(alloc, Cause::Shape));
     };
-    let Some(first) = elements.first() else {
+    let Some((first, _)) = elements.split_first() else {
         return Ok(Trace {
             opening: None,
             commits: Sequence::new(alloc),

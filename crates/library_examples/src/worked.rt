@@ -12,7 +12,6 @@ use std::alloc::Global;
 /// Prints the line of each.
 pub(crate) fn run(rt: &impl Print, alloc: Global) -> Result<()> {
     closures::in_a_hall(rt, alloc)?;
-    closures::in_a_store(rt, alloc)?;
     closures::among_others(rt, alloc)?;
     requests::show_compares(rt, alloc)?;
     requests::show_branches(rt, alloc)?;

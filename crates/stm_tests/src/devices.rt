@@ -52,12 +52,11 @@ pub const NONE: Faults = Faults {
     err: NEVER,
 };
 
-/// A reader over memory, which counts its calls. One without an end gives the same bytes again and again.
+/// A reader over memory.
 #[derive(Drop)]
 pub struct Giver<'a> {
-    pub calls: usize,
+    calls: usize,
     rest: &'a [u8],
-    is_endless: bool,
     fault: Fault,
 }
 
@@ -74,19 +73,16 @@ impl Read for Giver<'_> {
         let count = self.fault.piece.min(self.rest.len()).min(buffer.len());
         let (front, rest) = self.rest.split_at(count);
         buffer[..count].copy_from_slice(front);
-        if !self.is_endless {
-            self.rest = rest;
-        }
+        self.rest = rest;
         Ok(count)
     }
 }
 
-/// A reader of bytes, once or again and again.
-pub fn reader_of(bytes: &[u8], is_endless: bool, fault: Fault) -> Giver<'_> {
+/// A reader of bytes.
+pub fn reader_of(bytes: &[u8], fault: Fault) -> Giver<'_> {
     Giver {
         calls: 0,
         rest: bytes,
-        is_endless,
         fault,
     }
 }

@@ -96,17 +96,14 @@ fn faults_of(failing: Failing, fault: Fault) -> Faults {
 fn run(alloc: Global, failing: Failing, fault: Fault) -> Left {
     let faults = faults_of(failing, fault);
     match failing {
-        Failing::ScriptInput | Failing::ScriptOutput => script(
-            alloc,
-            SCENARIO.as_bytes(),
-            false,
-            faults,
-        ),
-        Failing::ScriptMessage => script(alloc, BAD.as_bytes(), false, faults),
-        Failing::CheckScenario | Failing::CheckReport | Failing::CheckOutput => {
-            check(alloc, SCENARIO, REPORT, false, faults)
+        Failing::ScriptInput | Failing::ScriptOutput => {
+            script(alloc, SCENARIO.as_bytes(), faults)
         }
-        Failing::CheckMessage => check(alloc, BAD, REPORT, false, faults),
+        Failing::ScriptMessage => script(alloc, BAD.as_bytes(), faults),
+        Failing::CheckScenario | Failing::CheckReport | Failing::CheckOutput => {
+            check(alloc, SCENARIO, REPORT, faults)
+        }
+        Failing::CheckMessage => check(alloc, BAD, REPORT, faults),
         Failing::RecipeOutput => release(alloc, faults),
         Failing::RecipeMessage => dequeue(alloc, faults),
     }

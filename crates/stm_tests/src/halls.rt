@@ -1,6 +1,5 @@
 //! Worked examples of halls.
 
-mod compacted;
 mod expiries;
 mod player;
 mod verdicts;

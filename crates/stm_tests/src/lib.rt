@@ -1,7 +1,6 @@
-//! Tests of what has to be in memory, by the public calls of the crates: worked examples of programs and their meaning, of recipes, of the
-//! transactions of commits, of watchers and leases; stores, halls and attempts that commit to them; jobs that threads run and that are held on
-//! their way; worlds that share a store; and the program's commands over readers and writers that fail, a reader without an
-//! end, lines of reports, texts that no file of `tests/` holds, and an observer of a search. Cases from text to text stand in `tests/`.
+//! Tests of what has to be in memory, by the public calls of the crates: devices that fail at each of their calls; jobs that
+//! threads run and that are held on their way; halls, stores and worlds, by calls that no command makes; the effect of writes, and what is logged of
+//! values; and a clock of a search. Cases from text to text stand in `tests/`.
 //!
 //! This crate has no code but tests: one module for what is tested, and players that run rows of steps. They stand here, and not beside what
 //! they test, since a crate with tests is proved twice, and in one crate, since each crate proves anew how each type that it uses is dropped.
@@ -11,8 +10,6 @@
 mod attempts;
 #[cfg(test)]
 mod commands;
-#[cfg(test)]
-mod commits;
 #[cfg(test)]
 mod devices;
 #[cfg(test)]
@@ -28,37 +25,17 @@ mod halls;
 #[cfg(test)]
 mod jobs;
 #[cfg(test)]
-mod leases;
-#[cfg(test)]
-mod lines;
-#[cfg(test)]
 mod logged;
 #[cfg(test)]
 mod meaning;
-#[cfg(test)]
-mod openings;
-#[cfg(test)]
-mod player;
-#[cfg(test)]
-mod prefetched;
-#[cfg(test)]
-mod program;
-#[cfg(test)]
-mod readers;
-#[cfg(test)]
-mod recipes;
 #[cfg(test)]
 mod restored;
 #[cfg(test)]
 mod revisions;
 #[cfg(test)]
-mod shared;
-#[cfg(test)]
 mod shown;
 #[cfg(test)]
 mod stores;
-#[cfg(test)]
-mod texts;
 #[cfg(test)]
 mod threads;
 #[cfg(test)]

@@ -1,7 +1,5 @@
-//! What a store answers its callers beside what a scenario shows: which watcher is ready, reads below a floor that was raised and dropped
-//! nothing, and each of a thousand versions. What is expected comes from the rules of the store and of watches, and never from a run.
+//! Which watcher of a store is ready, which no command asks. What is expected comes from the rules of watches, and never from a run.
 
-mod keys;
 mod player;
 
 use crate::stores::player::{Step, are_reported};
@@ -140,55 +138,7 @@ const READY: [(&[Step], &str); 7] = [
     ),
 ];
 
-/// A floor that is raised, versions of a key, and the numbers of a store.
-const KEYS: [(&[Step], &str); 3] = [
-    // A raised floor refuses the same reads as a compaction, and drops nothing.
-    (
-        &[
-            Step::Change(PUT_A),
-            Step::Change(PUT_A),
-            Step::RaiseFloor(3),
-            Step::Read(2),
-            Step::LookBack(2),
-            Step::Read(3),
-            Step::RaiseFloor(3),
-            Step::RaiseFloor(4),
-            Step::Compact(3),
-            Step::Standing,
-        ],
-        "2; 3; done; Compacted; 1/2/2/1/0; 1/2/3/2/0; Compacted; FutureRevision; Compacted; \
-         revision 3 opening 1 floor 3 leases 0 moment 0; ",
-    ),
-    // Each of a thousand versions is found: each put counts on, and the key begins anew after its deletion.
-    (
-        &[
-            Step::PutNumbers(1000),
-            Step::Unlike(1000),
-            Step::Change(DELETE_A),
-            Step::Change(PUT_A),
-            Step::Read(1),
-            Step::Read(2),
-            Step::Read(501),
-            Step::Read(1001),
-            Step::Read(1002),
-            Step::Read(1003),
-            Step::Read(1004),
-        ],
-        "1001; 1002; 1003; -; 1/2/2/1/0; 500/2/501/500/0; 1000/2/1001/1000/0; -; 1/1003/1003/1/0; FutureRevision; ",
-    ),
-    // A new store opens at one.
-    (
-        &[Step::Standing],
-        "revision 1 opening 1 floor 0 leases 0 moment 0; ",
-    ),
-];
-
 #[test]
 fn a_store_reports_who_is_ready(rt: HostRuntime) -> Result<(), Fail> {
     are_reported(&rt, rt.alloc(), &READY)
-}
-
-#[test]
-fn a_store_reports_its_keys(rt: HostRuntime) -> Result<(), Fail> {
-    are_reported(&rt, rt.alloc(), &KEYS)
 }

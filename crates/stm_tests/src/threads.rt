@@ -79,7 +79,7 @@ fn ends<T: Abort + Threads + Wait + Sync>(
     ending: Ending,
 ) {
     let (scenario, faults) = failing_by(failing, fault);
-    let mut input = Std::new(reader_of(scenario.as_bytes(), false, faults.scenario));
+    let mut input = Std::new(reader_of(scenario.as_bytes(), faults.scenario));
     let mut out = Std::new(writer_of(alloc, faults.out));
     let mut err = Std::new(writer_of(alloc, faults.err));
     let ended = threads_to(rt, alloc, &mut input, 2, &mut out, &mut err);

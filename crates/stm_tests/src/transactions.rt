@@ -55,23 +55,6 @@ pub(crate) fn changes_of(alloc: Global, changes: &[Change]) -> Result<Txn, Alloc
     }
 }
 
-/// A put of a key with a value.
-pub(crate) fn put_of(alloc: Global, key: &str, value: &str) -> Result<Txn, AllocError> {
-    let key = Text::copy_of(alloc, key)?;
-    let value = Text::copy_of(alloc, value)?;
-    let mut success = ShortList::new(alloc);
-    success.push(Op::Put {
-        key,
-        value,
-        lease: 0,
-    })?;
-    Ok(Txn {
-        compares: ShortList::new(alloc),
-        success,
-        failure: ShortList::new(alloc),
-    })
-}
-
 /// A read of a key as it is now.
 pub(crate) fn read_of(alloc: Global, key: &str) -> Result<Txn, AllocError>
     ensures { IfOk result OnlyReads }

@@ -2,9 +2,7 @@
 use crate::worked::busy_store::BusyStore;
 use anyhow::Result;
 use std::alloc::Global;
-use stm_closures::{
-    Commit, Fetch, Hall, Level, NotCommitted, Store, Text, TransactionError, atomically,
-};
+use stm_closures::{Hall, Level, NotCommitted, Store, Text, TransactionError, atomically};
 
 /// What a transaction sees of a key after its own writes: the value, and the modification revision that it read.
 fn write_and_look(
@@ -32,13 +30,10 @@ fn write_and_refuse(alloc: Global, hall: &mut Hall) -> Result<(), NotCommitted<T
 }
 
 /// A transaction that puts on a lease that nobody granted.
-fn put_on_no_lease<D: Fetch + Commit>(
-    alloc: Global,
-    store: &mut D,
-) -> Result<(), NotCommitted<TransactionError>> {
+fn put_on_no_lease(alloc: Global, hall: &mut Hall) -> Result<(), NotCommitted<TransactionError>> {
     atomically(
         alloc,
-        store,
+        hall,
         Level::Serializable,
         1,
         |tx| tx.put("a", "9", 7),
@@ -46,12 +41,12 @@ fn put_on_no_lease<D: Fetch + Commit>(
 }
 
 /// The value of a key, and its modification revision.
-fn look<D: Fetch + Commit>(
+fn look(
     alloc: Global,
-    store: &mut D,
+    hall: &mut Hall,
     key: &str,
 ) -> Result<(Text, u64), NotCommitted<TransactionError>> {
-    atomically(alloc, store, Level::RepeatableReads, 1, |tx| {
+    atomically(alloc, hall, Level::RepeatableReads, 1, |tx| {
         let value = tx.get(key)?;
         let revision = tx.rev(key)?;
         Ok((value, revision))
@@ -94,30 +89,6 @@ pub(crate) fn in_a_hall(rt: &impl Print, alloc: Global) -> Result<()> {
     let mut hall = Hall::new(alloc, store);
     let played = play_in_a_hall(rt, alloc, &mut hall);
     drop(hall);
-    played
-}
-
-fn add_one(alloc: Global, store: &mut Store) -> Result<(), NotCommitted<TransactionError>> {
-    atomically(alloc, store, Level::SerializableSnapshot, 1, |tx| {
-        let value = tx.get("n")?;
-        tx.put("n", if value.as_str().is_empty() { "1" } else { "2" }, 0)
-    })
-}
-
-fn play_in_a_store(rt: &impl Print, alloc: Global, store: &mut Store) -> Result<()> {
-    say(rt, "first", add_one(alloc, store))?;
-    say(rt, "second", add_one(alloc, store))?;
-    say(rt, "no lease", put_on_no_lease(alloc, store))?;
-    let (value, revision) = look(alloc, store, "n")?;
-    println!(rt; "n = \"{value}\" @{revision}")?;
-    Ok(())
-}
-
-/// A plain store of a single user.
-pub(crate) fn in_a_store(rt: &impl Print, alloc: Global) -> Result<()> {
-    let mut store = Store::new(alloc)?;
-    let played = play_in_a_store(rt, alloc, &mut store);
-    drop(store);
     played
 }
 

@@ -1,7 +1,7 @@
 //! A hall over a store with two leases, whose keys are put and whose leases expire in the hall. What is expected comes from
 //! the rules of leases and of entries, and never from a run.
 
-use crate::halls::player::{Opening, Step, is_reported};
+use crate::halls::player::{Step, is_reported};
 use crate::transactions::Change;
 use std::test::Fail;
 
@@ -21,5 +21,5 @@ const STEPS: [Step; 7] = [
 fn a_moved_key_goes_with_its_last_lease(rt: HostRuntime) -> Result<(), Fail> {
     let expected =
         "2; 3; expired 1@3; expired 2@4; 4: a absent at 4 of 4; 0 keys; entries foreign foreign expire 1 expire 2; ";
-    is_reported(&rt, rt.alloc(), Opening::Filled(&[]), &STEPS, expected)
+    is_reported(&rt, rt.alloc(), &[], &STEPS, expected)
 }

@@ -16,15 +16,6 @@ use stm_hall::{Hall, Ready, prepare};
 use stm_program::Program;
 use stm_txn::{Refusal, Store};
 
-/// What stands in the store that a hall is made over.
-#[derive(Clone, Copy)]
-pub(crate) enum Opening {
-    /// Lease 1 of 5 seconds and lease 2 of 10, and these changes.
-    Filled(&'static [Change]),
-    /// "a" at revision 2 and "b" at revision 3, both put as "1", compacted at 3.
-    Compacted,
-}
-
 /// A step of an example, in constants.
 #[derive(Clone, Copy)]
 pub(crate) enum Step {
@@ -212,24 +203,10 @@ fn fill(alloc: Global, store: &mut Store, changes: &[Change]) -> Result<(), Refu
     change(alloc, store, changes)
 }
 
-/// Puts "a", then "b", and compacts the store at the second revision.
-fn compact(alloc: Global, store: &mut Store) -> Result<(), Refusal> {
-    change(alloc, store, &[Change::Put("a", 0)])?;
-    change(alloc, store, &[Change::Put("b", 0)])?;
-    store.compact(3)
-}
-
-fn prepare_store(alloc: Global, store: &mut Store, opening: Opening) -> Result<(), Refusal> {
-    match opening {
-        Opening::Filled(changes) => fill(alloc, store, changes),
-        Opening::Compacted => compact(alloc, store),
-    }
-}
-
-/// A hall over a store with what stands in it.
-fn hall_over(alloc: Global, opening: Opening) -> Result<Hall, Fail> {
+/// A hall over a store with these leases, in which these changes were made.
+fn hall_over(alloc: Global, changes: &[Change]) -> Result<Hall, Fail> {
     let mut store = Store::new(alloc)?;
-    match prepare_store(alloc, &mut store, opening) {
+    match fill(alloc, &mut store, changes) {
         Ok(()) => Ok(Hall::new(alloc, store)),
         Err(refusal) => {
             drop(store);
@@ -242,33 +219,33 @@ fn hall_over(alloc: Global, opening: Opening) -> Result<Hall, Fail> {
 fn play(
     alloc: Global,
     program: &Program,
-    opening: Opening,
+    changes: &[Change],
     steps: &[Step],
 ) -> Result<String, Fail> {
     let mut reported = String::new(alloc);
-    let mut hall = hall_over(alloc, opening)?;
+    let mut hall = hall_over(alloc, changes)?;
     let done = take_all(alloc, &mut reported, &mut hall, program, steps);
     drop(hall);
     done?;
     Ok(reported)
 }
 
-fn played(alloc: Global, opening: Opening, steps: &[Step]) -> Result<String, Fail> {
+fn played(alloc: Global, changes: &[Change], steps: &[Step]) -> Result<String, Fail> {
     let program = program(alloc, r#"[["emit",["get","a"]]]"#)?;
-    let reported = play(alloc, &program, opening, steps);
+    let reported = play(alloc, &program, changes, steps);
     drop(program);
     reported
 }
 
-/// Asserts what the steps show, in a hall over a store in which this stands.
+/// Asserts what the steps show, in a hall over a store with these leases, in which these changes were made.
 pub(crate) fn is_reported(
     rt: &impl Abort,
     alloc: Global,
-    opening: Opening,
+    changes: &[Change],
     steps: &[Step],
     expected: &str,
 ) -> Result<(), Fail> {
-    let reported = played(alloc, opening, steps)?;
+    let reported = played(alloc, changes, steps)?;
     assert_eq!(rt; reported.as_str(), expected);
     Ok(())
 }

@@ -1,12 +1,12 @@
 //! What a hall says to a fetch of a caller that has seen more, and to attempts that read what it has or has not. What is
 //! expected comes from the rules of fetches and commits, and never from a run.
 
-use crate::halls::player::{Opening, Step, is_reported};
+use crate::halls::player::{Step, is_reported};
 use crate::transactions::Change;
 use std::test::Fail;
 
 /// A store that put "a" as "1" at revision 2.
-const A_AT_TWO: Opening = Opening::Filled(&[Change::Put("a", 0)]);
+const A_AT_TWO: &[Change] = &[Change::Put("a", 0)];
 
 /// Steps on a hall over a store that put "a" as "1" at revision 2, and what they show.
 const EXAMPLES: [(&[Step], &str); 8] = [

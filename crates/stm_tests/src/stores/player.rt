@@ -3,7 +3,6 @@
 //! An example is a list of steps and one text: a test that holds a store in hand over many calls is slow to prove.
 
 use crate::shown::{report_advanced, report_foreign};
-use crate::stores::keys::{put_numbers, report_back, report_read, report_unlike};
 use crate::transactions::{Change, changes_of};
 use std::alloc::{AllocError, Global};
 use std::process::Abort;
@@ -15,21 +14,8 @@ use stm_txn::{Refusal, Store};
 pub(crate) enum Step {
     /// A transaction that makes these changes, in their order. Its revision is shown.
     Change(&'static [Change]),
-    /// Puts "a" with the texts of 1 to this number, each in a revision of its own, and shows the last revision.
-    PutNumbers(u64),
-    /// What "a" is at each revision of that many puts where the read shows something else than the number that was put there: nothing
-    /// where each is right.
-    Unlike(u64),
-    /// What "a" was at a revision.
-    Read(u64),
-    /// What "a" was at a revision that has come, below the floor too.
-    LookBack(u64),
     /// Compacts the store at a revision.
     Compact(u64),
-    /// Makes a revision the floor, and drops nothing.
-    RaiseFloor(u64),
-    /// The counter, the opening, the floor, the number of live leases and the moment.
-    Standing,
     Grant(u64, u64),
     Revoke(u64),
     Advance(u64),
@@ -111,18 +97,6 @@ fn next_is_one_of(
     write!(reported, "{}", next == Some(first) || next == Some(second))
 }
 
-fn report_standing(reported: &mut String, store: &Store) -> Result<(), AllocError> {
-    write!(
-        reported,
-        "revision {} opening {} floor {} leases {} moment {}",
-        store.keys().revision(),
-        store.keys().opening(),
-        store.floor(),
-        store.lease_count(),
-        store.moment()
-    )
-}
-
 /// Takes one step, and shows what was answered.
 fn take(
     alloc: Global,
@@ -132,13 +106,7 @@ fn take(
 ) -> Result<(), AllocError> {
     match step {
         Step::Change(changes) => change(alloc, reported, store, changes),
-        Step::PutNumbers(count) => put_numbers(alloc, reported, store, count),
-        Step::Unlike(count) => report_unlike(alloc, reported, store.keys(), count),
-        Step::Read(revision) => report_read(reported, store.keys(), revision),
-        Step::LookBack(revision) => report_back(reported, store.keys(), revision),
         Step::Compact(revision) => report_done(reported, store.compact(revision)),
-        Step::RaiseFloor(revision) => report_done(reported, store.raise_floor(revision)),
-        Step::Standing => report_standing(reported, store),
         Step::Grant(id, ttl) => report_done(reported, store.grant(id, ttl)),
         Step::Revoke(id) => report_answered(reported, "at ", store.revoke(id)),
         Step::Advance(moment) => advance(reported, store, moment),
@@ -153,15 +121,7 @@ fn take(
     }
 }
 
-/// Ends an answer by `; `, where something was added since the text had this length.
-fn end_answer(reported: &mut String, length: usize) -> Result<(), AllocError> {
-    if reported.len() == length {
-        return Ok(());
-    }
-    reported.push_str("; ")
-}
-
-/// Takes the steps, and shows the answers.
+/// Takes the steps, and shows the answers, `; ` after each.
 fn take_all(
     alloc: Global,
     reported: &mut String,
@@ -169,9 +129,8 @@ fn take_all(
     steps: &[Step],
 ) -> Result<(), AllocError> {
     for step in steps {
-        let length = reported.len();
         take(alloc, reported, store, *step)?;
-        end_answer(reported, length)?;
+        reported.push_str("; ")?;
     }
     Ok(())
 }

@@ -1,7 +1,7 @@
 //! Inputs that are read as JSON: files of it, and sources, which are compiled first.
 ghost use Rattle.std.specs.Prelude.{◌≡◌, false};
 
-use crate::explaining::{has_hidden, kept, name_of, say_unread, say_unwritten};
+use crate::explaining::{has_hidden, name_of, say_unread, say_unwritten};
 use crate::files::{Opened, open, open_beside};
 use crate::naming::{Called, RUNNERS, with_names};
 use crate::noting::Noting;
@@ -28,6 +28,9 @@ const STANDARD: &str = "-";
 
 /// What stands before what a command has to say, also where it explains nothing.
 const OWN: &str = "stmrun: ";
+
+/// With this begins a line of what explore answers, and nothing that a source has.
+const ANSWER: &str = "[\"";
 
 /// The words and signs with which a source begins, and nothing that is JSON.
 const BEGINNINGS: [&str; 17] = [
@@ -91,12 +94,15 @@ fn line_of<'a>(rt: &HostRuntime, path: &str, line: Text) -> Result<JsonFile<'a>,
     }
 }
 
-/// What the file of a path has, or standard input, or the status, once it was said why it cannot be read.
+/// What the file of a path has, or standard input, without answers of explore; or the status, once it was said why it cannot be read.
 fn bytes_at(rt: &HostRuntime, path: &str) -> Result<Vec<u8>, u8> {
     let mut input = Std::new(Noting::new(open(rt, path)));
     let read = read_all(rt.alloc(), &mut input);
     match read {
-        Ok(bytes) => Ok(bytes),
+        Ok(mut bytes) => {
+            without_answers(bytes.as_mut_slice());
+            Ok(bytes)
+        }
         Err(ReadFault::OutOfMemory) => Err(out_of_memory(rt)),
         Err(ReadFault::Device) => {
             let _ = rt.eprintln("stmrun: device fault");
@@ -133,6 +139,34 @@ pub(crate) fn begins_source(text: &str) -> bool {
         }
     }
     false
+}
+
+/// How many bytes the answers of explore have in front of a source: none, where what stands behind them is no source.
+fn answers_before(text: &str) -> usize {
+    let mut count = 0usize;
+    for line in text.lines() {
+        if !line.starts_with(ANSWER) {
+            break;
+        }
+        count = count.saturating_add(line.len()).saturating_add(1);
+    }
+    match text.get(count..) {
+        Some(behind) if begins_source(behind) => count,
+        _ => 0,
+    }
+}
+
+/// Makes spaces of the answers of explore in front of a source, so that what it prints is read as the source behind them, with the lines as they are.
+fn without_answers(bytes: &mut [u8]) {
+    let count = answers_before(front_of(bytes));
+    let Some(front) = bytes.get_mut(..count) else {
+        return;
+    };
+    for byte in front.iter_mut() {
+        if *byte != b'\n' {
+            *byte = b' ';
+        }
+    }
 }
 
 /// A scenario, and what is known of its source.
@@ -628,6 +662,17 @@ fn line_printed<S>(
     }
 }
 
+/// The source of a path, which has these bytes, to be read and kept.
+fn held_source<'a>(
+    rt: &HostRuntime,
+    path: &'a str,
+    bytes: &'a [u8],
+) -> KeptSource<'a, Std<&'a [u8]>>
+    ensures { result.source.failed ≡ false }
+{
+    KeptSource::new(rt.alloc(), name_of(path), Std::new(bytes))
+}
+
 /// A copy of a text, where there is one; none, where an allocation fails.
 fn copy_of(rt: &HostRuntime, text: Option<&str>) -> Option<String> {
     let text = text?;
@@ -651,7 +696,8 @@ pub(crate) fn program_at<'a>(
     words: &[String],
     explain: bool,
 ) -> Result<GivenProgram<'a>, u8> {
-    let mut input = kept(rt, path);
+    let bytes = bytes_at(rt, path)?;
+    let mut input = held_source(rt, path, bytes.as_slice());
     let said: Vec<u8> = Vec::new(rt.alloc());
     let mut err = Std::new(said);
     let part = Part::Program { name, words };
@@ -659,7 +705,6 @@ pub(crate) fn program_at<'a>(
     let printed = compiled_part(rt.alloc(), part, explained, &mut input, &mut err);
     let printed = line_printed(rt, path, part, printed, &err, &input);
     let text = copy_of(rt, input.text());
-    say_unread(rt, name_of(path), input.source.device.failure);
     let file = line_of(rt, path, printed?)?;
     Ok(GivenProgram { file, text })
 }
@@ -683,9 +728,9 @@ pub(crate) fn say_in_program(
     }
 }
 
-/// Prints a part of a path's source. A fault is explained, or is not.
-pub(crate) fn run_compile(rt: &HostRuntime, path: &str, part: Part<'_>, explain: bool) -> u8 {
-    let mut input = kept(rt, path);
+/// Prints a part of the source of a path, which has these bytes. A fault is explained, or is not.
+fn compile_bytes(rt: &HostRuntime, path: &str, bytes: &[u8], part: Part<'_>, explain: bool) -> u8 {
+    let mut input = held_source(rt, path, bytes);
     let mut out = Std::new(Noting::new(rt.stdout()));
     let said: Vec<u8> = Vec::new(rt.alloc());
     let mut err = Std::new(said);
@@ -698,9 +743,16 @@ pub(crate) fn run_compile(rt: &HostRuntime, path: &str, part: Part<'_>, explain:
         &mut err,
     );
     let status = say_part(rt, path, part, status, &err, &input);
-    say_unread(rt, name_of(path), input.source.device.failure);
     if explain {
         say_unwritten(rt, out.device.failure);
     }
     status
+}
+
+/// Prints a part of a path's source. A fault is explained, or is not.
+pub(crate) fn run_compile(rt: &HostRuntime, path: &str, part: Part<'_>, explain: bool) -> u8 {
+    match bytes_at(rt, path) {
+        Ok(bytes) => compile_bytes(rt, path, bytes.as_slice(), part, explain),
+        Err(status) => status,
+    }
 }

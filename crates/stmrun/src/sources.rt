@@ -15,6 +15,7 @@ use stm_compiling::{
     named_runners, notes_of, placed_program, refused_in,
 };
 use stm_devices::{ReadFault, read_all};
+use stm_explain::Said;
 use stm_history::{Sequence, Text};
 
 /// What the names of sources end in.
@@ -312,12 +313,7 @@ pub(crate) fn rules_at(rt: &HostRuntime, path: &str, explain: bool) -> Result<Se
 }
 
 /// Lines about a source, with the names that it gives to runners, which are called so.
-fn named_lines(
-    alloc: Global,
-    lines: &str,
-    called: Called,
-    runners: &[NamedRunner],
-) -> Result<String, AllocError> {
+fn named_lines(alloc: Global, lines: &str, called: Called, runners: &[NamedRunner]) -> Said {
     let mut named = String::new(alloc);
     for line in lines.lines() {
         let line = with_names(alloc, called, runners, line)?;
@@ -333,7 +329,7 @@ fn with_source(
     placed: &PlacedLine<'_>,
     called: Called,
     runners: &[NamedRunner],
-) -> Result<String, AllocError> {
+) -> Said {
     let mut said = named_lines(alloc, placed.words.as_str(), called, runners)?;
     said.push_str("    ")?;
     said.push_str(placed.source)?;
@@ -360,7 +356,7 @@ fn placed_line(
     places: &SourcePlaces<'_>,
     called: Called,
     runners: &[NamedRunner],
-) -> Result<String, AllocError> {
+) -> Said {
     match places.placed(alloc, line) {
         Ok(Some(placed)) => with_source(alloc, &placed, called, runners),
         Ok(None) => named_lines(alloc, line, called, runners),
@@ -394,12 +390,7 @@ pub(crate) fn say_no_jobs(rt: &HostRuntime, given: &Given<'_>, err: &Std<Vec<u8>
 }
 
 /// What is said of runs by these lines: with the places of the source of their scenario, where it has one, and with the names that this gives to runners.
-fn said_of_runs(
-    alloc: Global,
-    given: &Given<'_>,
-    called: Called,
-    lines: &str,
-) -> Result<String, AllocError> {
+fn said_of_runs(alloc: Global, given: &Given<'_>, called: Called, lines: &str) -> Said {
     let runners = runners_of(alloc, given)?;
     let name = name_of_source(given);
     let text = match &given.text {
@@ -437,12 +428,7 @@ fn say_of_runs(rt: &HostRuntime, given: &Given<'_>, called: Called, lines: &str)
 }
 
 /// Lines that say which rules are not asked, and which runners do not wait, with the names of runners.
-fn named_notes(
-    alloc: Global,
-    rules: &[Rule],
-    waits: &[Wait],
-    runners: &[NamedRunner],
-) -> Result<String, AllocError> {
+fn named_notes(alloc: Global, rules: &[Rule], waits: &[Wait], runners: &[NamedRunner]) -> Said {
     let notes = notes_of(alloc, rules, waits)?;
     named_lines(alloc, notes.as_str(), RUNNERS, runners)
 }
@@ -550,11 +536,7 @@ fn text_kept<'a, S>(input: &'a KeptSource<'_, S>) -> Result<Option<&'a str>, All
 }
 
 /// What was said of a source that was compiled, with the names that its text gives to runners.
-fn named_compiled<S>(
-    alloc: Global,
-    lines: &str,
-    input: &KeptSource<'_, S>,
-) -> Result<String, AllocError> {
+fn named_compiled<S>(alloc: Global, lines: &str, input: &KeptSource<'_, S>) -> Said {
     let text = text_kept(input)?;
     let runners = runners_in(alloc, text.unwrap_or(""))?;
     named_lines(alloc, lines, RUNNERS, runners.as_slice())

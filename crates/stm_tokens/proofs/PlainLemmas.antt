@@ -1,12 +1,12 @@
 -- Texts without escapes: their bytes stand for themselves.
-use Rattle.std.proofs.Common.{◌≡◌, ◌<◌, ◌≤◌, ◌+◌, ◌++◌, ℕ, zero, suc, List, [], ◌∷◌, length, take, get_or, Bool, true, false, not, ◌&&◌, Option, Some, None, option_and_then, refl, sym, ap, ◌∙◌, subst, arith, IsUtf8}
+use Rattle.std.proofs.Common.{◌≡◌, ◌<◌, ◌+◌, ◌++◌, ℕ, suc, List, ◌∷◌, length, take, get_or, Bool, true, false, not, ◌&&◌, Option, Some, option_and_then, refl, sym, ap, ◌∙◌, subst, arith, IsUtf8}
 use Rattle.std.proofs.Math.Seq.{take-suc}
 use Rattle.std.proofs.lemmas.Bool.Decides.{nat_tests}
 use Rattle.std.proofs.lemmas.List.{length-take-le}
 use Rattle.std.proofs.lemmas.Str.{IsUtf8-append, IsUtf8-from_ascii}
-use Rattle.std.specs.Prelude.{nat_eq, nat_le, nat_lt, slice_index}
+use Rattle.std.specs.Prelude.{nat_eq, nat_lt, slice_index}
 use Rattle.json.specs.Json.{value, if_last}
-use Rattle.json.specs.Lex.{Lexeme, Mode, lex, lex_byte, class, punctuate, tokens, in_string, between}
+use Rattle.json.specs.Lex.{Lexeme, Mode, lex, lex_byte, class, punctuate, tokens, in_string}
 use Rattle.json.specs.Text.{content, plain}
 use Rattle.json.specs.Token.{Token, string}
 use Rattle.json.specs.Word.{is_operator, is_space}
@@ -16,7 +16,7 @@ use Rattle.stm_tokens.specs.declared.runs.Run.TheVariants.{Plain}
 use Rattle.stm_tokens.specs.declared.token.TokenKind.TheVariants as kind
 use Rattle.stm_tokens.specs.Quoted.{closing, text_in}
 use Rattle.stm_tokens.specs.Runs.{run, is_in}
-use Rattle.stm_tokens.specs.Tokens.{text_piece, text_of_length}
+use Rattle.stm_tokens.specs.Tokens.{text_piece}
 use Rattle.stm_tokens.proofs.QuotedLemmas.{text_in-json}
 
 -- a quote closes the text behind its plain bytes
@@ -24,15 +24,11 @@ abbrev Closed : List ℕ → Type 0
 Closed bs = (run Plain bs < length bs) × (get_or bs (run Plain bs) 0 ≡ 34)
 
 tests : (p q r : Bool) → (not p && not q && r) ≡ true → (p ≡ false) × (q ≡ false) × (r ≡ true)
-tests true q r is = absurd (cc)
-tests false true r is = absurd (cc)
-tests false false r is = (refl, refl, is)
+tests p q r is = grind arith
 
 -- a plain byte is neither a quote nor a backslash nor a control character
 is_plain : (b : ℕ) → is_in Plain b ≡ true → (nat_eq b 34 ≡ false) × (nat_eq b 92 ≡ false) × (nat_lt b 32 ≡ false)
-is_plain b is =
-    let t = tests (nat_eq b 34) (nat_eq b 92) (nat_le 32 b) is in
-    let e = t.2 in (t.0, t.1, grind (arith, nat_tests))
+is_plain b is = grind arith
 
 run-more : (b : ℕ) (bs : List ℕ) → is_in Plain b ≡ true → run Plain (b ∷ bs) ≡ suc (run Plain bs)
 run-more b bs is = rw is refl
@@ -56,12 +52,7 @@ closing-byte b bs before q w = rw (q, w) refl
 
 closing-by : (b : ℕ) (bs : List ℕ) (before n : ℕ) → ((n : ℕ) → suc before + run Plain bs ≡ n → Closed bs → closing (suc before) false bs ≡ Some (suc n))
     → (p : Bool) → is_in Plain b ≡ p → before + run Plain (b ∷ bs) ≡ n → Closed (b ∷ bs) → closing before false (b ∷ bs) ≡ Some (suc n)
-closing-by b bs before n more true is sum c =
-    let t = is_plain b is in
-    let sum : suc before + run Plain bs ≡ n = omega (arith, run-more b bs is, sum) in
-    closing-byte b bs before t.0 t.1 ∙ more n sum (behind b bs is c)
-closing-by b bs before n more false is sum c =
-    let e : before ≡ n = omega (arith, run-stop b bs is, sum) in rw (quote_at b bs is c, e) refl
+closing-by b bs before n more p is sum c = grind arith
 
 closing-plain : (bs : List ℕ) (before n : ℕ) → before + run Plain bs ≡ n → Closed bs → closing before false bs ≡ Some (suc n)
 closing-plain [] before n sum c = absurd (omega (arith, c.0))
@@ -80,13 +71,7 @@ content-end = refl
 
 content-by : (b : ℕ) (bs : List ℕ) → (Closed bs → content plain (take (suc (run Plain bs)) bs) ≡ Some (take (run Plain bs) bs))
     → (p : Bool) → is_in Plain b ≡ p → Closed (b ∷ bs) → content plain (take (suc (run Plain (b ∷ bs))) (b ∷ bs)) ≡ Some (take (run Plain (b ∷ bs)) (b ∷ bs))
-content-by b bs more true is c =
-    let t = is_plain b is in
-    subst (λ (k : ℕ). content plain (take (suc k) (b ∷ bs)) ≡ Some (take k (b ∷ bs))) (sym (run-more b bs is))
-    (content-byte b (take (suc (run Plain bs)) bs) (take (run Plain bs) bs) t.0 t.1 t.2 (more (behind b bs is c)))
-content-by b bs more false is c =
-    subst (λ (k : ℕ). content plain (take (suc k) (b ∷ bs)) ≡ Some (take k (b ∷ bs))) (sym (run-stop b bs is))
-    (subst (λ (k : ℕ). content plain (k ∷ []) ≡ Some []) (sym (quote_at b bs is c)) content-end)
+content-by b bs more p is c = grind (arith, nat_tests, is_plain, run-more, content-byte, behind, run-stop, quote_at, content-end)
 
 content-plain : (bs : List ℕ) → Closed bs → content plain (take (suc (run Plain bs)) bs) ≡ Some (take (run Plain bs) bs)
 content-plain [] c = absurd (omega (arith, c.0))
@@ -94,9 +79,7 @@ content-plain (b ∷ bs) c = content-by b bs (content-plain bs) (is_in Plain b) 
 
 in-string : (b : ℕ) (xs : List ℕ) (k : Mode → List Lexeme) (o s : Bool) → nat_eq b 34 ≡ false → nat_eq b 92 ≡ false → is_operator b ≡ o → is_space b ≡ s
     → lex_byte in_string (class b) b xs k ≡ k in_string
-in-string b xs k true s q w o-is s-is = rw (q, w, o-is) refl
-in-string b xs k false true q w o-is s-is = rw (q, w, o-is, s-is) refl
-in-string b xs k false false q w o-is s-is = rw (q, w, o-is, s-is) refl
+in-string b xs k o s q w h8 h9 = grind arith
 
 lex-byte : (b : ℕ) (xs : List ℕ) → nat_eq b 34 ≡ false → nat_eq b 92 ≡ false → lex in_string (b ∷ xs) ≡ lex in_string xs
 unfolding lex
@@ -108,13 +91,7 @@ lex-end = refl
 
 lex-by : (b : ℕ) (bs : List ℕ) → (Closed bs → lex in_string (take (suc (run Plain bs)) bs) ≡ [])
     → (p : Bool) → is_in Plain b ≡ p → Closed (b ∷ bs) → lex in_string (take (suc (run Plain (b ∷ bs))) (b ∷ bs)) ≡ []
-lex-by b bs more true is c =
-    let t = is_plain b is in
-    subst (λ (k : ℕ). lex in_string (take (suc k) (b ∷ bs)) ≡ []) (sym (run-more b bs is))
-    (lex-byte b (take (suc (run Plain bs)) bs) t.0 t.1 ∙ more (behind b bs is c))
-lex-by b bs more false is c =
-    subst (λ (k : ℕ). lex in_string (take (suc k) (b ∷ bs)) ≡ []) (sym (run-stop b bs is))
-    (subst (λ (k : ℕ). lex in_string (k ∷ []) ≡ []) (sym (quote_at b bs is c)) lex-end)
+lex-by b bs more p is c = grind (arith, nat_tests, is_plain, run-more, lex-byte, behind, run-stop, quote_at, lex-end)
 
 lex-plain : (bs : List ℕ) → Closed bs → lex in_string (take (suc (run Plain bs)) bs) ≡ []
 lex-plain [] c = absurd (omega (arith, c.0))
@@ -157,7 +134,4 @@ plain_piece bs text c same utf8 =
 
 pub plain_bytes : (bytes : List ℕ) (first : ℕ) (rest : List ℕ) (n : ℕ) (text : List ℕ) → bytes ≡ first ∷ rest → n ≡ run Plain rest → first ≡ 34 → n < length rest
     → slice_index rest n ≡ 34 → text ≡ take n rest → IsUtf8 text → text_piece bytes ≡ Some (kind.Text text, length text + 2)
-plain_bytes bytes first rest n text split is quote less end same utf8 =
-    let c : Closed rest = subst (λ (k : ℕ). (k < length rest) × (get_or rest k 0 ≡ 34)) is (less, end) in
-    let same : text ≡ take (run Plain rest) rest = subst (λ (k : ℕ). text ≡ take k rest) is same in
-    rw (split, quote) (plain_piece rest text c same utf8)
+plain_bytes bytes first rest n text split is quote less end same utf8 = grind (arith, nat_tests, plain_piece)

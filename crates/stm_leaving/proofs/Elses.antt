@@ -1,18 +1,16 @@
 -- A look-up with `else` in front of its statement.
-use Rattle.std.proofs.Common.{◌≡◌, ◌<◌, ℕ, true, false, refl, sym, ◌∙◌, ap, List, [], ◌∷◌, length}
-use Rattle.std.specs.Prelude.{pos, Option, None, Some}
+use Rattle.std.proofs.Common.{◌≡◌, ◌<◌, ℕ, true, false, refl, sym, ◌∙◌, ap, List, [], ◌∷◌, length, arith}
+use Rattle.std.specs.Prelude.{pos}
 use Rattle.std.proofs.lemmas.List.{get_or-set_same}
-use Rattle.stm_program.specs.Syntax.{Expression, Statement, Block}
-use Rattle.stm_program.specs.Syntax.{Text, Variable, Get, Equal, Set, If, End, Then}
-use Rattle.stm_history.specs.declared.change.Change.{Change as Write}
+use Rattle.std.proofs.lemmas.Bool.Decides.{nat_tests}
+use Rattle.stm_program.specs.Syntax.{Expression, Statement, Block, Text, Variable, Get, Equal, Set, If, End, Then}
 use Rattle.stm_steps.specs.declared.value.Value.{Value}
 use Rattle.stm_steps.specs.declared.value.Value.TheVariants.{Text as TextValue, Number as NumberValue}
-use Rattle.stm_steps.specs.Answer.{Answer, Lookup}
-use Rattle.stm_steps.specs.Values.{key_in, equal}
+use Rattle.stm_steps.specs.Answer.{Lookup}
+use Rattle.stm_steps.specs.Values.{equal}
 use Rattle.stm_steps.specs.Session.{Session, with_variable}
 use Rattle.stm_steps.specs.Outcome.{Outcome, Gives, Stops, and_then, given}
-use Rattle.stm_program.specs.Writes.{last_write}
-use Rattle.stm_steps.specs.Meaning.{get_answered, get_of, get_key, evaluate, holds, branch, run_statement, run_block}
+use Rattle.stm_steps.specs.Meaning.{get_key, evaluate, holds, branch, run_statement, run_block}
 use Rattle.stm_leaving.specs.Elses.{or_else, evaluate_else, mentions, fill_plain, is_plain, lifted, but_for}
 use Rattle.stm_leaving.specs.Elses.{but_for_at_stops, SetElseRunsAlike, LiftedRunsAlike}
 use Rattle.stm_leaving.specs.Heads.{LiftedComesTo}
@@ -29,27 +27,13 @@ module _ (look : Lookup) (v : ℕ) where
   IsGot (Gives (NumberValue n) s) = ⊥
   IsGot (Stops stop s) = Unit {0}
 
-  got_then : {X : Type 0} (o : Outcome X) (f : X → Session → Outcome Value) → ((x : X) (t : Session) → IsGot (f x t)) → IsGot (and_then o f)
-  got_then (Gives x s) f h = h x s
-  got_then (Stops stop s) f h = tt
-
-  answered_is_got : (key : List ℕ) (a : Option Answer) (s : Session) → IsGot (get_answered key a s)
-  answered_is_got key None s = tt
-  answered_is_got key (Some a) s = tt
-
-  get_of_is_got : (key : List ℕ) (w : Option Write) (s : Session) → IsGot (get_of look key w s)
-  get_of_is_got key None s = answered_is_got key (look key) s
-  get_of_is_got key (Some w) s = tt
-
   get_key_is_got : (key : List ℕ) (s : Session) → IsGot (get_key look key s)
   unfolding get_key
-  get_key_is_got key s = get_of_is_got key (last_write key s.writes) s
+  get_key_is_got key s = grind (arith, nat_tests)
 
   get_is_got : (e : Expression) (s : Session) → IsGot (evaluate look (Get e) s)
   unfolding evaluate
-  get_is_got e s =
-      got_then (evaluate look e s) (λ x t. and_then (given (key_in x) t) (get_key look))
-      (λ x t. got_then (given (key_in x) t) (get_key look) (λ key u. get_key_is_got key u))
+  get_is_got e s = grind (arith, nat_tests, get_key_is_got)
 
   abbrev pub ended : Unit {0} → Session → Outcome (Unit {0})
   ended x s = Gives tt s
@@ -57,8 +41,7 @@ module _ (look : Lookup) (v : ℕ) where
   other_goes : (y : Value) (o : Outcome Value) (rest : Session → Outcome (Unit {0})) →
       but_for_at_stops v (and_then (and_then (and_then (carried look v y (Sizes v) o) (setting look v y (Sizes v) v)) ended) (λ _. rest))
       ≡ but_for_at_stops v (and_then o (then_set rest))
-  other_goes y (Gives x s) rest = ap (λ t. but_for_at_stops v (rest t)) (set_again v x y s)
-  other_goes y (Stops stop s) rest = ap (λ t. Stops stop t) (set_again v (NumberValue (pos 0)) y s)
+  other_goes y o rest = grind (arith, nat_tests, set_again)
 
   -- the test of what was got
   abbrev pub test : Expression → Statement
@@ -68,9 +51,7 @@ module _ (look : Lookup) (v : ℕ) where
       run_statement look (test other) (with_variable v x s)
       ≡ and_then (given (equal x (TextValue [])) (with_variable v x s)) (branch (run_block look (Then (Set v other) End)) (run_block look End))
   unfolding run_statement holds evaluate
-  test_runs other x s n =
-      ap (λ z. and_then (given (equal z (TextValue [])) (with_variable v x s)) (branch (run_block look (Then (Set v other) End)) (run_block look End)))
-      (get_or-set_same s.variables v x (NumberValue (pos 0)) n)
+  test_runs other x s n = grind (arith, nat_tests, get_or-set_same)
 
   got_goes : (other : Expression) (rest : Block) → mentions v other ≡ false → (o : Outcome Value) → IsGot o → Sized look v (NumberValue (pos 0)) (Sizes v) o →
       but_for_at_stops v (and_then (and_then o (setting look v (NumberValue (pos 0)) (Sizes v) v)) (λ _. run_block look (Then (test other) rest)))
@@ -104,15 +85,11 @@ module _ (look : Lookup) (v : ℕ) where
 
   -- where two runs are the same but for the variable at stops, they are the same but for it
   pub but_for_all : {X : Type 0} (o : Outcome X) → but_for v (but_for_at_stops v o) ≡ but_for v o
-  but_for_all (Gives x s) = refl
-  but_for_all (Stops stop s) = ap (λ t. Stops stop t) (set_again v (NumberValue (pos 0)) (NumberValue (pos 0)) s)
+  but_for_all o = grind (arith, nat_tests, set_again)
 
   one_only : (p : Statement) (s : Session) → run_block look (Then p End) s ≡ run_statement look p s
   unfolding run_block
-  one_only p s = done_itself (run_statement look p s) where
-    done_itself : (o : Outcome (Unit {0})) → and_then o (λ _ t. Gives tt t) ≡ o
-    done_itself (Gives x s) = refl
-    done_itself (Stops stop s) = refl
+  one_only p s = grind (arith, nat_tests)
 
   plain_goes : (p : Statement) → is_plain p ≡ true → (o : Outcome Value) → Sized look v (NumberValue (pos 0)) (Sizes v) o →
       but_for v (and_then o (then_set (run_block look (Then p End)))) ≡ but_for v (and_then o (λ x. run_statement look (fill_plain v x p)))

@@ -1,5 +1,5 @@
 -- Statements of a source, from the end of a list to its beginning.
-use Rattle.std.proofs.Common.{◌≡◌, ℕ, zero, suc, ◌+◌, ◌-◌, ◌<◌, ◌≤◌, Bool, true, false, ◌&&◌, List, [], ◌∷◌, length, get_or, drop, refl, sym, ap, ◌∙◌, arith}
+use Rattle.std.proofs.Common.{◌≡◌, ℕ, zero, suc, ◌+◌, ◌-◌, ◌<◌, ◌≤◌, Bool, true, ◌&&◌, List, [], ◌∷◌, length, get_or, drop, refl, sym, ap, ◌∙◌, arith}
 use Rattle.std.specs.Prelude.{nat_lt, if◌then◌else◌}
 use Rattle.std.proofs.lemmas.List.{at_drop_more}
 use Rattle.std.proofs.Math.Seq.{drop-length}
@@ -32,24 +32,15 @@ item_weight (t ∷ ss) (suc i) s h e = omega (arith, item_weight ss i s (omega a
 
 -- ---- what is around a statement
 
-behind_nothing : (x : Bool) → (if x then nothing else nothing) ≡ nothing
-behind_nothing true = refl
-behind_nothing false = refl
-
 around_zero : (i : ℕ) (k : Follow) → around 0 (suc i) k ≡ nothing
 around_zero i k = grind (arith, nat_tests)
 
 next_first : (x : Bool) (f : ℕ) (k : Follow) → (if x then nothing else around (if x then 0 else suc f) 0 k) ≡ around (if x then 0 else suc f) 1 k
-next_first true f k = sym (around_zero 0 k)
-next_first false f k = grind (arith, nat_tests)
-
-around_more : (f i : ℕ) (k : Follow) → around (suc f) (suc i) k ≡ around f i k
-around_more f i k = grind (arith, nat_tests)
+next_first x f k = grind (arith, nat_tests, around_zero)
 
 next_more : (x : Bool) (y : Source) (f i : ℕ) (k : Follow) → behind y (around f i k) ≡ around f (i + 1) k
     → behind y (around (if x then 0 else suc f) (suc i) k) ≡ around (if x then 0 else suc f) (suc (i + 1)) k
-next_more true y f i k h = ap (behind y) (around_zero i k) ∙ behind_nothing (is_abort y) ∙ sym (around_zero (i + 1) k)
-next_more false y f i k h = ap (behind y) (around_more f i k) ∙ h ∙ sym (around_more f (i + 1) k)
+next_more x y f i k h = grind (arith, nat_tests, around_zero)
 
 around_next : (xs : List Source) (i : ℕ) (d : Source) (k : Follow) → i < length xs
     → behind (get_or xs i d) (around (first_abort xs) i k) ≡ around (first_abort xs) (i + 1) k
@@ -72,20 +63,15 @@ closed_before xs i d k less =
     at_drop_more (λ (ys : List Source). closed (sources_of ys) a) xs i d less in
     one ∙ ap (λ (f : Follow). closed_one (get_or xs i d) (with_next a (closed (sources_of (drop (i + 1) xs)) f))) (around_next xs i d k less)
 
-next_of : (x : Bool) (k : Follow) → (if x then nothing else k).next ≡ behind_last x k.next
-next_of true k = refl
-next_of false k = refl
-
 -- behind the last statement
 pub closed_end : (xs : List Source) (k : Follow) (next : Block) → next ≡ behind_last (nat_lt (first_abort xs) (length xs)) k.next
     → next ≡ closed (sources_of (drop (length xs) xs)) (around (first_abort xs) (length xs) k)
 unfolding closed
-closed_end xs k next is = rw (drop-length xs) (is ∙ sym (next_of (nat_lt (first_abort xs) (length xs)) k))
+closed_end xs k next is = grind (arith, nat_tests, drop-length)
 
 -- what is next decides nothing but what is next
 next_apart : (x : Bool) (k : Follow) (a b : Block) → with_next (if x then nothing else with_next k a) b ≡ with_next (if x then nothing else k) b
-next_apart true k a b = refl
-next_apart false k a b = refl
+next_apart x k a b = grind (arith, nat_tests)
 
 -- one statement more
 pub closed_more : (xs : List Source) (done place : ℕ) (q : Source) (k : Follow) (b old new : Block) → done < length xs → place ≡ length xs - 1 - done
@@ -108,8 +94,7 @@ closed_more xs done place q j b old new less at it so_far is =
 -- a list that goes on uses nothing but what is next
 test_kept : (x : Bool) (c : Condition) (a b f g : Block) (k k' : Follow) → x ≡ true → k.next ≡ k'.next
     → (if x then Then (If c a b) k.next else Then (If c f g) End) ≡ Then (If c a b) k'.next
-test_kept true c a b f g k k' h e = ap (Then (If c a b)) e
-test_kept false c a b f g k k' h e = cc
+test_kept x c a b f g k k' h e = grind (arith, nat_tests)
 
 one_kept : (q : Source) (k k' : Follow) → keeps_to_one goes_on q ≡ true → k.next ≡ k'.next → closed_one q k ≡ closed_one q k'
 unfolding closed keeps_to
@@ -124,8 +109,7 @@ one_kept Break k k' h e = cc
 one_kept Continue k k' h e = cc
 
 behind_kept : (x : Bool) (k k' : Follow) → k.next ≡ k'.next → (if x then nothing else k).next ≡ (if x then nothing else k').next
-behind_kept true k k' e = refl
-behind_kept false k k' e = e
+behind_kept x k k' e = grind (arith, nat_tests)
 
 pub list_kept : (p : Sources) (k k' : Follow) → keeps_to goes_on p ≡ true → k.next ≡ k'.next → closed p k ≡ closed p k'
 unfolding closed keeps_to

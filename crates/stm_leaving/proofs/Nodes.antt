@@ -1,6 +1,7 @@
 -- The nodes of the program of a source.
-use Rattle.std.proofs.Common.{◌≡◌, ℕ, ◌+◌, Bool, true, false, ◌&&◌, refl, ◌∙◌, ap, arith}
+use Rattle.std.proofs.Common.{◌≡◌, ℕ, ◌+◌, Bool, ◌&&◌, refl, ◌∙◌, ap, arith}
 use Rattle.std.specs.Prelude.{if◌then◌else◌}
+use Rattle.std.proofs.lemmas.Bool.Decides.{nat_tests}
 use Rattle.stm_program.specs.Syntax.{Block, If, End, Then}
 use Rattle.stm_program.specs.Size.{condition_nodes, block_nodes}
 use Rattle.stm_leaving.specs.Source.{Source, Sources, Copies, Plain, Choice, Items, Count, Return, Break, Continue, Nil, Next, NoCopy, Copy, in_copies}
@@ -14,12 +15,10 @@ nodes-one_behind End b = omega arith
 nodes-one_behind (Then first rest) b = omega (arith, nodes-one_behind rest b)
 
 nodes-behind : (x : Bool) (k : Follow) → nodes_of (if x then nothing else k) ≡ (if x then no_nodes else nodes_of k)
-nodes-behind true k = refl
-nodes-behind false k = refl
+nodes-behind x k = grind (arith, nat_tests)
 
 nodes-test : (x : Bool) (a b : Block) (m n : ℕ) → block_nodes a ≡ m → block_nodes b ≡ n → block_nodes (if x then a else b) ≡ (if x then m else n)
-nodes-test true a b m n e f = e
-nodes-test false a b m n e f = f
+nodes-test x a b m n e f = grind (arith, nat_tests)
 
 mutual
   unfolding closed closed_nodes

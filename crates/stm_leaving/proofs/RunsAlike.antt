@@ -1,71 +1,51 @@
 -- The program that is made of a source runs as the source does.
-use Rattle.std.proofs.Common.{◌≡◌, ℕ, suc, zero, Bool, true, false, ◌&&◌, refl, sym, ◌∙◌, ap}
+use Rattle.std.proofs.Common.{◌≡◌, ℕ, suc, zero, Bool, true, ◌&&◌, refl, sym, ◌∙◌, ap, arith}
 use Rattle.std.specs.Prelude.{if◌then◌else◌}
-use Rattle.std.proofs.lemmas.Bool.{and_parts}
-use Rattle.stm_program.specs.Syntax.{Statement, Block, Set, Put, Del, If, For, Emit, Abort, End, Then}
+use Rattle.std.proofs.lemmas.Bool.{and_parts, Decides.nat_tests}
+use Rattle.stm_program.specs.Syntax.{Block, If, End, Then}
 use Rattle.stm_steps.specs.declared.value.Value.{Value}
 use Rattle.stm_steps.specs.Answer.{Lookup}
-use Rattle.stm_steps.specs.Values.{turns_of, text_in}
+use Rattle.stm_steps.specs.Values.{turns_of}
 use Rattle.stm_steps.specs.Session.{Session, fresh}
 use Rattle.stm_steps.specs.Outcome.{Outcome, Gives, Stops, and_then, given, begin_turn}
-use Rattle.stm_steps.specs.Meaning.{evaluate, holds, branch, repeat, aborts, run_statement, run_block, answered, run_over}
+use Rattle.stm_steps.specs.Meaning.{evaluate, holds, branch, repeat, run_statement, run_block, answered, run_over}
 use Rattle.stm_leaving.specs.Source.{Source, Sources, Copies, Plain, Choice, Items, Count, Return, Break, Continue, Nil, Next, NoCopy, Copy}
 use Rattle.stm_leaving.specs.Source.{Way, GoesOn, Returns, Breaks, Continues, in_copies}
 use Rattle.stm_leaving.specs.declared.ways.Ways.{Ways}
-use Rattle.stm_leaving.specs.Leaving.{goes_on, returns_only, continues_only, keeps_to, keeps_to_one, keep_to}
+use Rattle.stm_leaving.specs.Leaving.{goes_on, continues_only, keeps_to, keeps_to_one, keep_to}
 use Rattle.stm_leaving.specs.Running.{then_on, after_turn, one_of, run_turns, run_source, run_one, run_copies}
 use Rattle.stm_leaving.specs.declared.follow.Follow.{Follow}
-use Rattle.stm_leaving.specs.Closed.{nothing, with_next, copy_follow, one_behind, ends_run, is_abort, behind, closed, closed_one, closed_copies}
+use Rattle.stm_leaving.specs.Closed.{nothing, with_next, copy_follow, one_behind, is_abort, behind, closed, closed_one, closed_copies}
 use Rattle.stm_leaving.specs.LeavingLaw.{done, Only, ClosedRunsAlike, RunsOverAlike}
 
 -- ---- outcomes ----
 
 same_then : {X Y : Type 0} (o : Outcome X) (f g : X → Session → Outcome Y) → ((x : X) (t : Session) → f x t ≡ g x t) → and_then o f ≡ and_then o g
-same_then (Gives x s) f g h = h x s
-same_then (Stops stop s) f g h = refl
+same_then o f g h = grind (arith, nat_tests)
 
 then_then : {X Y Z : Type 0} (o : Outcome X) (f : X → Session → Outcome Y) (g : Y → Session → Outcome Z) →
     and_then (and_then o f) g ≡ and_then o (λ x t. and_then (f x t) g)
-then_then (Gives x s) f g = refl
-then_then (Stops stop s) f g = refl
-
-then_done : (o : Outcome (Unit {0})) → and_then o (λ _. Gives tt) ≡ o
-then_done (Gives x s) = refl
-then_done (Stops stop s) = refl
+then_then o f g = grind (arith, nat_tests)
 
 -- ---- ways ----
 
 only_then : (ways : Ways) (o : Outcome Way) (f : Session → Outcome Way) → Only ways o → ((t : Session) → Only ways (f t)) → Only ways (and_then o (then_on f))
-only_then ways (Gives GoesOn s) f h more = more s
-only_then ways (Gives Returns s) f h more = h
-only_then ways (Gives Breaks s) f h more = h
-only_then ways (Gives Continues s) f h more = h
-only_then ways (Stops stop s) f h more = tt
+only_then ways o f h more = grind (arith, nat_tests)
 
 only_after : (ways : Ways) (o : Outcome Way) (f : Session → Outcome Way) → Only (in_copies ways) o → ((t : Session) → Only ways (f t)) →
     Only ways (and_then o (after_turn f))
-only_after ways (Gives GoesOn s) f h more = more s
-only_after ways (Gives Returns s) f h more = h
-only_after ways (Gives Breaks s) f h more = refl
-only_after ways (Gives Continues s) f h more = more s
-only_after ways (Stops stop s) f h more = tt
+only_after ways o f h more = grind (arith, nat_tests)
 
 only_turn : (ways : Ways) (o : Outcome Way) (f : Session → Outcome Way) → Only continues_only o → ((t : Session) → Only ways (f t)) →
     Only ways (and_then o (after_turn f))
-only_turn ways (Gives GoesOn s) f h more = more s
-only_turn ways (Gives Returns s) f h more = cc
-only_turn ways (Gives Breaks s) f h more = refl
-only_turn ways (Gives Continues s) f h more = more s
-only_turn ways (Stops stop s) f h more = tt
+only_turn ways o f h more = grind (arith, nat_tests)
 
 only_more : {X : Type 0} (ways : Ways) (o : Outcome X) (f : X → Session → Outcome Way) → ((x : X) (t : Session) → Only ways (f x t)) → Only ways (and_then o f)
-only_more ways (Gives x s) f h = h x s
-only_more ways (Stops stop s) f h = tt
+only_more ways o f h = grind (arith, nat_tests)
 
 only_one_of : (ways : Ways) (a b : Session → Outcome Way) → ((t : Session) → Only ways (a t)) → ((t : Session) → Only ways (b t)) → (x : Bool) (t : Session) →
     Only ways (one_of a b x t)
-only_one_of ways a b first second true t = first t
-only_one_of ways a b first second false t = second t
+only_one_of ways a b first second x t = grind (arith, nat_tests)
 
 only_turns : (ways : Ways) (v : ℕ) (body : Session → Outcome Way) → ((t : Session) → Only continues_only (body t)) → (left i : ℕ) (s : Session) →
     Only ways (run_turns v body left i s)
@@ -117,17 +97,10 @@ module _ (look : Lookup) where
 
   ends_nothing : (w : Way) (t : Session) → then_by nothing w t ≡ Gives tt t
   unfolding run_block
-  ends_nothing GoesOn t = refl
-  ends_nothing Returns t = refl
-  ends_nothing Breaks t = refl
-  ends_nothing Continues t = refl
+  ends_nothing w t = grind (arith, nat_tests)
 
   only_next : (k : Follow) (o : Outcome Way) → Only goes_on o → and_then o (λ _ t. run_block look k.next t) ≡ and_then o (then_by k)
-  only_next k (Gives GoesOn s) h = refl
-  only_next k (Gives Returns s) h = cc
-  only_next k (Gives Breaks s) h = cc
-  only_next k (Gives Continues s) h = cc
-  only_next k (Stops stop s) h = refl
+  only_next k o h = grind (arith, nat_tests)
 
   run_behind : (a b : Block) (s : Session) → run_block look (one_behind a b) s ≡ and_then (run_block look a s) (λ _. run_block look b)
   unfolding run_block
@@ -150,77 +123,35 @@ module _ (look : Lookup) where
   Halts (Gives x s) = ⊥
   Halts (Stops stop s) = Unit {0}
 
-  halts_then : {X Y : Type 0} (o : Outcome X) (f : X → Session → Outcome Y) → ((x : X) (t : Session) → Halts (f x t)) → Halts (and_then o f)
-  halts_then (Gives x s) f h = h x s
-  halts_then (Stops stop s) f h = tt
-
-  halts_first : {X Y : Type 0} (o : Outcome X) (f : X → Session → Outcome Y) → Halts o → Halts (and_then o f)
-  halts_first (Gives x s) f h = absurd h
-  halts_first (Stops stop s) f h = tt
-
-  abort_halts : (p : Statement) → ends_run p ≡ true → (s : Session) → Halts (run_statement look p s)
-  unfolding run_statement
-  abort_halts (Set v e) h s = cc
-  abort_halts (Put e f lease) h s = cc
-  abort_halts (Del e) h s = cc
-  abort_halts (If c a b) h s = cc
-  abort_halts (For v e limit body) h s = cc
-  abort_halts (Emit e) h s = cc
-  abort_halts (Abort e) h s =
-      halts_then (evaluate look e s) (λ x t. and_then (given (text_in x) t) aborts) (λ x t. halts_then (given (text_in x) t) aborts (λ y u. tt))
-
   one_halts : (q : Source) → is_abort q ≡ true → (s : Session) → Halts (run_one look q s)
-  unfolding run_one
-  one_halts (Plain p) h s = halts_first (run_statement look p s) (λ _. Gives GoesOn) (abort_halts p h s)
-  one_halts (Choice c a b) h s = cc
-  one_halts (Items cs) h s = cc
-  one_halts (Count v e limit body) h s = cc
-  one_halts Return h s = cc
-  one_halts Break h s = cc
-  one_halts Continue h s = cc
+  unfolding run_statement run_one
+  one_halts q h s = grind (arith, nat_tests)
 
   then_step : (x : Bool) (k : Follow) (o : Outcome Way) (rest : Follow → Block) (f : Session → Outcome Way) → (x ≡ true → Halts o) →
       ((t : Session) → run_block look (rest k) t ≡ and_then (f t) (then_by k)) →
       and_then o (then_by (with_next k (rest (if x then nothing else k)))) ≡ and_then (and_then o (then_on f)) (then_by k)
-  then_step false k (Gives GoesOn s) rest f halts h = h s
-  then_step true k (Gives GoesOn s) rest f halts h = absurd (halts refl)
-  then_step x k (Gives Returns s) rest f halts h = refl
-  then_step x k (Gives Breaks s) rest f halts h = refl
-  then_step x k (Gives Continues s) rest f halts h = refl
-  then_step x k (Stops stop s) rest f halts h = refl
+  then_step x k o rest f halts h = grind (arith, nat_tests)
 
   if_kept : (k : Follow) (o : Outcome Bool) (a b : Block) (f g : Session → Outcome Way) →
       ((t : Session) → run_block look a t ≡ and_then (f t) (then_by nothing)) → ((t : Session) → run_block look b t ≡ and_then (g t) (then_by nothing)) →
       ((t : Session) → Only goes_on (f t)) → ((t : Session) → Only goes_on (g t)) →
       and_then (and_then o (branch (run_block look a) (run_block look b))) (λ _. run_block look k.next) ≡ and_then (and_then o (one_of f g)) (then_by k)
-  if_kept k (Gives true s) a b f g first second h i = kept_then k (run_block look a s) (f s) (first s) (h s)
-  if_kept k (Gives false s) a b f g first second h i = kept_then k (run_block look b s) (g s) (second s) (i s)
-  if_kept k (Stops stop s) a b f g first second h i = refl
+  if_kept k o a b f g first second h i = grind (arith, nat_tests, kept_then)
 
   if_left : (k : Follow) (o : Outcome Bool) (a b : Block) (f g : Session → Outcome Way) →
       ((t : Session) → run_block look a t ≡ and_then (f t) (then_by k)) → ((t : Session) → run_block look b t ≡ and_then (g t) (then_by k)) →
       and_then (and_then o (branch (run_block look a) (run_block look b))) (λ _ t. Gives tt t) ≡ and_then (and_then o (one_of f g)) (then_by k)
-  if_left k (Gives true s) a b f g first second = then_done (run_block look a s) ∙ first s
-  if_left k (Gives false s) a b f g first second = then_done (run_block look b s) ∙ second s
-  if_left k (Stops stop s) a b f g first second = refl
+  if_left k o a b f g first second = grind (arith, nat_tests)
 
   copy_step : (k : Follow) (more : Block) (o : Outcome Way) (f : Session → Outcome Way) →
       ((t : Session) → run_block look more t ≡ and_then (f t) (then_by k)) →
       and_then o (then_by (copy_follow more k.next)) ≡ and_then (and_then o (after_turn f)) (then_by k)
-  copy_step k more (Gives GoesOn s) f h = h s
-  copy_step k more (Gives Returns s) f h = refl
-  copy_step k more (Gives Breaks s) f h = refl
-  copy_step k more (Gives Continues s) f h = h s
-  copy_step k more (Stops stop s) f h = refl
+  copy_step k more o f h = grind (arith, nat_tests)
 
   turn_over : (k : Follow) (o : Outcome Way) (more : Session → Outcome (Unit {0})) (f : Session → Outcome Way) → Only continues_only o →
       ((t : Session) → and_then (more t) (λ _. run_block look k.next) ≡ and_then (f t) (then_by k)) →
       and_then (and_then (done o) (λ _. more)) (λ _. run_block look k.next) ≡ and_then (and_then o (after_turn f)) (then_by k)
-  turn_over k (Gives GoesOn s) more f h i = i s
-  turn_over k (Gives Returns s) more f h i = cc
-  turn_over k (Gives Breaks s) more f h i = cc
-  turn_over k (Gives Continues s) more f h i = i s
-  turn_over k (Stops stop s) more f h i = refl
+  turn_over k o more f h i = grind (arith, nat_tests)
 
   turns_closed : (k : Follow) (v : ℕ) (g : Session → Outcome (Unit {0})) (f : Session → Outcome Way) → ((t : Session) → g t ≡ and_then (f t) (then_by nothing)) →
       ((t : Session) → Only continues_only (f t)) → (left i : ℕ) (s : Session) →
@@ -240,18 +171,12 @@ module _ (look : Lookup) where
       ((t : Session) → g t ≡ and_then (f t) (then_by nothing)) → ((t : Session) → Only continues_only (f t)) →
       and_then (and_then o (λ x t. and_then (given (turns_of x limit) t) (λ n. repeat v g n 0))) (λ _. run_block look k.next)
       ≡ and_then (and_then o (λ x t. and_then (given (turns_of x limit) t) (λ n. run_turns v f n 0))) (then_by k)
-  for_closed k v limit (Gives x s) g f e h =
-      then_then (given (turns_of x limit) s) (λ n. repeat v g n 0) (λ _. run_block look k.next)
-      ∙ same_then (given (turns_of x limit) s) (λ n t. and_then (repeat v g n 0 t) (λ _. run_block look k.next))
-      (λ n t. and_then (run_turns v f n 0 t) (then_by k)) (λ n t. turns_closed k v g f e h n 0 t)
-      ∙ sym (then_then (given (turns_of x limit) s) (λ n. run_turns v f n 0) (then_by k))
-  for_closed k v limit (Stops stop s) g f e h = refl
+  for_closed k v limit o g f e h = grind (arith, nat_tests, then_then, same_then, turns_closed)
 
   -- ---- sources ----
 
   by_test : (P : Block → Type 0) (x : Bool) (a b : Block) → (x ≡ true → P a) → P b → P (if x then a else b)
-  by_test P true a b h i = h refl
-  by_test P false a b h i = i
+  by_test P x a b h i = grind (arith, nat_tests)
 
   mutual
     unfolding run_source run_statement keeps_to closed
@@ -297,10 +222,7 @@ module _ (look : Lookup) where
         ∙ copy_step k (closed_copies cs k.next) (run_source look c s) (run_copies look cs) (closes_copies ways cs k both.1)
 
 pub closed_runs_alike : ClosedRunsAlike
-closed_runs_alike look statements s h = (
-  closes look returns_only statements nothing h s ∙ same_then (run_source look statements s) (then_by look nothing) (λ _. Gives tt) (ends_nothing look),
-  only_source look returns_only statements h s,
-)
+closed_runs_alike look statements s h = grind (arith, nat_tests, closes, same_then, ends_nothing, only_source)
 
 pub runs_over_alike : RunsOverAlike
 unfolding run_over

@@ -1,36 +1,27 @@
 -- What goes alike with one variable set: expressions, conditions and statements without blocks, over the variable and over its value.
-use Rattle.std.proofs.Common.{◌≡◌, ◌≢◌, ◌<◌, ℕ, Bool, true, false, refl, sym, ◌∙◌, ap, subst, List, length, nat_eq, ◌||◌, slice_index_or, slice_set, arith, inl, inr}
-use Rattle.std.specs.Prelude.{if◌then◌else◌, pos, Result, Ok, Err, Option, None, Some}
-use Rattle.std.proofs.lemmas.Bool.{eqb-true}
+use Rattle.std.proofs.Common.{◌≡◌, ◌<◌, ℕ, Bool, true, false, refl, ◌∙◌, ap, subst, List, length, nat_eq, ◌||◌, slice_index_or, slice_set, arith}
+use Rattle.std.specs.Prelude.{if◌then◌else◌, pos, Result, Option}
+use Rattle.std.proofs.lemmas.Bool.{eqb-true, Decides.nat_tests}
 use Rattle.std.proofs.lemmas.Bool.Decides.{eqb_tells}
 use Rattle.std.proofs.lemmas.List.{set-set, set_comm, get_or-set_same, get_or-set_other}
 use Rattle.stm_program.specs.Syntax.{Expression, Statement}
 use Rattle.stm_program.specs.Syntax.{Text, Number, Variable, Get, Rev, Arithmetic, Cat, TextOf, NumOf, Set, Put, Del, If, For, Emit, Abort}
 use Rattle.stm_history.specs.declared.change.Change.{Change as Write}
 use Rattle.stm_steps.specs.declared.value.Value.{Value}
-use Rattle.stm_steps.specs.declared.value.Value.TheVariants.{Text as TextValue, Number as NumberValue}
+use Rattle.stm_steps.specs.declared.value.Value.TheVariants.{Number as NumberValue}
 use Rattle.stm_steps.specs.declared.fault.Fault.{Fault}
-use Rattle.stm_steps.specs.Answer.{Answer, Lookup}
+use Rattle.stm_steps.specs.Answer.{Lookup}
 use Rattle.stm_steps.specs.Values.{text_in, key_in, arithmetic, concatenated, text_of, num_of, put_of, del_of}
 use Rattle.stm_steps.specs.Session.{Session, with_variable, with_output, with_write, variable_in}
 use Rattle.stm_steps.specs.Outcome.{Outcome, Gives, Stops, and_then, given}
-use Rattle.stm_program.specs.Writes.{last_write}
-use Rattle.stm_steps.specs.Meaning.{get_answered, rev_answered, get_of, get_key, rev_key, evaluate, aborts, run_statement}
+use Rattle.stm_steps.specs.Meaning.{get_of, get_key, rev_key, evaluate, aborts, run_statement}
 use Rattle.stm_leaving.specs.Elses.{literal, fill, mentions, fill_plain, is_plain, but_for}
 
 pub set_again : (v : ℕ) (x y : Value) (s : Session) → with_variable v x (with_variable v y s) ≡ with_variable v x s
 set_again v x y s = ap (λ l. record s { variables = l }) (set-set s.variables v y x)
 
 pub set_behind : (v w : ℕ) (x y z : Value) (s : Session) → with_variable v z (with_variable w x (with_variable v y s)) ≡ with_variable v z (with_variable w x s)
-set_behind v w x y z s = elim (eqb_tells v w) as (λ _. with_variable v z (with_variable w x (with_variable v y s)) ≡ with_variable v z (with_variable w x s)) [
-  | inl h ↦ ap (λ l. record s { variables = slice_set l v z }) (subst (λ (u : ℕ). slice_set (slice_set s.variables v y) u x ≡ slice_set s.variables u x) h.1 (set-set s.variables v y x))
-  | inr h ↦ ap (λ l. record s { variables = l }) (ap (λ l. slice_set l v z) (set_comm s.variables v w y x h.1) ∙ set-set (slice_set s.variables w x) v y z)
-]
-
-literal_gives : (look : Lookup) (x : Value) (s : Session) → evaluate look (literal x) s ≡ Gives x s
-unfolding evaluate
-literal_gives look (TextValue t) s = refl
-literal_gives look (NumberValue n) s = refl
+set_behind v w x y z s = grind (arith, nat_tests, eqb_tells, set-set, set_comm)
 
 fill_none : (v : ℕ) (x : Value) (e : Expression) → mentions v e ≡ false → fill v x e ≡ e
 unfolding fill mentions
@@ -51,8 +42,7 @@ fill_none v x (TextOf e) h = ap (λ e. TextOf e) (fill_none v x e h)
 fill_none v x (NumOf e) h = ap (λ e. NumOf e) (fill_none v x e h)
 
 pub or_none : (x y : Bool) → (x || y) ≡ false → (x ≡ false) × (y ≡ false)
-or_none true y h = cc
-or_none false y h = (refl, h)
+or_none x y h = grind (arith, nat_tests)
 
 -- `Fit` is what is known of the variables
 module _ (look : Lookup) (v : ℕ) (y : Value) (Fit : List Value → Type 0) where
@@ -60,12 +50,10 @@ module _ (look : Lookup) (v : ℕ) (y : Value) (Fit : List Value → Type 0) whe
   Hits = (l : List Value) → Fit l → slice_index_or (slice_set l v y) v (NumberValue (pos 0)) ≡ y
 
   hits_left : (a b : Bool) → ((a || b) ≡ true → Hits) → a ≡ true → Hits
-  hits_left true b h e = h refl
-  hits_left false b h e = cc
+  hits_left a b h e = grind (arith, nat_tests)
 
   hits_right : (a b : Bool) → ((a || b) ≡ true → Hits) → b ≡ true → Hits
-  hits_right true b h e = h refl
-  hits_right false b h e = h e
+  hits_right a b h e = grind (arith, nat_tests)
 
   abbrev pub Sized : {X : Type 0} → Outcome X → Type 0
   Sized (Gives x s) = Fit s.variables
@@ -83,75 +71,29 @@ module _ (look : Lookup) (v : ℕ) (y : Value) (Fit : List Value → Type 0) whe
 
   pub sized_then : {X Y : Type 0} (o : Outcome X) (h : X → Session → Outcome Y) → Sized o → ((x : X) (s : Session) → Fit s.variables → Sized (h x s)) →
       Sized (and_then o h)
-  sized_then (Gives x s) h n more = more x s n
-  sized_then (Stops stop s) h n more = n
-
-  goes_then : {X Y : Type 0} (o : Outcome X) (h k : X → Session → Outcome Y) → Sized o →
-      ((x : X) (s : Session) → Fit s.variables → k x (with_variable v y s) ≡ carried (h x s)) → and_then (carried o) k ≡ carried (and_then o h)
-  goes_then (Gives x s) h k n more = more x s n
-  goes_then (Stops stop s) h k n more = refl
+  sized_then o h n more = grind (arith, nat_tests)
 
   pub same_then : {X Y : Type 0} (f g : Session → Outcome X) (h k : X → Session → Outcome Y) → Same f g → ((x : X) → Same (h x) (k x)) →
       Same (λ s. and_then (f s) h) (λ s. and_then (g s) k)
-  same_then f g h k first second = record {
-    goes = λ s n. ap (λ o. and_then o k) (first.goes s n) ∙ goes_then (f s) h k (first.sized s n) (λ x t. (second x).goes t);
-    sized = λ s n. sized_then (f s) h (first.sized s n) (λ x t. (second x).sized t);
-  }
+  same_then f g h k first second = grind (arith, nat_tests, sized_then)
 
   pub same_given : {X : Type 0} (r : Result X Fault) → Same (given r) (given r)
-  same_given (Ok x) = record { goes = λ s n. refl; sized = λ s n. n }
-  same_given (Err fault) = record { goes = λ s n. refl; sized = λ s n. n }
-
-  get_answered-goes : (key : List ℕ) (a : Option Answer) (s : Session) → get_answered key a (with_variable v y s) ≡ carried (get_answered key a s)
-  get_answered-goes key None s = refl
-  get_answered-goes key (Some a) s = refl
-
-  get_answered-sized : (key : List ℕ) (a : Option Answer) (s : Session) → Fit s.variables → Sized (get_answered key a s)
-  get_answered-sized key None s n = n
-  get_answered-sized key (Some a) s n = n
-
-  rev_answered-goes : (key : List ℕ) (a : Option Answer) (s : Session) → rev_answered key a (with_variable v y s) ≡ carried (rev_answered key a s)
-  rev_answered-goes key None s = refl
-  rev_answered-goes key (Some a) s = refl
-
-  rev_answered-sized : (key : List ℕ) (a : Option Answer) (s : Session) → Fit s.variables → Sized (rev_answered key a s)
-  rev_answered-sized key None s n = n
-  rev_answered-sized key (Some a) s n = n
-
-  get_of-goes : (key : List ℕ) (w : Option Write) (s : Session) → get_of look key w (with_variable v y s) ≡ carried (get_of look key w s)
-  get_of-goes key None s = get_answered-goes key (look key) s
-  get_of-goes key (Some w) s = refl
+  same_given r = grind (arith, nat_tests)
 
   get_of-sized : (key : List ℕ) (w : Option Write) (s : Session) → Fit s.variables → Sized (get_of look key w s)
-  get_of-sized key None s n = get_answered-sized key (look key) s n
-  get_of-sized key (Some w) s n = n
+  get_of-sized key w s n = grind (arith, nat_tests)
 
   same_get : (key : List ℕ) → Same (get_key look key) (get_key look key)
   unfolding get_key
-  same_get key = record { goes = λ s n. get_of-goes key (last_write key s.writes) s; sized = λ s n. get_of-sized key (last_write key s.writes) s n }
+  same_get key = grind (arith, nat_tests, get_of-sized)
 
   same_rev : (key : List ℕ) → Same (rev_key look key) (rev_key look key)
   unfolding rev_key
-  same_rev key = record { goes = λ s n. rev_answered-goes key (look key) s; sized = λ s n. rev_answered-sized key (look key) s n }
-
-  same_literal : (x : Value) → Same (evaluate look (literal x)) (λ s. Gives x s)
-  unfolding evaluate
-  same_literal (TextValue t) = record { goes = λ s n. refl; sized = λ s n. n }
-  same_literal (NumberValue t) = record { goes = λ s n. refl; sized = λ s n. n }
+  same_rev key = grind (arith, nat_tests)
 
   same_variable : (w : ℕ) (b : Bool) → nat_eq w v ≡ b → (b ≡ true → Hits) → Same (evaluate look (if b then literal y else Variable w)) (λ s. Gives (variable_in s w) s)
   unfolding evaluate
-  same_variable w true e h =
-      let same : w ≡ v = eqb-true w v e in
-      record {
-        goes = λ s n. ap (λ x. Gives x (with_variable v y s))
-            (subst (λ (u : ℕ). variable_in (with_variable v y s) u ≡ y) (sym same) (h refl s.variables n))
-            ∙ ap (λ o. carried o) (sym (literal_gives look y s));
-        sized = (same_literal y).sized;
-      }
-  same_variable w false e h =
-      let other : w ≢ v = grind arith in
-      record { goes = λ s n. ap (λ x. Gives x (with_variable v y s)) (get_or-set_other s.variables v w y (NumberValue (pos 0)) other); sized = λ s n. n }
+  same_variable w b e h = grind (arith, nat_tests, eqb-true, get_or-set_other)
 
   pub same_evaluate : (e : Expression) → (mentions v e ≡ true → Hits) → Same (evaluate look (fill v y e)) (evaluate look e)
   unfolding evaluate fill mentions
@@ -188,8 +130,7 @@ module _ (look : Lookup) (v : ℕ) (y : Value) (Fit : List Value → Type 0) whe
   same_own e h = subst (λ (f : Expression). Same (evaluate look f) (evaluate look e)) (fill_none v y e h) (same_evaluate e (λ t. cc))
 
   pub but_for_carried : {X : Type 0} (o : Outcome X) → but_for v (carried o) ≡ but_for v o
-  but_for_carried (Gives x s) = ap (λ t. Gives x t) (set_again v (NumberValue (pos 0)) y s)
-  but_for_carried (Stops stop s) = ap (λ t. Stops stop t) (set_again v (NumberValue (pos 0)) y s)
+  but_for_carried o = grind (arith, nat_tests, set_again)
 
   abbrev pub writing : Write → Session → Outcome (Unit {0})
   writing w s = Gives tt (with_write w s)
@@ -201,8 +142,7 @@ module _ (look : Lookup) (v : ℕ) (y : Value) (Fit : List Value → Type 0) whe
   setting w x s = Gives tt (with_variable w x s)
 
   set_goes : (w : ℕ) (o : Outcome Value) → but_for v (and_then (carried o) (setting w)) ≡ but_for v (and_then o (setting w))
-  set_goes w (Gives x s) = ap (λ t. Gives tt t) (set_behind v w x y (NumberValue (pos 0)) s)
-  set_goes w (Stops stop s) = ap (λ t. Stops stop t) (set_again v (NumberValue (pos 0)) y s)
+  set_goes w o = grind (arith, nat_tests, set_behind, set_again)
 
   -- a statement without blocks, over the variable and over its value
   pub plain_same : Hits → (p : Statement) → is_plain p ≡ true → (s : Session) → Fit s.variables →

@@ -1,18 +1,16 @@
 -- A look-up with `else` in front of a statement of a source.
-use Rattle.std.proofs.Common.{◌≡◌, ◌<◌, ℕ, Bool, true, false, refl, sym, ◌∙◌, ap, subst, length, nat_eq, ◌||◌, ◌⊎◌, suc, zero, inl, inr}
+use Rattle.std.proofs.Common.{◌≡◌, ◌<◌, ℕ, Bool, true, false, refl, sym, ◌∙◌, ap, subst, length, nat_eq, ◌||◌, ◌⊎◌, suc, zero, inl, inr, arith}
 use Rattle.std.specs.Prelude.{not, ◌&&◌, pos}
-use Rattle.std.proofs.lemmas.Bool.{eqb-true}
-use Rattle.stm_program.specs.Syntax.{Expression}
-use Rattle.stm_program.specs.Syntax.{Get, Set, End}
+use Rattle.std.proofs.lemmas.Bool.{eqb-true, Decides.nat_tests}
+use Rattle.stm_program.specs.Syntax.{Expression, Get, End}
 use Rattle.stm_steps.specs.declared.value.Value.{Value}
 use Rattle.stm_steps.specs.declared.value.Value.TheVariants.{Number as NumberValue}
 use Rattle.stm_steps.specs.Answer.{Lookup}
 use Rattle.stm_steps.specs.Values.{turns_of}
 use Rattle.stm_steps.specs.Session.{Session, with_variable}
-use Rattle.stm_steps.specs.Outcome.{Outcome, Gives, Stops, and_then, given, begin_turn}
+use Rattle.stm_steps.specs.Outcome.{Outcome, Gives, and_then, given, begin_turn}
 use Rattle.stm_steps.specs.Meaning.{evaluate, holds, run_statement, run_block}
-use Rattle.stm_leaving.specs.Elses.{or_else, evaluate_else, fill, mentions, run_set_else, lifted, but_for}
-use Rattle.stm_leaving.specs.Elses.{blank, but_for_at_stops}
+use Rattle.stm_leaving.specs.Elses.{or_else, evaluate_else, fill, mentions, run_set_else, lifted, but_for, blank, but_for_at_stops}
 use Rattle.stm_leaving.specs.Source.{Source, Sources, Copies, Plain, Choice, Items, Count, Return, Break, Continue, Nil, Next, NoCopy, Copy}
 use Rattle.stm_leaving.specs.Source.{Way, GoesOn, Returns, Breaks, Continues}
 use Rattle.stm_leaving.specs.Running.{then_on, after_turn, one_of, run_turns, run_source, run_one, run_copies}
@@ -29,20 +27,13 @@ module _ (look : Lookup) (v : ℕ) where
   going x s = Gives GoesOn s
 
   on_unseen : (f : Session → Outcome Way) → Unseen look v f → (way : Way) → Unseen look v (then_on f way)
-  on_unseen f h GoesOn = h
-  on_unseen f h Returns = λ s t near. ap (λ r. Gives Returns r) near
-  on_unseen f h Breaks = λ s t near. ap (λ r. Gives Breaks r) near
-  on_unseen f h Continues = λ s t near. ap (λ r. Gives Continues r) near
+  on_unseen f h way = grind (arith, nat_tests)
 
   after_unseen : (f : Session → Outcome Way) → Unseen look v f → (way : Way) → Unseen look v (after_turn f way)
-  after_unseen f h GoesOn = h
-  after_unseen f h Returns = λ s t near. ap (λ r. Gives Returns r) near
-  after_unseen f h Breaks = λ s t near. ap (λ r. Gives GoesOn r) near
-  after_unseen f h Continues = h
+  after_unseen f h way = grind (arith, nat_tests)
 
   one_of_unseen : (f g : Session → Outcome Way) → Unseen look v f → Unseen look v g → (b : Bool) → Unseen look v (one_of f g b)
-  one_of_unseen f g h k true = h
-  one_of_unseen f g h k false = k
+  one_of_unseen f g h k b = grind (arith, nat_tests)
 
   run_turns_unseen : (w : ℕ) (g : Session → Outcome Way) → (w ≡ v) ⊎ Unseen look v g → (left i : ℕ) → Unseen look v (run_turns w g left i)
   unfolding run_turns
@@ -57,30 +48,15 @@ module _ (look : Lookup) (v : ℕ) where
 
   run_turns_see : (x : Bool) (w : ℕ) → nat_eq w v ≡ x → (y : Bool) → (not x && y) ≡ false → (body : Sources) → (y ≡ false → Unseen look v (run_source look body)) →
       (w ≡ v) ⊎ Unseen look v (run_source look body)
-  run_turns_see true w e y h body more = inl (eqb-true w v e)
-  run_turns_see false w e y h body more = inr (more h)
+  run_turns_see x w e y h body more = grind (arith, nat_tests, eqb-true)
 
   exact_on : (o p : Outcome (Unit {0})) → but_for_at_stops v o ≡ but_for_at_stops v p → but_for_at_stops v (and_then o going) ≡ but_for_at_stops v (and_then p going)
-  exact_on (Gives x s) (Gives y t) h =
-      let equal : s ≡ t = cc in
-      ap (λ r. Gives GoesOn r) equal
-  exact_on (Gives x s) (Stops q t) h = cc
-  exact_on (Stops p s) (Gives y t) h = cc
-  exact_on (Stops p s) (Stops q t) h =
-      let same : p ≡ q = cc in
-      let near : blank v s ≡ blank v t = cc in
-      ap (λ r. Stops p r) near ∙ ap (λ r. Stops r (blank v t)) same
+  exact_on o p h = grind (arith, nat_tests)
 
   part_exact : (q : Source) → sets_part v q ≡ true → needs_part v q ≡ false → (s t : Session) → blank v s ≡ blank v t →
       but_for_at_stops v (run_one look q s) ≡ but_for_at_stops v (run_one look q t)
   unfolding run_one needs_part
-  part_exact (Plain p) h k s t near = exact_on (run_statement look p s) (run_statement look p t) (setter_exact look v p h k s t near)
-  part_exact (Choice c a b) h k s t near = cc
-  part_exact (Items cs) h k s t near = cc
-  part_exact (Count w e limit body) h k s t near = cc
-  part_exact Return h k s t near = cc
-  part_exact Break h k s t near = cc
-  part_exact Continue h k s t near = cc
+  part_exact q h k s t near = grind (arith, nat_tests, exact_on, setter_exact)
 
   mutual
     unfolding run_source needs_source
@@ -152,32 +128,14 @@ module _ (look : Lookup) (v : ℕ) where
   part_head_exact : (x : Value) (q : Source) → sets_part v q ≡ true → (s : Session) → v < length s.variables →
       but_for_at_stops v (run_one look q (with_variable v x s)) ≡ but_for_at_stops v (run_one look (fill_part v x q) s)
   unfolding run_one
-  part_head_exact x (Plain p) h s n =
-      exact_on (run_statement look p (with_variable v x s)) (run_statement look (fill_head v x p) s) (head_exact look v x p h s n)
-  part_head_exact x (Choice c a b) h s n = cc
-  part_head_exact x (Items cs) h s n = cc
-  part_head_exact x (Count w e limit body) h s n = cc
-  part_head_exact x Return h s n = cc
-  part_head_exact x Break h s n = cc
-  part_head_exact x Continue h s n = cc
+  part_head_exact x q h s n = grind (arith, nat_tests, exact_on, head_exact)
 
   part_goes : (q : Source) (rest : Sources) → needs_within v q ≡ false → (not (sets_part v q) && needs_source v rest) ≡ false → (o : Outcome Value) →
       Sized look v (NumberValue (pos 0)) (Sizes v) o →
       but_for v (and_then (and_then o (puts look v v)) (λ _. run_source look (Next q rest)))
       ≡ but_for v (and_then (and_then o (λ x. run_one look (fill_part v x q))) (then_on (run_source look rest)))
   unfolding run_source
-  part_goes q rest h k (Stops stop s) n = refl
-  part_goes q rest h k (Gives x s) n =
-      elim (unneeded_behind (sets_part v q) (needs_source v rest) k) as (λ _. but_for v (and_then (run_one look q (with_variable v x s)) (then_on (run_source look rest)))
-      ≡ but_for v (and_then (run_one look (fill_part v x q) s) (then_on (run_source look rest)))) [
-        | inl e ↦ then_exact look v (run_one look q (with_variable v x s)) (run_one look (fill_part v x q) s) (then_on (run_source look rest)) (part_head_exact x q e s n)
-        | inr e ↦ then_unseen look v (run_one look q (with_variable v x s)) (run_one look (fill_part v x q) s) (then_on (run_source look rest))
-            (part_head x q h s n) (on_unseen (run_source look rest) (source_unseen rest e))
-      ]
-
-  last_is : (p : Outcome (Unit {0})) (more : Session → Outcome Way) → and_then (and_then p going) (then_on more) ≡ and_then (and_then p (ended look v)) (λ _. more)
-  last_is (Gives x s) more = refl
-  last_is (Stops stop s) more = refl
+  part_goes q rest h k o n = grind (arith, nat_tests, unneeded_behind, then_exact, part_head_exact, then_unseen, part_head, on_unseen, source_unseen)
 
   abbrev second : (Session → Outcome (Unit {0})) → (Session → Outcome Way) → Session → Outcome Way
   second f more t = and_then (and_then (f t) going) (then_on more)
@@ -185,15 +143,10 @@ module _ (look : Lookup) (v : ℕ) where
   abbrev both : (Session → Outcome (Unit {0})) → Unit {0} → Session → Outcome (Unit {0})
   both f x t = and_then (f t) (ended look v)
 
-  front_is : (o : Outcome (Unit {0})) (f : Session → Outcome (Unit {0})) (more : Session → Outcome Way) →
-      and_then (and_then o going) (then_on (second f more)) ≡ and_then (and_then o (both f)) (λ _. more)
-  front_is (Gives x s) f more = last_is (f s) more
-  front_is (Stops stop s) f more = refl
-
   lifted_is : (key other : Expression) (rest : Sources) (s : Session) →
       run_source look (lifted_source v key other rest) s ≡ and_then (run_block look (lifted v key other End) s) (λ _. run_source look rest)
   unfolding run_source run_block lifted lifted_source
-  lifted_is key other rest s = front_is (run_statement look (Set v (Get key)) s) (run_statement look (test look v other)) (run_source look rest)
+  lifted_is key other rest s = grind (arith, nat_tests, test)
 
 pub lifted_in_sources : LiftedInSources
 lifted_in_sources look v key other q rest s n i j h k =

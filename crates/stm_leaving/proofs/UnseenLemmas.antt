@@ -1,18 +1,16 @@
 -- Statements that do not need a variable do not see it, and so a look-up with `else` may stand in front of any of them.
-use Rattle.std.proofs.Common.{◌≡◌, ◌<◌, ℕ, Bool, true, false, refl, sym, ◌∙◌, ap, subst, List, length, nat_eq, ◌||◌, ◌⊎◌, suc, zero, inl, inr}
-use Rattle.std.specs.Prelude.{if◌then◌else◌, not, ◌&&◌, nat_lt, pos}
-use Rattle.std.proofs.lemmas.Bool.{eqb-true}
-use Rattle.stm_program.specs.Syntax.{Expression, Statement, Block}
-use Rattle.stm_program.specs.Syntax.{Condition, Less, Not, And, Or, Get, Equal, Set, Put, Del, If, For, Emit, Abort, End, Then}
+use Rattle.std.proofs.Common.{◌≡◌, ◌<◌, ℕ, Bool, true, false, refl, sym, ◌∙◌, ap, subst, List, length, nat_eq, ◌||◌, ◌⊎◌, suc, zero, inl, inr, arith}
+use Rattle.std.specs.Prelude.{if◌then◌else◌, not, ◌&&◌, pos}
+use Rattle.std.proofs.lemmas.Bool.{eqb-true, Decides.nat_tests}
+use Rattle.stm_program.specs.Syntax.{Expression, Statement, Block, Condition, Less, Not, And, Or, Get, Equal, Set, Put, Del, If, For, Emit, Abort, End, Then}
 use Rattle.stm_steps.specs.declared.value.Value.{Value}
 use Rattle.stm_steps.specs.declared.value.Value.TheVariants.{Number as NumberValue}
 use Rattle.stm_steps.specs.Answer.{Lookup}
 use Rattle.stm_steps.specs.Values.{text_in, equal, less, put_of, del_of, turns_of}
 use Rattle.stm_steps.specs.Session.{Session, with_variable, with_output, with_turn}
-use Rattle.stm_steps.specs.Outcome.{Outcome, Gives, Stops, and_then, given, turn_limit, begin_turn}
+use Rattle.stm_steps.specs.Outcome.{Outcome, Gives, Stops, and_then, given, begin_turn}
 use Rattle.stm_steps.specs.Meaning.{evaluate, holds, unless_false, unless_true, branch, repeat, aborts, run_statement, run_block}
-use Rattle.stm_leaving.specs.Elses.{or_else, evaluate_else, fill, mentions, fill_plain, is_plain, lifted, but_for}
-use Rattle.stm_leaving.specs.Elses.{blank, but_for_at_stops}
+use Rattle.stm_leaving.specs.Elses.{or_else, evaluate_else, fill, mentions, fill_plain, is_plain, lifted, but_for, blank, but_for_at_stops}
 use Rattle.stm_leaving.specs.Heads.{fill_condition, fill_head, needs_inside, LiftedBeforeAny}
 use Rattle.stm_leaving.specs.Unseen.{names, sets, needs, needs_one, FreeVariablesAreUnseen, LiftedInFront}
 use Rattle.stm_steps.specs.declared.fault.Fault.TheVariants.{TurnLimit}
@@ -22,8 +20,7 @@ use Rattle.stm_leaving.proofs.SameRuns.{same_given, same_evaluate, same_own, but
 use Rattle.stm_leaving.proofs.Elses.{then_set, sized_get, lifted_goes, or_else-sized, but_for_all}
 
 pub unneeded_behind : (x y : Bool) → (not x && y) ≡ false → (x ≡ true) ⊎ (y ≡ false)
-unneeded_behind true y h = inl refl
-unneeded_behind false y h = inr h
+unneeded_behind x y h = grind (arith, nat_tests)
 
 module _ (look : Lookup) (v : ℕ) where
   abbrev zero_value : Value
@@ -38,50 +35,25 @@ module _ (look : Lookup) (v : ℕ) where
 
   pub then_unseen : {X Y : Type 0} (o p : Outcome X) (h : X → Session → Outcome Y) → but_for v o ≡ but_for v p → ((x : X) → Unseen (h x)) →
       but_for v (and_then o h) ≡ but_for v (and_then p h)
-  then_unseen (Gives x s) (Gives y t) h e more =
-      let same : x ≡ y = cc in
-      let near : blank v s ≡ blank v t = cc in
-      more x s t near ∙ ap (λ z. but_for v (h z t)) same
-  then_unseen (Gives x s) (Stops q t) h e more = cc
-  then_unseen (Stops p s) (Gives y t) h e more = cc
-  then_unseen (Stops p s) (Stops q t) h e more =
-      let same : p ≡ q = cc in
-      let near : blank v s ≡ blank v t = cc in
-      ap (λ r. Stops p r) near ∙ ap (λ r. Stops r (blank v t)) same
+  then_unseen o p h e more = grind (arith, nat_tests)
 
   -- where the variable is the same after it, too
   pub then_exact : {X Y : Type 0} (o p : Outcome X) (h : X → Session → Outcome Y) → but_for_at_stops v o ≡ but_for_at_stops v p →
       but_for v (and_then o h) ≡ but_for v (and_then p h)
-  then_exact (Gives x s) (Gives y t) h e =
-      let same : x ≡ y = cc in
-      let equal : s ≡ t = cc in
-      ap (λ r. but_for v (h x r)) equal ∙ ap (λ z. but_for v (h z t)) same
-  then_exact (Gives x s) (Stops q t) h e = cc
-  then_exact (Stops p s) (Gives y t) h e = cc
-  then_exact (Stops p s) (Stops q t) h e =
-      let same : p ≡ q = cc in
-      let near : blank v s ≡ blank v t = cc in
-      ap (λ r. Stops p r) near ∙ ap (λ r. Stops r (blank v t)) same
-
-  carried_is : {X : Type 0} (o : Outcome X) → carried look v zero_value Any o ≡ but_for v o
-  carried_is (Gives x s) = refl
-  carried_is (Stops stop s) = refl
+  then_exact o p h e = grind (arith, nat_tests)
 
   -- what goes alike with the variable set does not see it
   pub same_unseen : {X : Type 0} (f : Session → Outcome X) → Same look v zero_value Any f f → Unseen f
-  same_unseen f same s t near =
-      sym (same.goes s tt ∙ carried_is (f s)) ∙ ap (λ r. f r) near ∙ (same.goes t tt ∙ carried_is (f t))
+  same_unseen f same s t near = grind (arith, nat_tests)
 
   pub own : (e : Expression) → mentions v e ≡ false → Same look v zero_value Any (evaluate look e) (evaluate look e)
   own e h = same_own look v zero_value Any e h
 
   same_unless_false : (f : Session → Outcome Bool) → Same look v zero_value Any f f → (b : Bool) → Same look v zero_value Any (unless_false f b) (unless_false f b)
-  same_unless_false f h true = h
-  same_unless_false f h false = record { goes = λ s n. refl; sized = λ s n. n }
+  same_unless_false f h b = grind (arith, nat_tests)
 
   same_unless_true : (f : Session → Outcome Bool) → Same look v zero_value Any f f → (b : Bool) → Same look v zero_value Any (unless_true f b) (unless_true f b)
-  same_unless_true f h true = record { goes = λ s n. refl; sized = λ s n. n }
-  same_unless_true f h false = h
+  same_unless_true f h b = grind (arith, nat_tests)
 
   pub same_holds : (c : Condition) → names v c ≡ false → Same look v zero_value Any (holds look c) (holds look c)
   unfolding holds names
@@ -123,33 +95,20 @@ module _ (look : Lookup) (v : ℕ) where
   puts_unseen w x s t near = ap (λ r. Gives tt r) (near_other w x s t near)
 
   branch_unseen : (f g : Session → Outcome (Unit {0})) → Unseen f → Unseen g → (b : Bool) → Unseen (branch f g b)
-  branch_unseen f g h k true = h
-  branch_unseen f g h k false = k
+  branch_unseen f g h k b = grind (arith, nat_tests)
 
   -- ---- turns
 
   abbrev turn : Bool → ℕ → ℕ → Session → Outcome (Unit {0})
   turn b w i s = if b then Gives tt (with_variable w (NumberValue (pos i)) (with_turn s)) else Stops (Faulted TurnLimit) s
 
-  turn_unseen : (b : Bool) (w i : ℕ) (s t : Session) → blank v s ≡ blank v t → but_for v (turn b w i s) ≡ but_for v (turn b w i t)
-  turn_unseen true w i s t near = ap (λ r. Gives tt r) (near_other w (NumberValue (pos i)) (with_turn s) (with_turn t) (ap (λ r. with_turn r) near))
-  turn_unseen false w i s t near = ap (λ r. Stops (Faulted TurnLimit) r) near
-
-  turn_exact : (b : Bool) (i : ℕ) (s t : Session) → blank v s ≡ blank v t → but_for_at_stops v (turn b v i s) ≡ but_for_at_stops v (turn b v i t)
-  turn_exact true i s t near = ap (λ r. Gives tt r) (near_set (NumberValue (pos i)) (with_turn s) (with_turn t) (ap (λ r. with_turn r) near))
-  turn_exact false i s t near = ap (λ r. Stops (Faulted TurnLimit) r) near
-
   pub begin_unseen : (w i : ℕ) → Unseen (begin_turn w i)
   unfolding begin_turn
-  begin_unseen w i s t near =
-      let turns : s.turns ≡ t.turns = ap (λ r. r.turns) near in
-      ap (λ n. but_for v (turn (nat_lt n turn_limit) w i s)) turns ∙ turn_unseen (nat_lt t.turns turn_limit) w i s t near
+  begin_unseen w i s t near = grind (arith, nat_tests, near_other)
 
   pub begin_exact : (i : ℕ) (s t : Session) → blank v s ≡ blank v t → but_for_at_stops v (begin_turn v i s) ≡ but_for_at_stops v (begin_turn v i t)
   unfolding begin_turn
-  begin_exact i s t near =
-      let turns : s.turns ≡ t.turns = ap (λ r. r.turns) near in
-      ap (λ n. but_for_at_stops v (turn (nat_lt n turn_limit) v i s)) turns ∙ turn_exact (nat_lt t.turns turn_limit) i s t near
+  begin_exact i s t near = grind (arith, nat_tests, near_set)
 
   repeat_unseen : (w : ℕ) (g : Session → Outcome (Unit {0})) → (w ≡ v) ⊎ Unseen g → (left i : ℕ) → Unseen (repeat w g left i)
   unfolding repeat
@@ -164,34 +123,16 @@ module _ (look : Lookup) (v : ℕ) where
   -- ---- statements
 
   set_exact : (w : ℕ) → w ≡ v → (o p : Outcome Value) → but_for v o ≡ but_for v p → but_for_at_stops v (and_then o (puts w)) ≡ but_for_at_stops v (and_then p (puts w))
-  set_exact w e (Gives x s) (Gives y t) h =
-      let same : x ≡ y = cc in
-      let near : blank v s ≡ blank v t = cc in
-      subst (λ (u : ℕ). but_for_at_stops v (puts u x s) ≡ but_for_at_stops v (puts u y t)) (sym e)
-      (ap (λ r. Gives tt r) (near_set x s t near) ∙ ap (λ z. Gives tt (with_variable v z t)) same)
-  set_exact w e (Gives x s) (Stops q t) h = cc
-  set_exact w e (Stops p s) (Gives y t) h = cc
-  set_exact w e (Stops p s) (Stops q t) h =
-      let same : p ≡ q = cc in
-      let near : blank v s ≡ blank v t = cc in
-      ap (λ r. Stops p r) near ∙ ap (λ r. Stops r (blank v t)) same
+  set_exact w e o p h = grind (arith, nat_tests, near_set)
 
   turns_see : (x : Bool) (w : ℕ) → nat_eq w v ≡ x → (y : Bool) → (not x && y) ≡ false → (body : Block) → (y ≡ false → Unseen (run_block look body)) →
       (w ≡ v) ⊎ Unseen (run_block look body)
-  turns_see true w e y h body more = inl (eqb-true w v e)
-  turns_see false w e y h body more = inr (more h)
+  turns_see x w e y h body more = grind (arith, nat_tests, eqb-true)
 
   pub setter_exact : (p : Statement) → sets v p ≡ true → needs_one v p ≡ false → (s t : Session) → blank v s ≡ blank v t →
       but_for_at_stops v (run_statement look p s) ≡ but_for_at_stops v (run_statement look p t)
   unfolding run_statement needs_one
-  setter_exact (Set w e) h k s t near =
-      set_exact w (eqb-true w v h) (evaluate look e s) (evaluate look e t) (same_unseen (evaluate look e) (own e k) s t near)
-  setter_exact (Put e f lease) h k s t near = cc
-  setter_exact (Del e) h k s t near = cc
-  setter_exact (If c a b) h k s t near = cc
-  setter_exact (For w e limit body) h k s t near = cc
-  setter_exact (Emit e) h k s t near = cc
-  setter_exact (Abort e) h k s t near = cc
+  setter_exact p h k s t near = grind (arith, nat_tests, set_exact, eqb-true, same_unseen, own)
 
   mutual
     unfolding run_statement needs
@@ -280,13 +221,11 @@ module _ (look : Lookup) (v : ℕ) where
 
   filled_unless_false : (y : Value) (f g : Session → Outcome Bool) → Same look v y (Sizes v) f g → (b : Bool) →
       Same look v y (Sizes v) (unless_false f b) (unless_false g b)
-  filled_unless_false y f g h true = h
-  filled_unless_false y f g h false = record { goes = λ s n. refl; sized = λ s n. n }
+  filled_unless_false y f g h b = grind (arith, nat_tests)
 
   filled_unless_true : (y : Value) (f g : Session → Outcome Bool) → Same look v y (Sizes v) f g → (b : Bool) →
       Same look v y (Sizes v) (unless_true f b) (unless_true g b)
-  filled_unless_true y f g h true = record { goes = λ s n. refl; sized = λ s n. n }
-  filled_unless_true y f g h false = h
+  filled_unless_true y f g h b = grind (arith, nat_tests)
 
   pub filled_holds : (y : Value) (c : Condition) → Same look v y (Sizes v) (holds look (fill_condition v y c)) (holds look c)
   unfolding holds fill_condition
@@ -336,27 +275,14 @@ module _ (look : Lookup) (v : ℕ) where
 
   pub head_exact : (x : Value) (p : Statement) → sets v p ≡ true → (s : Session) → v < length s.variables →
       but_for_at_stops v (run_statement look p (with_variable v x s)) ≡ but_for_at_stops v (run_statement look (fill_head v x p) s)
-  head_exact x (Set w e) h s n = plain_exact x (Set w e) h s n
-  head_exact x (Put e f lease) h s n = cc
-  head_exact x (Del e) h s n = cc
-  head_exact x (If c a b) h s n = cc
-  head_exact x (For w e limit body) h s n = cc
-  head_exact x (Emit e) h s n = cc
-  head_exact x (Abort e) h s n = cc
+  head_exact x p h s n = grind (arith, nat_tests, plain_exact)
 
   head_goes : (p : Statement) (rest : Block) → needs_inside v p ≡ false → (not (sets v p) && needs v rest) ≡ false → (o : Outcome Value) →
       Sized look v zero_value (Sizes v) o →
       but_for v (and_then o (then_set look v (run_block look (Then p rest))))
       ≡ but_for v (and_then (and_then o (λ x. run_statement look (fill_head v x p))) (λ _. run_block look rest))
   unfolding run_block
-  head_goes p rest h k (Stops stop s) n = refl
-  head_goes p rest h k (Gives x s) n =
-      elim (unneeded_behind (sets v p) (needs v rest) k) as (λ _. but_for v (and_then (run_statement look p (with_variable v x s)) (λ _. run_block look rest))
-      ≡ but_for v (and_then (run_statement look (fill_head v x p) s) (λ _. run_block look rest))) [
-        | inl e ↦ then_exact (run_statement look p (with_variable v x s)) (run_statement look (fill_head v x p) s) (λ _. run_block look rest) (head_exact x p e s n)
-        | inr e ↦ then_unseen (run_statement look p (with_variable v x s)) (run_statement look (fill_head v x p) s) (λ _. run_block look rest)
-            (head_same x p h s n) (λ _. block_unseen rest e)
-      ]
+  head_goes p rest h k o n = grind (arith, nat_tests, unneeded_behind, then_exact, head_exact, then_unseen, head_same, block_unseen)
 
 pub lifted_before_any : LiftedBeforeAny
 lifted_before_any look v key other p rest s n i j h k =

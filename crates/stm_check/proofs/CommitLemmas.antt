@@ -1,10 +1,9 @@
 -- The run that the line of a commit stands for, and the store that it leads to.
-use Rattle.std.proofs.Common.{◌≡◌, ◌≢◌, ◌↔◌, ℕ, ◌+◌, ◌<◌, ◌≤◌, length, take, drop, get_or, Bool, true, false, List, [], ◌∷◌, ◌++◌, append_assoc, Option}
+use Rattle.std.proofs.Common.{◌≡◌, ◌≢◌, ◌↔◌, ℕ, ◌+◌, ◌<◌, ◌≤◌, length, take, drop, get_or, Bool, false, List, [], ◌∷◌, ◌++◌, append_assoc, Option}
 use Rattle.std.proofs.Common.{Some, None, Ok, Err, refl, sym, ◌∙◌, ap, subst}
-use Rattle.std.proofs.lemmas.List.{drop_all, take_all, take_more}
+use Rattle.std.proofs.lemmas.List.{take_all, take_more}
 use Rattle.std.proofs.lemmas.List.Elements.{filter-append}
-use Rattle.std.proofs.lemmas.Option.{same_Some}
-use Rattle.std.specs.Prelude.{Result, IsTrue, IfOk, OnOk, MatchOption, filter}
+use Rattle.std.specs.Prelude.{Result, IsTrue, IfOk, OnOk, filter}
 use Rattle.std.specs.declared.alloc.AllocError.{AllocError}
 use Rattle.stm_history.specs.declared.change.Change.{Change}
 use Rattle.stm_program.specs.Writes.{latest_writes}
@@ -20,21 +19,17 @@ use Rattle.stm_program.specs.declared.level.Level.{Level}
 use Rattle.stm_program.specs.declared.level.Level.TheVariants.{ReadCommitted}
 use Rattle.stm_steps.specs.declared.value.Value.{Value}
 use Rattle.stm_steps.specs.declared.trace_item.TraceItem.{TraceItem}
-use Rattle.stm_steps.specs.declared.run.End.{End}
 use Rattle.stm_steps.specs.declared.run.End.TheVariants.{Done as DoneEnd}
 use Rattle.stm_steps.specs.declared.run.Run.{Run}
-use Rattle.stm_steps.specs.declared.run.Answered.{Answered}
 use Rattle.stm_steps.specs.declared.run.Answered.TheVariants.{Ended, Wants}
-use Rattle.stm_meaning.specs.Answer.{Lookup}
 use Rattle.stm_meaning.specs.Meaning.{run_over}
 use Rattle.stm_outcome.specs.declared.refusal.Refusal.{Refusal}
 use Rattle.stm_outcome.specs.Outcome.{Done}
 use Rattle.stm_txn.specs.Standing.{Standing, Step, IsRefusalOf, write_step, written, with_history as with_standing_history, terms_of}
-use Rattle.stm_compile.specs.Answers.{AreTrue, look_up, state_now}
+use Rattle.stm_compile.specs.Answers.{AreTrue, look_up}
 use Rattle.stm_program.specs.Levels.{is_comparing}
-use Rattle.stm_entries.specs.declared.entry.Entry.TheVariants.{Program}
-use Rattle.stm_entries.specs.Replayed.{without_moment, with_history}
-use Rattle.stm_entries.specs.Alone.{seen_at, applied_run, history_left, left_by, left_by_run}
+use Rattle.stm_entries.specs.Replayed.{without_moment}
+use Rattle.stm_entries.specs.Alone.{applied_run, history_left}
 use Rattle.stm_entries.specs.Legal.{AnswersAreTrue}
 use Rattle.stm_events.specs.FirstReads.{is_other, keys_first_read}
 use Rattle.stm_events.specs.declared.reply.CommittedRead.{CommittedRead}
@@ -42,66 +37,22 @@ use Rattle.stm_events.specs.declared.reply.Reply.{Reply}
 use Rattle.stm_events.specs.declared.reply.Reply.TheVariants.{Committed}
 use Rattle.stm_check.specs.declared.runner.Runner.{Runner}
 use Rattle.stm_events.specs.Replies.{reads_in}
-use Rattle.stm_check.specs.Point.{led_by}
 use Rattle.stm_check.specs.Replays.{AreTrulyReported, AnswersFit, keys_reported, IsRightCommit, StepReplays}
 use Rattle.stm_check.specs.Runs.{run_in, IsRunReported, IsRunOn, IsFound, revision_reached, with_writes}
 
 -- ---- runs
 
--- the run of an answer that came to its end is its only one
-pub only_run : (a : Answered) (run : Run) → a ≡ Ended run → run_in a ≡ Some run
-only_run a run is = ap run_in is
-
 pub never_wants : (key : List ℕ) (trace : List TraceItem) (run : Run) → Wants key trace ≡ Ended run → ⊥
 never_wants key trace run is = let no : None ≡ Some run = ap run_in is in absurd (cc)
 
-pub ended_is : (a : Answered) (run : Run) → run_in a ≡ Some run → a ≡ Ended run
-ended_is (Ended other) run is = ap Ended (same_Some other run is)
-ended_is (Wants key trace) run is = absurd (cc)
-
 pub never : {A : Type 0} → IsTrue false → A
 never t = absurd (cc)
-
--- at a comparing level there is no run for reported answers
-pub reported_in_vain : (level : Level) (h : History) (program : ProgramTree) (a : CommittedRead) (answers : List CommittedRead) → is_comparing level ≡ true →
-    IsFound level h program (a ∷ answers) None
-reported_in_vain ReadCommitted h program a answers is = absurd (cc)
-reported_in_vain _ h program a answers is = λ run reported. let no : a ∷ answers ≡ [] = reported.answers_fit in absurd (cc)
-
--- the direct run, where none are reported
-pub found_now : (level : Level) (h : History) (program : ProgramTree) (answered : Answered) → is_comparing level ≡ true →
-    run_over (state_now h) program.statements ≡ answered → IsFound level h program [] (run_in answered)
-found_now ReadCommitted h program answered level is = absurd (cc)
-found_now _ h program (Ended run) level is = record { is_run = is; answers_fit = refl }
-found_now _ h program (Wants key trace) level is = λ run reported. never_wants key trace run (sym is ∙ reported.is_run)
-
--- at ReadCommitted an answer that is not true leaves no run
-pub not_true : (level : Level) (h : History) (program : ProgramTree) (answers : List CommittedRead) → is_comparing level ≡ false →
-    (AreTrulyReported h answers → ⊥) → IsFound level h program answers None
-not_true ReadCommitted h program answers level untrue = λ run reported. untrue reported.answers_fit.1
-not_true _ h program answers level untrue = absurd (cc)
 
 pub found_on : (level : Level) (h : History) (program : ProgramTree) (answers : List CommittedRead) (run : Run) → is_comparing level ≡ false →
     AreTrulyReported h answers → run_over (look_up (reads_in h answers)) program.statements ≡ Ended run → keys_reported answers ≡ keys_first_read program.prefetch run.reads →
     IsFound level h program answers (Some run)
 found_on ReadCommitted h program answers run level truth is keys = record { is_run = is; answers_fit = (keys, truth) }
 found_on _ h program answers run level truth is keys = absurd (cc)
-
-pub wants_more : (level : Level) (h : History) (program : ProgramTree) (answers : List CommittedRead) (key : List ℕ) (trace : List TraceItem) →
-    is_comparing level ≡ false → run_over (look_up (reads_in h answers)) program.statements ≡ Wants key trace → IsFound level h program answers None
-wants_more ReadCommitted h program answers key trace level is = λ run reported. never_wants key trace run (sym is ∙ reported.is_run)
-wants_more _ h program answers key trace level is = absurd (cc)
-
--- the run that came to its end, where its keys were compared
-pub on_keys : (look : Lookup) (program : ProgramTree) (answers : List CommittedRead) (answered : Answered) (run : Run) (o : Option Run) →
-    run_over look program.statements ≡ answered → run_in answered ≡ Some run →
-    MatchOption o (keys_reported answers ≡ keys_first_read program.prefetch run.reads → ⊥)
-    (λ same. (same ≡ run) × (keys_reported answers ≡ keys_first_read program.prefetch run.reads)) → IsRunOn look program answers o
-on_keys look program answers answered run None is ended differ = λ other reported keys.
-    let one : run ≡ other = same_Some run other (sym ended ∙ ap run_in (sym is ∙ reported)) in
-    differ (keys ∙ ap (λ (r : Run). keys_first_read program.prefetch r.reads) (sym one))
-on_keys look program answers answered run (Some same) is ended found =
-    (is ∙ ended_is answered same (ended ∙ ap Some (sym found.0)), found.1 ∙ ap (λ (r : Run). keys_first_read program.prefetch r.reads) (sym found.0))
 
 none_on : (level : Level) (h : History) (program : ProgramTree) (answers : List CommittedRead) → is_comparing level ≡ false →
     IsRunOn (look_up (reads_in h answers)) program answers None → IsFound level h program answers None
@@ -187,44 +138,7 @@ reported_once level h program answers one other a b =
 
 -- ---- the store after it
 
-pub commit_led : (s : Standing) (r : Runner) (run : Run) (revision : ℕ) (output : List Value) (trace : List TraceItem) (answers : List CommittedRead) →
-    IsRunReported r.level s.history r.program answers run → run.end ≡ DoneEnd →
-    with_writes s run ≡ led_by (Program r.program r.level (reads_in s.history answers) output trace revision ∷ []) s
-commit_led s r run revision output trace answers reported done =
-    let left : left_by_run (run_over (seen_at r.level (reads_in s.history answers) s.history) r.program.statements) (without_moment s)
-    ≡ with_history (without_moment s) (history_left s.history (applied_run (without_moment s) run)) =
-    ap (λ (a : Answered). left_by_run a (without_moment s)) reported.is_run ∙ ap (λ (e : End). left_by run e (without_moment s)) done in
-    λ k. record s { history = (sym left k).history; live = (sym left k).live }
-
 -- ---- the verdicts
-
--- a commit that is not the next of its run, or that the run may not send
-pub not_next : (b : Bool) (s : Standing) (r : Runner) (revision attempts : ℕ) (output : List Value) (trace : List TraceItem) (answers : List CommittedRead) →
-    (IsTrue b ↔ (attempts ≡ r.conflicts + 1) × (attempts ≤ r.limit)) → b ≡ false →
-    (IsTrue false ↔ IsRightCommit s r revision attempts output trace answers)
-not_next b s r revision attempts output trace answers test is =
-    ((λ t. absurd (cc)), (λ right. sym is ∙ test.1 (right.attempt, right.may_be_sent)))
-
--- a commit of no run
-pub no_run : (s : Standing) (r : Runner) (revision attempts : ℕ) (output : List Value) (trace : List TraceItem) (answers : List CommittedRead) →
-    IsFound r.level s.history r.program answers None → (IsTrue false ↔ IsRightCommit s r revision attempts output trace answers)
-no_run s r revision attempts output trace answers none =
-    ((λ t. absurd (cc)), (λ right. let has = commit_run s r revision attempts output trace answers right in absurd (none has.0 has.1)))
-
--- a commit of a run with another end, output or trace
-pub other_run : (b : Bool) (s : Standing) (r : Runner) (run : Run) (revision attempts : ℕ) (output : List Value) (trace : List TraceItem)
-    (answers : List CommittedRead) → IsRunReported r.level s.history r.program answers run →
-    (IsTrue b ↔ (run.end ≡ DoneEnd) × (run.output ≡ output) × (run.trace ≡ trace)) → b ≡ false →
-    (IsTrue false ↔ IsRightCommit s r revision attempts output trace answers)
-other_run b s r run revision attempts output trace answers reported test is = (
-  (λ t. absurd (cc)),
-  (λ right.
-      let has = commit_run s r revision attempts output trace answers right in
-      let same : has.0 ≡ run = reported_once r.level s.history r.program answers has.0 run has.1 reported in
-      let taken : IsTakenAs s r run revision attempts output trace =
-      subst (λ (x : Run). IsTakenAs s r x revision attempts output trace) same has.2 in
-      sym is ∙ test.1 (taken.is_done, taken.emits, taken.sees)),
-)
 
 -- the commit of the run, where a test looks at all of what the line reports
 pub run_right : (b : Bool) (s : Standing) (r : Runner) (run : Run) (revision attempts : ℕ) (output : List Value) (trace : List TraceItem)
@@ -351,9 +265,6 @@ pub record LeavesKeys (answers : List CommittedRead) (keys : List (List ℕ)) (i
   pub whole : keys_reported (drop i answers) ≡ drop i keys → keys_reported answers ≡ keys
   pub part : keys_reported answers ≡ keys → keys_reported (drop i answers) ≡ drop i keys
 
-pub leaves_all_keys : (answers : List CommittedRead) (keys : List (List ℕ)) → LeavesKeys answers keys 0
-leaves_all_keys answers keys = record { whole = λ same. same; part = λ same. same }
-
 both_left : (answers : List CommittedRead) (keys : List (List ℕ)) (i : ℕ) (a : CommittedRead) (k : List ℕ) → i < length answers → a ≡ get_or answers i a →
     i < length keys → k ≡ get_or keys i k → keys_reported (drop i answers) ≡ drop i keys →
     a.key ∷ keys_reported (drop (i + 1) answers) ≡ k ∷ drop (i + 1) keys
@@ -376,11 +287,6 @@ pub same_key_at : (answers : List CommittedRead) (keys : List (List ℕ)) (i : �
 same_key_at answers keys i a k within is within_keys key_is so_far all =
     key_heads a.key k (keys_reported (drop (i + 1) answers)) (drop (i + 1) keys)
     (both_left answers keys i a k within is within_keys key_is (so_far.part all))
-
-pub leaves_no_key : (answers : List CommittedRead) (keys : List (List ℕ)) (i : ℕ) → length answers ≤ i → length keys ≤ i → LeavesKeys answers keys i →
-    keys_reported answers ≡ keys
-leaves_no_key answers keys i end end_keys so_far =
-    so_far.whole (ap keys_reported (drop_all i answers end) ∙ sym (drop_all i keys end_keys))
 
 -- ---- the reply to a step
 

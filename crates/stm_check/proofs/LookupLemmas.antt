@@ -1,7 +1,6 @@
 -- Answers that are looked up one after another.
-use Rattle.std.proofs.Common.{◌≡◌, ℕ, zero, suc, ◌+◌, ◌<◌, ◌≤◌, Bool, true, false, cond, List, [], ◌∷◌, ◌++◌, length, drop, get_or, Option, Some, None}
+use Rattle.std.proofs.Common.{◌≡◌, ℕ, zero, suc, ◌+◌, ◌<◌, Bool, true, false, cond, List, [], ◌∷◌, ◌++◌, length, drop, get_or, Option, Some, None}
 use Rattle.std.proofs.Common.{option_map, refl, sym, ◌∙◌, ap, subst, arith}
-use Rattle.std.proofs.lemmas.List.{drop_all}
 use Rattle.std.proofs.lemmas.Slice.Eq.{bytes_eq-Decides}
 use Rattle.std.specs.Prelude.{bytes_eq, is_some}
 use Rattle.std.specs.Option.{option_or}
@@ -71,9 +70,6 @@ pub record LeavesTruth (h : History) (answers left : List CommittedRead) : Type 
   pub whole : AreTrulyReported h left → AreTrulyReported h answers
   pub part : AreTrulyReported h answers → AreTrulyReported h left
 
-pub leaves_all : (h : History) (answers : List CommittedRead) → LeavesTruth h answers answers
-leaves_all h answers = record { whole = λ t. t; part = λ t. t }
-
 pub leaves_less : (h : History) (answers : List CommittedRead) (i : ℕ) (a : CommittedRead) → i < length answers → a ≡ get_or answers i a →
     LeavesTruth h answers (drop i answers) → IsTrulyReported h a → LeavesTruth h answers (drop (i + 1) answers)
 leaves_less h answers i a within is so_far truth =
@@ -87,9 +83,6 @@ leaves_less h answers i a within is so_far truth =
 pub true_at : (h : History) (answers : List CommittedRead) (i : ℕ) (a : CommittedRead) → i < length answers → a ≡ get_or answers i a →
     LeavesTruth h answers (drop i answers) → AreTrulyReported h answers → IsTrulyReported h a
 true_at h answers i a within is so_far all = (subst (AreTrulyReported h) (left_at answers i a within is) (so_far.part all)).0
-
-pub leaves_none : (h : History) (answers : List CommittedRead) (i : ℕ) → length answers ≤ i → LeavesTruth h answers (drop i answers) → AreTrulyReported h answers
-leaves_none h answers i end so_far = so_far.whole (subst (AreTrulyReported h) (sym (drop_all i answers end)) tt)
 
 pub truth_at : (h : History) (answers : List CommittedRead) (i : ℕ) (a : CommittedRead) → i < length answers → a ≡ get_or answers i a →
     AreTrulyReported h answers → IsTrulyReported h a

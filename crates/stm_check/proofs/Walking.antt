@@ -1,5 +1,5 @@
 -- A walk along the events' lines, and along those of the end.
-use Rattle.std.proofs.Common.{◌≡◌, inr, ℕ, ◌+◌, ◌<◌, ◌≤◌, suc, List, [], ◌∷◌, length, drop, get_or, Ok, Err, refl, sym, ◌∙◌, ap, subst, arith}
+use Rattle.std.proofs.Common.{◌≡◌, inr, ℕ, ◌+◌, ◌<◌, ◌≤◌, suc, List, [], ◌∷◌, length, drop, get_or, Ok, Err, refl, sym, subst, arith}
 use Rattle.std.specs.Prelude.{Result, IfOk}
 use Rattle.std.specs.declared.alloc.AllocError.{AllocError}
 use Rattle.std.proofs.lemmas.List.{drop_all, length-drop}
@@ -23,9 +23,6 @@ pub record HasWalked (n : ℕ) (p : Point) (events : List WorldEvent) (lines : L
   pub right : AreRightEvents m q events_left lines_left → AreRightEvents n p events lines
   pub wrong : (line : ℕ) (cause : WrongCause) → IsFirstWrong m q events_left lines_left line cause → IsFirstWrong n p events lines line cause
   pub point : point_after q events_left lines_left ≡ point_after p events lines
-
-pub walked_none : (n : ℕ) (p : Point) (events : List WorldEvent) (lines : List ReportLine) → HasWalked n p events lines n p events lines
-walked_none n p events lines = record { right = λ r. r; wrong = λ line cause w. w; point = refl }
 
 pub walked_one : (n : ℕ) (p : Point) (events : List WorldEvent) (lines : List ReportLine) (m : ℕ) (q : Point) (event : WorldEvent)
     (events_left : List WorldEvent) (l : ReportLine) (lines_left : List ReportLine) →
@@ -88,21 +85,6 @@ joined n p events lines (No wrong cause) right off = joined_no n p events lines 
 pub record HasAgreed (finals lines : List ReportLine) (count : ℕ) (finals_left lines_left : List ReportLine) : Type 0 where
   pub same : lines_left ≡ finals_left → lines ≡ finals
   pub off : (n wrong : ℕ) (cause : WrongCause) → IsOff (n + count) finals_left lines_left wrong cause → IsOff n finals lines wrong cause
-
-pub agreed_none : (finals lines : List ReportLine) → HasAgreed finals lines 0 finals lines
-agreed_none finals lines = record {
-  same = λ e. e;
-  off = λ n wrong cause o. let same : n + 0 ≡ n = omega arith in subst (λ (m : ℕ). IsOff m finals lines wrong cause) same o;
-}
-
-pub agreed_one : (finals lines : List ReportLine) (count : ℕ) (final l : ReportLine) (finals_left lines_left : List ReportLine) →
-    HasAgreed finals lines count (final ∷ finals_left) (l ∷ lines_left) → l ≡ final → HasAgreed finals lines (suc count) finals_left lines_left
-agreed_one finals lines count final l finals_left lines_left so_far is = record {
-  same = λ rest. so_far.same (ap (λ (x : ReportLine). x ∷ lines_left) is ∙ ap (λ (ls : List ReportLine). final ∷ ls) rest);
-  off = λ n wrong cause o.
-      let same : n + suc count ≡ suc (n + count) = omega arith in
-      so_far.off n wrong cause (inr (is, subst (λ (m : ℕ). IsOff m finals_left lines_left wrong cause) same o));
-}
 
 -- a line that is missing after those that agree
 head_missing : (finals_left lines_left : List ReportLine) (m wrong : ℕ) → 0 < length finals_left → lines_left ≡ [] → wrong ≡ m →

@@ -1,5 +1,5 @@
 -- Answers at the four levels, as loops come to them.
-use Rattle.std.proofs.Common.{◌≡◌, ℕ, zero, suc, ◌+◌, ◌-◌, ◌<◌, ◌≤◌, true, false, List, [], ◌∷◌, ◌++◌, length, map, take, drop, get_or, All, Some, refl, sym, ap, ap₂, ◌∙◌, subst, arith}
+use Rattle.std.proofs.Common.{◌≡◌, ℕ, zero, suc, ◌+◌, ◌-◌, ◌<◌, false, List, [], ◌∷◌, ◌++◌, length, map, take, drop, All, refl, sym, ap, ap₂, ◌∙◌, subst, arith}
 use Rattle.std.specs.List.{list_all}
 use Rattle.std.proofs.lemmas.List.{take_rest}
 use Rattle.std.proofs.lemmas.List.Elements.{All-push}
@@ -60,9 +60,3 @@ pub not_enough : (at : List LevelAnswers) (i : ℕ) → i < length at → list_a
 not_enough at i within less =
     let step : i + 1 ≡ suc i = omega arith in
     ap (λ (n : ℕ). enough (drop n at)) step ∙ next_not at i within (ap (list_all all_kept) (sym (take_rest at i)) ∙ less)
-
-here_enough : (at : List LevelAnswers) (i : ℕ) (d : LevelAnswers) → i < length at → list_all all_kept (drop i at) ≡ true
-    → Some (get_or at i d).level ≡ enough (drop i at)
-here_enough [] i d within passes = absurd (omega (arith, within))
-here_enough (x ∷ at) zero d within passes = rw passes refl
-here_enough (x ∷ at) (suc i) d within passes = here_enough at i d (omega (arith, within)) passes

@@ -1,18 +1,11 @@
 -- Adding events and lines one after the other, as loops do.
-use Rattle.std.proofs.Common.{◌≡◌, ℕ, suc, ◌+◌, ◌<◌, ◌≤◌, List, [], ◌∷◌, ◌++◌, length, map, take, drop, get_or, sym, ap, ◌∙◌, arith}
-use Rattle.std.proofs.Common.{append_assoc, append-nil}
+use Rattle.std.proofs.Common.{◌≡◌, ℕ, suc, ◌+◌, ◌<◌, List, [], ◌∷◌, ◌++◌, length, map, take, get_or, sym, ap, ◌∙◌, arith, append_assoc, append-nil}
 use Rattle.std.proofs.lemmas.List.{map-append}
 use Rattle.std.proofs.lemmas.List.Folds.{concat-append}
-use Rattle.std.proofs.Math.Seq.{drop-cons, take-suc}
+use Rattle.std.proofs.Math.Seq.{take-suc}
 use Rattle.std.specs.List.{concat}
-use Rattle.stm_schedules.specs.declared.moves.Move.{Move}
 
 -- ---- the events of moves
-
-next_move : (ms : List Move) (i : ℕ) (m : Move) → i < length ms → m ≡ get_or ms i m → drop i ms ≡ m ∷ drop (i + 1) ms
-next_move ms i m within at =
-    let step : i + 1 ≡ suc i = omega arith in
-    drop-cons ms i m within ∙ ap (λ (k : Move). k ∷ drop (suc i) ms) (sym at) ∙ ap (λ (n : ℕ). m ∷ drop n ms) (sym step)
 
 -- ---- texts that are joined
 

@@ -1,5 +1,5 @@
 -- What is known at the four levels, as loops come to it.
-use Rattle.std.proofs.Common.{◌≡◌, ℕ, zero, suc, ◌+◌, ◌-◌, ◌<◌, ◌≤◌, true, false, List, [], ◌∷◌, ◌++◌, length, take, drop, get_or, All, Some, refl, sym, ap, ◌∙◌, subst, arith}
+use Rattle.std.proofs.Common.{◌≡◌, ℕ, zero, suc, ◌+◌, ◌-◌, ◌<◌, false, List, [], ◌∷◌, ◌++◌, length, take, drop, All, refl, sym, ap, ◌∙◌, subst, arith}
 use Rattle.std.specs.List.{list_all}
 use Rattle.std.proofs.lemmas.List.{take_rest}
 use Rattle.std.proofs.lemmas.List.Elements.{All-push}
@@ -35,9 +35,3 @@ pub not_serial_yet : (at : List SerialLevel) (i : ℕ) → i < length at → lis
 not_serial_yet at i within less =
     let step : i + 1 ≡ suc i = omega arith in
     ap (λ (n : ℕ). enough_serial (drop n at)) step ∙ next_not at i within (ap (list_all is_serial) (sym (take_rest at i)) ∙ less)
-
-here_enough : (at : List SerialLevel) (i : ℕ) (d : SerialLevel) → i < length at → list_all is_serial (drop i at) ≡ true
-    → Some (get_or at i d).level ≡ enough_serial (drop i at)
-here_enough [] i d within passes = absurd (omega (arith, within))
-here_enough (x ∷ at) zero d within passes = rw passes refl
-here_enough (x ∷ at) (suc i) d within passes = here_enough at i d (omega (arith, within)) passes

@@ -1,6 +1,5 @@
 -- A small world agrees with the whole one on what programs, rules and the others' transactions name.
-use Rattle.std.proofs.Common.{◌≡◌, ◌⊎◌, inl, inr, ◌<◌, ◌≤◌, ◌+◌, ◌-◌, ℕ, zero, suc, Bool, true, false, cond, ◌&&◌, ◌||◌, List, [], ◌∷◌, ◌++◌, length, drop, filter, get_or, Some, refl, sym, ap, ◌∙◌, subst, arith}
-use Rattle.std.proofs.Math.Seq.{drop-cons}
+use Rattle.std.proofs.Common.{◌≡◌, ◌⊎◌, inl, inr, ◌≤◌, ◌+◌, ◌-◌, ℕ, zero, suc, Bool, true, false, ◌&&◌, ◌||◌, List, [], ◌∷◌, ◌++◌, filter, Some, refl, sym, ap, ◌∙◌, subst, arith}
 use Rattle.std.proofs.lemmas.Bool.{and_parts}
 use Rattle.std.specs.BTreeMap.{is_at}
 use Rattle.std.specs.FinMap as finmap
@@ -8,7 +7,7 @@ use Rattle.std.specs.List.{AllByRecursion, list_all, list_any}
 use Rattle.std.specs.Ordering.{is_eq}
 use Rattle.std.specs.declared.cmp.Ordering.{Ordering}
 use Rattle.std.specs.declared.cmp.Ordering.TheVariants.{Less, Equal, Greater}
-use Rattle.std.specs.Prelude.{Option, None, Result, Ok, Err, IfOk, IfSome, slice_get, if◌then◌else◌}
+use Rattle.std.specs.Prelude.{Option, None, Result, Ok, Err, IfOk, IfSome, slice_get}
 use Rattle.stm_history.specs.History.{now, key_now}
 use Rattle.stm_history.proofs.CutLaws.{cut_keeps_keys_now, cut_keeps_now}
 use Rattle.stm_program.specs.Syntax.{ProgramTree}
@@ -30,26 +29,6 @@ use Rattle.stm_exploring.specs.Narrowing.{HasRun, IsNew, IsSmall, Narrows, ShowT
 
 -- ---- loops
 
--- the first of those that are left, and the others
-pub all_left : {A : Type 0} (f : A → Bool) (xs : List A) (i : ℕ) (x : A) → i < length xs → x ≡ get_or xs i x → list_all f (drop i xs) ≡ (f x && list_all f (drop (i + 1) xs))
-all_left f xs i x within is =
-    let step : i + 1 ≡ suc i = omega arith in
-    ap (list_all f) (drop-cons xs i x within) ∙ ap (λ y. f y && list_all f (drop (suc i) xs)) (sym is) ∙ ap (λ n. f x && list_all f (drop n xs)) (sym step)
-
--- the starts among those that are left: from the first of these on, and then from the others
-pub starts_left : (events : List WorldEvent) (i : ℕ) (e : WorldEvent) (w next : World) → i < length events → e ≡ get_or events i e →
-    next ≡ world_after (if is_start e then e ∷ [] else []) w → world_after (filter is_start (drop (i + 1) events)) next ≡ world_after (filter is_start (drop i events)) w
-starts_left events i e w next within is taken =
-    let step : i + 1 ≡ suc i = omega arith in
-    let rest : List WorldEvent = drop (suc i) events in
-    ap (λ (n : ℕ). world_after (filter is_start (drop n events)) next) step ∙ ap (world_after (filter is_start rest)) taken ∙ sym (by (is_start e) refl)
-    ∙ ap (λ (x : WorldEvent). world_after (filter is_start (x ∷ rest)) w) is ∙ ap (λ (es : List WorldEvent). world_after (filter is_start es) w) (sym (drop-cons events i e within))
-  where
-    by : (b : Bool) → is_start e ≡ b → world_after (filter is_start (e ∷ drop (suc i) events)) w
-        ≡ world_after (filter is_start (drop (suc i) events)) (world_after (if is_start e then e ∷ [] else []) w)
-    by true at = rw at refl
-    by false at = rw at refl
-
 -- each of these keys is so, or is one of those that are left
 abbrev pub SoFar : {K : Type 0} → (K → K → Ordering) → (K → Type 0) → List K → List K → Type 0
 SoFar {K} cmp P all left = (k : K) → list_any (is_at (cmp k)) all ≡ true → P k ⊎ (list_any (is_at (cmp k)) left ≡ true)
@@ -66,13 +45,6 @@ one_so cmp same P all left k is so_far q among = by (so_far q among)
     by : P q ⊎ (list_any (is_at (cmp q)) (k ∷ left) ≡ true) → P q ⊎ (list_any (is_at (cmp q)) left ≡ true)
     by (inl known) = inl known
     by (inr there) = first (cmp q k) refl there
-
-pub all_so : {K : Type 0} (cmp : K → K → Ordering) (P : K → Type 0) (all : List K) → SoFar cmp P all [] → (k : K) → list_any (is_at (cmp k)) all ≡ true → P k
-all_so cmp P all so_far k among = by (so_far k among)
-  where
-    by : P k ⊎ (list_any (is_at (cmp k)) [] ≡ true) → P k
-    by (inl known) = known
-    by (inr there) = absurd (cc)
 
 -- ---- a store without the revisions that a compaction dropped shows the same as with them
 

@@ -12,10 +12,6 @@ use Rattle.stm_faulted_runs.specs.Jobs.{reported_job, reported_of_job}
 pub one_line : (origin : Origin) (reported : FaultReport) (old new line : List ℕ) → new ≡ old ++ line → IsLineOf origin reported line → Adds origin (reported ∷ []) old new
 one_line origin reported old new line is line_is = (line, is, (line, [], sym (append-nil line), line_is, refl))
 
--- no line is none
-pub no_line : (origin : Origin) (old : List ℕ) → Adds origin [] old old
-no_line origin old = ([], sym (append-nil old), refl)
-
 -- the lines of some, and after them those of others
 pub joined : (origin : Origin) (some others : List FaultReport) (said more : List ℕ) → ExplainsEach origin some said → ExplainsEach origin others more →
     ExplainsEach origin (some ++ others) (said ++ more)

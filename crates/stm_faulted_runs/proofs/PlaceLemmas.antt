@@ -1,6 +1,5 @@
 -- The place of a fault begins with the index of a statement, of which a program has no more than it may have nodes.
-use Rattle.std.proofs.Common.{◌≡◌, ◌∙◌, ℕ, zero, suc, ◌+◌, ◌-◌, ◌<◌, ◌≤◌, Bool, true, false, nat_lt, List, [], ◌∷◌, ◌++◌, length, get_or}
-use Rattle.std.proofs.Common.{Option, None, Some, refl, sym, ap, subst, arith}
+use Rattle.std.proofs.Common.{◌≡◌, ◌∙◌, ℕ, zero, suc, ◌-◌, ◌<◌, ◌≤◌, Bool, true, false, nat_lt, List, ◌∷◌, Option, None, Some, refl, sym, ap, subst, arith}
 use Rattle.std.specs.Prelude.{IfSome}
 use Rattle.std.proofs.lemmas.Bool.{ltb-true, ltb-false}
 use Rattle.std.proofs.lemmas.Option.{same_Some}
@@ -84,8 +83,3 @@ found_below look p None fits is = tt
 found_below look p (Some found) fits is = begins_below look p found fits (sym is)
 
 -- ---- a place after the list of its program
-
--- the first index of a place that has one
-pub first_below : (most : ℕ) (place : List ℕ) (index : ℕ) → 1 ≤ length place → index ≡ get_or place 0 index → BeginsBelow most place → index < most
-first_below most [] index some is below = absurd (omega arith)
-first_below most (n ∷ place) index some is below = subst (λ (m : ℕ). m < most) (sym is) below

@@ -1,5 +1,5 @@
 -- Statements of a source, from the end of a list to its beginning.
-use Rattle.std.proofs.Common.{◌≡◌, ℕ, zero, suc, ◌+◌, ◌-◌, ◌<◌, ◌≤◌, Bool, true, ◌&&◌, List, [], ◌∷◌, length, get_or, drop, refl, sym, ap, ◌∙◌, arith}
+use Rattle.std.proofs.Common.{◌≡◌, ℕ, zero, suc, ◌+◌, ◌-◌, ◌<◌, Bool, true, ◌&&◌, List, [], ◌∷◌, length, get_or, drop, refl, sym, ap, ◌∙◌, arith}
 use Rattle.std.specs.Prelude.{nat_lt, if◌then◌else◌}
 use Rattle.std.proofs.lemmas.List.{at_drop_more}
 use Rattle.std.proofs.Math.Seq.{drop-length}
@@ -10,25 +10,10 @@ use Rattle.stm_leaving.specs.Source.{Source, Sources, Plain, Choice, Items, Coun
 use Rattle.stm_leaving.specs.Leaving.{goes_on, keeps_to, keeps_to_one}
 use Rattle.stm_leaving.specs.PartsView.{sources_of}
 use Rattle.stm_leaving.specs.CopiesView.{copies_of}
-use Rattle.stm_leaving.specs.Weight.{source_weight, sources_weight, sources_weight-positive}
 use Rattle.stm_leaving.specs.declared.follow.Follow.{Follow}
 use Rattle.stm_leaving.specs.Closed.{nothing, with_next, copy_follow, is_abort, behind, closed, closed_one, closed_copies, items_behind, first_abort, around, behind_last}
 
 -- ---- weights
-
-source_weight-positive : (s : Source) → 1 ≤ source_weight s
-source_weight-positive (Plain p) = omega arith
-source_weight-positive (Choice c a b) = omega arith
-source_weight-positive (Items cs) = omega arith
-source_weight-positive (Count v e n b) = omega arith
-source_weight-positive Return = omega arith
-source_weight-positive Break = omega arith
-source_weight-positive Continue = omega arith
-
-pub item_weight : (ss : List Source) (i : ℕ) (s : Source) → i < length ss → s ≡ get_or ss i s → source_weight s + 1 ≤ sources_weight (sources_of ss)
-item_weight [] i s h e = absurd (omega arith)
-item_weight (t ∷ ss) zero s h e = omega (arith, ap source_weight e, sources_weight-positive ss)
-item_weight (t ∷ ss) (suc i) s h e = omega (arith, item_weight ss i s (omega arith) e, source_weight-positive t)
 
 -- ---- what is around a statement
 

@@ -1,6 +1,5 @@
 -- Reading lines one after the other, as a loop does.
 use Rattle.std.proofs.Common.{◌≡◌, ℕ, suc, List, [], ◌∷◌, ◌++◌, length, Ok, Err, refl, sym, ap, subst, ◌∙◌, arith, length-append}
-use Rattle.std.proofs.lemmas.List.{append-nil}
 use Rattle.stm_json.specs.declared.read_error.ReadError.{ReadError}
 use Rattle.stm_json.specs.declared.read_error.ReadError.TheVariants as error
 use Rattle.stm_json.specs.Outcome.{Outcome, ◌>>=◌, within}
@@ -44,12 +43,6 @@ ends (error.Bad f) lines rest part after total n many cut reported whole =
 -- no line feed is left
 last_part : (lines : List ReportLine) (rest : List ℕ) → parts_of rest ≡ rest ∷ [] → so_far lines rest ≡ with_front lines (within (length lines) (rest_of rest))
 last_part lines rest none = ap (λ (ps : List (List ℕ)). with_front lines (lines_from (length lines) ps)) none
-
-pub is_done : (lines : List ReportLine) (rest : List ℕ) (total : Outcome (List ReportLine)) (n : ℕ) → n ≡ length lines
-    → parts_of rest ≡ rest ∷ [] → within n (rest_of rest) ≡ Ok [] → so_far lines rest ≡ total → total ≡ Ok lines
-is_done lines rest total n many none reported whole =
-    let is : within (length lines) (rest_of rest) ≡ Ok [] = subst (λ (k : ℕ). within k (rest_of rest) ≡ Ok []) many reported in
-    sym whole ∙ last_part lines rest none ∙ rw is (ap (λ (ys : List ReportLine). Ok ys) (append-nil lines))
 
 pub is_bad : (e : ReadError) (lines : List ReportLine) (rest : List ℕ) (total : Outcome (List ReportLine)) (n : ℕ) → n ≡ length lines
     → parts_of rest ≡ rest ∷ [] → ReturnsFault e (within n (rest_of rest)) → so_far lines rest ≡ total → ReturnsFault e total

@@ -29,10 +29,6 @@ then_all-append (s ∷ ss) more b = ap (Next s) (then_all-append ss more b)
 abbrev pub with_front : List Source → ReadBlock → ReadBlock
 with_front front reading = reading >>= λ b. Ok (then_all front b.0, b.1, b.2)
 
-pub nothing_before : (reading : ReadBlock) → with_front [] reading ≡ reading
-nothing_before (Ok b) = refl
-nothing_before (Err f) = refl
-
 regroup_by : (keeps : Bool) (front ss : List Source) (b : Sources)
     → then_all front (if keeps then then_all ss b else b) ≡ then_all (if keeps then front ++ ss else front) b
 regroup_by true front ss b = sym (then_all-append front ss b)

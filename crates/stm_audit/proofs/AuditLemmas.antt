@@ -59,41 +59,41 @@ nothing_at f xs i n past same =
 
 -- ---- commits
 
-reached : (s : Standing) (made : List Commit) (number : ℕ) (t : Commit) (ts : List Commit) → is_reached t.revision (revision_of (after s t.writes)) ≡ true
-    → audit_from s made number (t ∷ ts) ≡ more (found_in s.history made number t)
-    (audit_from (left_by s (after s t.writes)) (with_maker (nat_lt (now s.history) t.revision) made t) (suc number) ts)
-reached s made number t ts is = rw is refl
+reached : (known : ℕ) (s : Standing) (made : List Commit) (number : ℕ) (t : Commit) (ts : List Commit) → is_reached t.revision (revision_of (after s t.writes)) ≡ true
+    → audit_from known s made number (t ∷ ts) ≡ more (found_in s.history known made number t)
+    (audit_from known (left_by s (after s t.writes)) (with_maker (nat_lt (now s.history) t.revision) made t) (suc number) ts)
+reached known s made number t ts is = rw is refl
 
 -- one commit more
-pub goes_on : (s : Standing) (made : List Commit) (findings : List Finding) (commits : List Commit) (i number : ℕ) (t : Commit) (total : Audited)
+pub goes_on : (known : ℕ) (s : Standing) (made : List Commit) (findings : List Finding) (commits : List Commit) (i number : ℕ) (t : Commit) (total : Audited)
     → i < length commits → t ≡ get_or commits i t → number ≡ i + 1 → is_reached t.revision (revision_of (after s t.writes)) ≡ true
-    → onto findings (audit_from s made (i + 1) (drop i commits)) ≡ total
-    → onto (findings ++ with_found (found_in s.history made number t) [])
-    (audit_from (left_by s (after s t.writes)) (with_maker (nat_lt (now s.history) t.revision) made t) (i + 1 + 1) (drop (i + 1) commits)) ≡ total
-goes_on s made findings commits i number t total within at is came so_far =
+    → onto findings (audit_from known s made (i + 1) (drop i commits)) ≡ total
+    → onto (findings ++ with_found (found_in s.history known made number t) [])
+    (audit_from known (left_by s (after s t.writes)) (with_maker (nat_lt (now s.history) t.revision) made t) (i + 1 + 1) (drop (i + 1) commits)) ≡ total
+goes_on known s made findings commits i number t total within at is came so_far =
     let next : i + 1 + 1 ≡ suc (i + 1) = omega arith in
-    let one : onto findings (audit_from s made (i + 1) (drop i commits)) ≡ onto (findings ++ with_found (found_in s.history made (i + 1) t) [])
-    (audit_from (left_by s (after s t.writes)) (with_maker (nat_lt (now s.history) t.revision) made t) (suc (i + 1)) (drop (i + 1) commits)) =
-    ap (λ (ts : List Commit). onto findings (audit_from s made (i + 1) ts)) (left_at commits i t within at)
-    ∙ ap (onto findings) (reached s made (i + 1) t (drop (i + 1) commits) came)
-    ∙ regroup findings (found_in s.history made (i + 1) t)
-    (audit_from (left_by s (after s t.writes)) (with_maker (nat_lt (now s.history) t.revision) made t) (suc (i + 1)) (drop (i + 1) commits)) in
+    let one : onto findings (audit_from known s made (i + 1) (drop i commits)) ≡ onto (findings ++ with_found (found_in s.history known made (i + 1) t) [])
+    (audit_from known (left_by s (after s t.writes)) (with_maker (nat_lt (now s.history) t.revision) made t) (suc (i + 1)) (drop (i + 1) commits)) =
+    ap (λ (ts : List Commit). onto findings (audit_from known s made (i + 1) ts)) (left_at commits i t within at)
+    ∙ ap (onto findings) (reached known s made (i + 1) t (drop (i + 1) commits) came)
+    ∙ regroup findings (found_in s.history known made (i + 1) t)
+    (audit_from known (left_by s (after s t.writes)) (with_maker (nat_lt (now s.history) t.revision) made t) (suc (i + 1)) (drop (i + 1) commits)) in
     rw (is, next) (sym one ∙ so_far)
 
 -- the first commit whose revision is another one
-pub stops : (s : Standing) (made : List Commit) (findings : List Finding) (commits : List Commit) (i number : ℕ) (t : Commit) (total : Audited)
+pub stops : (known : ℕ) (s : Standing) (made : List Commit) (findings : List Finding) (commits : List Commit) (i number : ℕ) (t : Commit) (total : Audited)
     → i < length commits → t ≡ get_or commits i t → number ≡ i + 1 → is_reached t.revision (revision_of (after s t.writes)) ≡ false
-    → onto findings (audit_from s made (i + 1) (drop i commits)) ≡ total
+    → onto findings (audit_from known s made (i + 1) (drop i commits)) ≡ total
     → record { findings = findings; off = Some number } ≡ total
-stops s made findings commits i number t total within at is came so_far =
-    let one : onto findings (audit_from s made (i + 1) (drop i commits)) ≡ record { findings = findings; off = Some number } =
+stops known s made findings commits i number t total within at is came so_far =
+    let one : onto findings (audit_from known s made (i + 1) (drop i commits)) ≡ record { findings = findings; off = Some number } =
     rw (left_at commits i t within at, came) (rw (sym is) (ap (λ (l : List Finding). record { findings = l; off = Some number }) (append-nil findings))) in
     sym one ∙ so_far
 
 -- the end of the trace
-pub ends : (s : Standing) (made : List Commit) (findings : List Finding) (commits : List Commit) (i : ℕ) (total : Audited) → drop i commits ≡ []
-    → onto findings (audit_from s made (i + 1) (drop i commits)) ≡ total → record { findings = findings; off = None } ≡ total
-ends s made findings commits i total none so_far =
-    let one : onto findings (audit_from s made (i + 1) (drop i commits)) ≡ record { findings = findings; off = None } =
+pub ends : (known : ℕ) (s : Standing) (made : List Commit) (findings : List Finding) (commits : List Commit) (i : ℕ) (total : Audited) → drop i commits ≡ []
+    → onto findings (audit_from known s made (i + 1) (drop i commits)) ≡ total → record { findings = findings; off = None } ≡ total
+ends known s made findings commits i total none so_far =
+    let one : onto findings (audit_from known s made (i + 1) (drop i commits)) ≡ record { findings = findings; off = None } =
     rw none (ap (λ (l : List Finding). record { findings = l; off = None }) (append-nil findings)) in
     sym one ∙ so_far

@@ -68,16 +68,16 @@ compares_both SerializableSnapshot is = refl
 compares_both _ is = absurd (cc)
 
 pub kept_where_nothing_is_broken : KeptWhereNothingIsBroken
-kept_where_nothing_is_broken h made number t kept =
-    let untrue : Option CommittedRead = find (is_untrue h) t.reads in
+kept_where_nothing_is_broken h known made number t kept =
+    let untrue : Option CommittedRead = find (is_untrue h known) t.reads in
     let stale : Option CommittedRead = find (is_stale h) t.reads in
     let after_untrue : Option Finding = option_or (stale_in h made number t) (overwritten_in h number t) in
-    let all_so : find (is_untrue h) t.reads ≡ None = none_first (of_read h number DirtyRead true) untrue after_untrue (λ a. refl) kept in
+    let all_so : find (is_untrue h known) t.reads ≡ None = none_first (of_read h number DirtyRead true) untrue after_untrue (λ a. refl) kept in
     let next : NotBroken after_untrue = past (of_read h number DirtyRead true) untrue after_untrue all_so kept in
     let none_stale : is_comparing t.level ≡ true → find (is_stale h) t.reads ≡ None =
     λ is. none_first (of_stale h made number t) stale (overwritten_in h number t) (λ a. is) next in
     record {
-      so = none_is (is_untrue h) (λ (a : CommittedRead). is_so h a ≡ true) t.reads (λ a. not-false (is_so h a)) all_so;
+      so = none_is (is_untrue h known) (λ (a : CommittedRead). is_so h known a ≡ true) t.reads (λ a. not-false (is_so h known a)) all_so;
       unchanged = λ is.
           none_is (is_stale h) (λ (a : CommittedRead). a.mod_rev ≡ mod_of (key_now h a.key)) t.reads (λ a. same_number a.mod_rev (mod_of (key_now h a.key)))
           (none_stale is);

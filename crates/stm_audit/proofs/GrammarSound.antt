@@ -35,44 +35,21 @@ use Rattle.stm_audit.specs.Reading.{stood, key_by, key_of, began, beginning_by, 
 
 -- ---- arrays of three and of four
 
-quad_at : (d : Data) (o : Option Items) (p : Data × Data × Data × Data) → as_array d ≡ o → option_and_then four_of o ≡ Some p
-    → d ≡ array (items_of (p.0 ∷ p.1 ∷ p.2 ∷ p.3 ∷ []))
-quad_at d None p e h = absurd (cc (h))
-quad_at d (Some ds) p e h = list_is d ds e ∙ ap array (four_of-is ds p h)
-
 quad_is : (d : Data) (p : Data × Data × Data × Data) → quad d ≡ Some p → d ≡ array (items_of (p.0 ∷ p.1 ∷ p.2 ∷ p.3 ∷ []))
-quad_is d p h = quad_at d (as_array d) p refl h
-
-triple_at : (d : Data) (o : Option Items) (p : Data × Data × Data) → as_array d ≡ o → option_and_then three_of o ≡ Some p
-    → d ≡ array (items_of (p.0 ∷ p.1 ∷ p.2 ∷ []))
-triple_at d None p e h = absurd (cc (h))
-triple_at d (Some ds) p e h = list_is d ds e ∙ ap array (three_of-is ds p h)
+quad_is (array ds) p h = ap array (four_of-is ds p h)
+quad_is _ p h = cc
 
 triple_is : (d : Data) (p : Data × Data × Data) → triple d ≡ Some p → d ≡ array (items_of (p.0 ∷ p.1 ∷ p.2 ∷ []))
-triple_is d p h = triple_at d (as_array d) p refl h
+triple_is (array ds) p h = ap array (three_of-is ds p h)
+triple_is _ p h = cc
 
 -- ---- reads
 
-null_is : (d : Data) → is_some (as_null d) ≡ true → d ≡ null
-null_is null is = refl
-null_is (boolean b) is = absurd (cc (is))
-null_is (number n) is = absurd (cc (is))
-null_is (string s) is = absurd (cc (is))
-null_is (array ds) is = absurd (cc (is))
-null_is (object ms) is = absurd (cc (is))
-
-value_by : (d : Data) (b : Bool) (v : Option (List ℕ)) → is_some (as_null d) ≡ b → cond b (Ok None) (text_of d >>= λ s. Ok (Some s)) ≡ Ok v → SpellsValue d v
-value_by d true v is h =
-    let same : None ≡ v = cc (h) in
-    subst (SpellsValue d) same (null_is d is)
-value_by d false v is h =
-    let s = bind_ok (text_of d) _ v h in
-    let same : Some s.0 ≡ v = cc (s.2) in
-    subst (SpellsValue d) same (text_of-is d s.0 s.1)
-
 value_sound : (d : Data) (v : Option (List ℕ)) → text_or_null d ≡ Ok v → SpellsValue d v
-unfolding text_or_null
-value_sound d v h = value_by d (is_some (as_null d)) v refl h
+unfolding text_or_null text_of
+value_sound null None h = refl
+value_sound (string s) (Some t) h = cc
+value_sound _ _ h = cc
 
 abbrev read_with : List ℕ → Option (List ℕ) → ℕ → ℕ → CommittedRead
 read_with key value mod_rev of_rev = record { key = key; value = value; mod_rev = mod_rev; of_rev = of_rev }

@@ -10,7 +10,7 @@ use stm_program::Write;
 
 /// The revision of a store before a commit, where what that writes changes something.
 fn before(commit: &Commit) -> u64 {
-    if commit.writes.is_empty() {
+    if commit.writes.as_slice().is_empty() {
         commit.revision
     } else {
         commit.revision.saturating_sub(1)

@@ -1,20 +1,22 @@
--- A property of what a run has come to, which each of its steps keeps, holds at its end.
-use Rattle.std.proofs.Common.{ℕ, suc, zero, ◌<◌, Bool, true, false, not, List, [], ◌∷◌, length, arith}
-use Rattle.std.specs.Prelude.{pos, nat_lt, if◌then◌else◌, Result, Ok, Err}
-use Rattle.stm_program.specs.Syntax.{Expression, Condition, Statement, Block, Text, Number, Variable, Get, Rev, Arithmetic, Cat, TextOf, NumOf, Equal}
-use Rattle.stm_program.specs.Syntax.{Less, Not, And, Or, Set, Put, Del, If, For, Emit, Abort, End, Then}
+-- What holds of a run at its end, since each of its steps keeps it, and what a run has in common with the run over a look-up that has its answers and more.
+use Rattle.std.proofs.Common.{◌≡◌, ℕ, ◌<◌, Bool, true, false, cond, List, [], ◌∷◌, length, Option, None, Some, refl, sym, ap, subst}
+use Rattle.std.specs.Prelude.{pos, nat_lt}
+use Rattle.std.specs.List.{AllByRecursion}
+use Rattle.stm_program.specs.Syntax.{Expression, Block}
+use Rattle.stm_program.specs.Writes.{last_write}
 use Rattle.stm_history.specs.declared.change.Change.{Change}
-use Rattle.stm_steps.specs.declared.value.Value.{Value}
-use Rattle.stm_steps.specs.declared.value.Value.TheVariants.{Text as TextValue, Number as NumberValue}
-use Rattle.stm_steps.specs.declared.fault.Fault.{Fault}
-use Rattle.stm_steps.specs.declared.fault.Fault.TheVariants.{TurnLimit}
-use Rattle.stm_steps.specs.declared.stop.Stop.TheVariants.{Faulted}
-use Rattle.stm_steps.specs.Answer.{Lookup}
-use Rattle.stm_steps.specs.Values.{text_in, key_in, arithmetic, concatenated, text_of, num_of, equal, less, put_of, del_of, turns_of}
+use Rattle.stm_history.specs.declared.change.Change.TheVariants.{Put as PutChange, Del as DelChange}
 use Rattle.stm_history.specs.History.{key_of}
+use Rattle.stm_steps.specs.declared.value.Value.{Value}
+use Rattle.stm_steps.specs.declared.value.Value.TheVariants.{Number as NumberValue}
+use Rattle.stm_steps.specs.declared.fault.Fault.TheVariants.{TurnLimit}
+use Rattle.stm_steps.specs.declared.stop.Stop.{Stop}
+use Rattle.stm_steps.specs.declared.stop.Stop.TheVariants.{Aborted, Faulted, Wants}
+use Rattle.stm_steps.specs.Answer.{Answer, Lookup, AgreesWith}
 use Rattle.stm_steps.specs.Session.{Session, fresh, with_variable, with_output, with_write, with_turn}
-use Rattle.stm_steps.specs.Outcome.{Outcome, Gives, Stops, and_then, given, turn_limit, begin_turn}
-use Rattle.stm_steps.specs.Meaning.{get_key, rev_key, evaluate, unless_false, unless_true, holds, branch, repeat, aborts, run_statement, run_block}
+use Rattle.stm_steps.specs.Outcome.{Outcome, Gives, Stops, and_then, turn_limit, begin_turn}
+use Rattle.stm_steps.specs.Meaning.{get_answered, rev_answered, get_of, get_key, rev_key, run_block}
+use Rattle.stm_meaning.proofs.RunInduction.{Part, parts_of, Gift, ValueOf, Truth, Nothing, Given, Tells, Steps, block}
 
 -- what the run has come to
 abbrev pub session_of : {X : Type 0} → Outcome X → Session
@@ -30,132 +32,143 @@ pub record StepsKeep (look : Lookup) (P : Session → Type 0) : Type 0 where
   pub get : (key : List ℕ) (s : Session) → 0 < length key → P s → P (session_of (get_key look key s))
   pub rev : (key : List ℕ) (s : Session) → 0 < length key → P s → P (session_of (rev_key look key s))
 
+-- The second look-up has the answers of the first. Where the first run stops at `s` since its look-up knows nothing of a key, the second looks the key up, and
+-- what holds of it then goes on to hold.
+pub record HasMore (one other : Lookup) (Since : List ℕ → Session → Session → Type 0) : Type 0 where
+  pub agrees : AgreesWith one other
+  pub keeps : (key : List ℕ) (s : Session) → StepsKeep other (Since key s)
+  pub get : (key : List ℕ) (s : Session) → 0 < length key → last_write key s.writes ≡ None → one key ≡ None →
+      Since key s (session_of (get_answered key (other key) s))
+  pub rev : (key : List ℕ) (s : Session) → 0 < length key → one key ≡ None → Since key s (session_of (rev_answered key (other key) s))
+
+-- the second run comes to the same, or goes on where the first one stops for a key
+module _ (Since : List ℕ → Session → Session → Type 0) where
+  abbrev pub StopGoes : {X : Type 0} → Stop → Session → Outcome X → Type 0
+  StopGoes (Aborted t) s second = second ≡ Stops (Aborted t) s
+  StopGoes (Faulted fault) s second = second ≡ Stops (Faulted fault) s
+  StopGoes (Wants key) s second = Since key s (session_of second)
+
+  abbrev pub Goes : {X : Type 0} → Outcome X → Outcome X → Type 0
+  Goes (Gives x s) second = second ≡ Gives x s
+  Goes (Stops stop s) second = StopGoes stop s second
+
+  record Beside {X : Type 0} (f g : Session → Outcome X) : Type 0 where
+    keeps : (key : List ℕ) (s t : Session) → Since key s t → Since key s (session_of (g t))
+    goes : (s : Session) → Goes (f s) (g s)
+
+  then_keeps : {X Y : Type 0} (key : List ℕ) (s : Session) (o : Outcome X) (k : X → Session → Outcome Y) → Since key s (session_of o) →
+      ((x : X) (t : Session) → Since key s t → Since key s (session_of (k x t))) → Since key s (session_of (and_then o k))
+  then_keeps key s (Gives x t) k is keeps = keeps x t is
+  then_keeps key s (Stops stop t) k is keeps = is
+
+  stop_goes : {X Y : Type 0} (stop : Stop) (s : Session) (second : Outcome X) (k : X → Session → Outcome Y) → StopGoes stop s second →
+      ((key : List ℕ) (x : X) (t : Session) → Since key s t → Since key s (session_of (k x t))) → StopGoes stop s (and_then second k)
+  stop_goes (Aborted t) s second k e keeps = ap (λ o. and_then o k) e
+  stop_goes (Faulted fault) s second k e keeps = ap (λ o. and_then o k) e
+  stop_goes (Wants key) s second k is keeps = then_keeps key s second k is (keeps key)
+
+  then_goes : {X Y : Type 0} (first second : Outcome X) (h k : X → Session → Outcome Y) → Goes first second → ((x : X) → Beside (h x) (k x)) →
+      Goes (and_then first h) (and_then second k)
+  then_goes (Gives x s) second h k e next = subst (λ o. Goes (h x s) (and_then o k)) (sym e) ((next x).goes s)
+  then_goes (Stops stop s) second h k e next = stop_goes stop s second k e (λ key x t. (next x).keeps key s t)
+
+  beside_then : {X Y : Type 0} (f g : Session → Outcome X) (h k : X → Session → Outcome Y) → Beside f g → ((x : X) → Beside (h x) (k x)) →
+      Beside (λ s. and_then (f s) h) (λ s. and_then (g s) k)
+  beside_then f g h k first next = record {
+    keeps = λ key s t is. then_keeps key s (g t) k (first.keeps key s t is) (λ x u. (next x).keeps key s u);
+    goes = λ s. then_goes (f s) (g s) h k (first.goes s) next;
+  }
+
+  abbrev turn : Bool → ℕ → ℕ → Session → Outcome (Unit {0})
+  turn b v i s = cond b (Gives tt (with_variable v (NumberValue (pos i)) (with_turn s))) (Stops (Faulted TurnLimit) s)
+
+  turn_keeps : (look : Lookup) (key : List ℕ) (s : Session) → StepsKeep look (Since key s) → (b : Bool) (v i : ℕ) (t : Session) → Since key s t →
+      Since key s (session_of (turn b v i t))
+  turn_keeps look key s steps true v i t is = steps.set v (NumberValue (pos i)) (with_turn t) (steps.turn t is)
+  turn_keeps look key s steps false v i t is = is
+
+  turn_goes : (b : Bool) (v i : ℕ) (s : Session) → Goes (turn b v i s) (turn b v i s)
+  turn_goes true v i s = refl
+  turn_goes false v i s = refl
+
+-- nothing is known of parts, and nothing is told of values
+all_known : (parts : List Part) → AllByRecursion (λ (part : Part). Unit {0}) parts
+all_known [] = tt
+all_known (part ∷ parts) = (tt, all_known parts)
+
+nothing_told : (a : Gift) (x : Given a) → Tells (λ (e : Expression) (y : Value). Unit {0}) a x
+nothing_told (ValueOf e) x = tt
+nothing_told Truth x = tt
+nothing_told Nothing x = tt
+
+module _ (one other : Lookup) (Since : List ℕ → Session → Session → Type 0) (more : HasMore one other Since) where
+  get_answered-goes : (key : List ℕ) (a : Option Answer) (s : Session) → one key ≡ a → 0 < length key → last_write key s.writes ≡ None →
+      Goes Since (get_answered key a s) (get_answered key (other key) s)
+  get_answered-goes key None s is long new = more.get key s long new is
+  get_answered-goes key (Some a) s is long new = ap (λ b. get_answered key b s) (more.agrees key a is)
+
+  rev_answered-goes : (key : List ℕ) (a : Option Answer) (s : Session) → one key ≡ a → 0 < length key →
+      Goes Since (rev_answered key a s) (rev_answered key (other key) s)
+  rev_answered-goes key None s is long = more.rev key s long is
+  rev_answered-goes key (Some a) s is long = ap (λ b. rev_answered key b s) (more.agrees key a is)
+
+  get_of-goes : (key : List ℕ) (w : Option Change) (s : Session) → last_write key s.writes ≡ w → 0 < length key →
+      Goes Since (get_of one key w s) (get_of other key w s)
+  get_of-goes key (Some w) s is long = refl
+  get_of-goes key None s is long = get_answered-goes key (one key) s refl long is
+
+  steps_beside : Steps one other (λ part. Unit {0}) (λ e x. Unit {0}) (λ a f g. Beside Since f g)
+  unfolding get_key rev_key begin_turn
+  steps_beside = record {
+    within = λ part h. all_known (parts_of part);
+    gives = λ a x p. record { keeps = λ key s t is. is; goes = λ s. refl };
+    faults = λ a fault. record { keeps = λ key s t is. is; goes = λ s. refl };
+    joins = λ a b f g h k first next. beside_then Since f g h k first (λ x. next x (nothing_told a x));
+    text = λ t. tt;
+    number = λ n h. tt;
+    variable = λ v. record { keeps = λ key s t is. is; goes = λ s. refl };
+    get = λ e key h p long.
+        record { keeps = λ k s t. (more.keeps k s).get key t long; goes = λ s. get_of-goes key (last_write key s.writes) s refl long };
+    rev = λ e key h p long. record { keeps = λ k s t. (more.keeps k s).rev key t long; goes = λ s. rev_answered-goes key (one key) s refl long };
+    calculated = λ operator e f x y z p q is. tt;
+    cat = λ e f x y z p q is. tt;
+    spelled = λ e x z p is. tt;
+    counted = λ e x z p is. tt;
+    set = λ v e x p. record { keeps = λ key s t. (more.keeps key s).set v x t; goes = λ s. refl };
+    put = λ e f lease key value h p long.
+        record { keeps = λ k s t. (more.keeps k s).write (PutChange key value lease) t long; goes = λ s. refl };
+    del = λ e key h p long. record { keeps = λ k s t. (more.keeps k s).write (DelChange key) t long; goes = λ s. refl };
+    turn = λ v i e limit body h few. record {
+      keeps = λ key s t. turn_keeps Since other key s (more.keeps key s) (nat_lt t.turns turn_limit) v i t;
+      goes = λ s. turn_goes Since (nat_lt s.turns turn_limit) v i s;
+    };
+    emit = λ e x p. record { keeps = λ key s t. (more.keeps key s).emit x t; goes = λ s. refl };
+    abort = λ t. record { keeps = λ key s u is. is; goes = λ s. refl };
+  }
+
+  beside : (program : Block) → Beside Since (run_block one program) (run_block other program)
+  beside program = block one other (λ part. Unit {0}) (λ e x. Unit {0}) (λ a f g. Beside Since f g) steps_beside program tt
+
+  pub run_goes : (program : Block) → Goes Since (run_block one program fresh) (run_block other program fresh)
+  run_goes program = (beside program).goes fresh
+
 module _ (look : Lookup) (P : Session → Type 0) (steps : StepsKeep look P) where
-  abbrev Keeps : {X : Type 0} → (Session → Outcome X) → Type 0
-  Keeps f = (s : Session) → P s → P (session_of (f s))
-
-  after : {X Y : Type 0} (o : Outcome X) (k : X → Session → Outcome Y) → P (session_of o) → ((x : X) → Keeps (k x)) → P (session_of (and_then o k))
-  after (Gives x s) k before next = next x s before
-  after (Stops stop s) k before next = before
-
-  keeps-then : {X Y : Type 0} (f : Session → Outcome X) (k : X → Session → Outcome Y) → Keeps f → ((x : X) → Keeps (k x)) → Keeps (λ s. and_then (f s) k)
-  keeps-then f k first next s h = after (f s) k (first s h) next
-
-  keeps-given : {X : Type 0} (r : Result X Fault) → Keeps (given r)
-  keeps-given (Ok x) s h = h
-  keeps-given (Err fault) s h = h
-
-  -- a key that is no text or is empty is a fault
-  keeps-keyed : (f : List ℕ → Session → Outcome Value) → ((key : List ℕ) → 0 < length key → Keeps (f key)) → (x : Value) →
-      Keeps (λ t. and_then (given (key_in x) t) f)
-  unfolding key_in
-  keeps-keyed f keyed (TextValue []) s h = h
-  keeps-keyed f keyed (TextValue (c ∷ cs)) s h = keyed (c ∷ cs) (omega arith) s h
-  keeps-keyed f keyed (NumberValue n) s h = h
-
-  abbrev writing : Change → Session → Outcome (Unit {0})
-  writing w s = Gives tt (with_write w s)
-
-  keeps-put : (x y : Value) (lease : ℕ) → Keeps (λ t. and_then (given (put_of x y lease) t) writing)
-  unfolding put_of
-  keeps-put (NumberValue a) y lease s h = h
-  keeps-put (TextValue t) (NumberValue b) lease s h = h
-  keeps-put (TextValue []) (TextValue u) lease s h = h
-  keeps-put (TextValue (c ∷ cs)) (TextValue u) lease s h = steps.write _ s (omega arith) h
-
-  keeps-del : (x : Value) → Keeps (λ t. and_then (given (del_of x) t) writing)
-  unfolding del_of
-  keeps-del (NumberValue a) s h = h
-  keeps-del (TextValue []) s h = h
-  keeps-del (TextValue (c ∷ cs)) s h = steps.write _ s (omega arith) h
-
-  keeps-evaluate : (e : Expression) → Keeps (evaluate look e)
-  unfolding evaluate
-  keeps-evaluate (Text t) = λ s h. h
-  keeps-evaluate (Number n) = λ s h. h
-  keeps-evaluate (Variable v) = λ s h. h
-  keeps-evaluate (Get e) =
-      keeps-then (evaluate look e) (λ x t. and_then (given (key_in x) t) (get_key look)) (keeps-evaluate e)
-      (keeps-keyed (get_key look) (λ key k s. steps.get key s k))
-  keeps-evaluate (Rev e) =
-      keeps-then (evaluate look e) (λ x t. and_then (given (key_in x) t) (rev_key look)) (keeps-evaluate e)
-      (keeps-keyed (rev_key look) (λ key k s. steps.rev key s k))
-  keeps-evaluate (Arithmetic operator e f) =
-      keeps-then (evaluate look e) (λ x t. and_then (evaluate look f t) (λ y. given (arithmetic operator x y))) (keeps-evaluate e)
-      (λ x. keeps-then (evaluate look f) (λ y. given (arithmetic operator x y)) (keeps-evaluate f) (λ y. keeps-given (arithmetic operator x y)))
-  keeps-evaluate (Cat e f) =
-      keeps-then (evaluate look e) (λ x t. and_then (evaluate look f t) (λ y. given (concatenated x y))) (keeps-evaluate e)
-      (λ x. keeps-then (evaluate look f) (λ y. given (concatenated x y)) (keeps-evaluate f) (λ y. keeps-given (concatenated x y)))
-  keeps-evaluate (TextOf e) = keeps-then (evaluate look e) (λ x. given (text_of x)) (keeps-evaluate e) (λ x. keeps-given (text_of x))
-  keeps-evaluate (NumOf e) = keeps-then (evaluate look e) (λ x. given (num_of x)) (keeps-evaluate e) (λ x. keeps-given (num_of x))
-
-  keeps-unless_false : (f : Session → Outcome Bool) → Keeps f → (b : Bool) → Keeps (unless_false f b)
-  keeps-unless_false f k true = k
-  keeps-unless_false f k false = λ s h. h
-
-  keeps-unless_true : (f : Session → Outcome Bool) → Keeps f → (b : Bool) → Keeps (unless_true f b)
-  keeps-unless_true f k true = λ s h. h
-  keeps-unless_true f k false = k
-
-  keeps-holds : (c : Condition) → Keeps (holds look c)
-  unfolding holds
-  keeps-holds (Equal e f) =
-      keeps-then (evaluate look e) (λ x t. and_then (evaluate look f t) (λ y. given (equal x y))) (keeps-evaluate e)
-      (λ x. keeps-then (evaluate look f) (λ y. given (equal x y)) (keeps-evaluate f) (λ y. keeps-given (equal x y)))
-  keeps-holds (Less e f) =
-      keeps-then (evaluate look e) (λ x t. and_then (evaluate look f t) (λ y. given (less x y))) (keeps-evaluate e)
-      (λ x. keeps-then (evaluate look f) (λ y. given (less x y)) (keeps-evaluate f) (λ y. keeps-given (less x y)))
-  keeps-holds (Not c) = keeps-then (holds look c) (λ b. Gives (not b)) (keeps-holds c) (λ b s h. h)
-  keeps-holds (And c d) = keeps-then (holds look c) (unless_false (holds look d)) (keeps-holds c) (keeps-unless_false (holds look d) (keeps-holds d))
-  keeps-holds (Or c d) = keeps-then (holds look c) (unless_true (holds look d)) (keeps-holds c) (keeps-unless_true (holds look d) (keeps-holds d))
-
-  turn-kept : (b : Bool) (t : Session) (fault : Fault) (s : Session) → P t → P s →
-      P (session_of {X = Unit {0}} (if b then Gives tt t else Stops (Faulted fault) s))
-  turn-kept true t fault s begun h = begun
-  turn-kept false t fault s begun h = h
-
-  keeps-begin : (v i : ℕ) → Keeps (begin_turn v i)
-  unfolding begin_turn
-  keeps-begin v i s h =
-      turn-kept (nat_lt s.turns turn_limit) (with_variable v (NumberValue (pos i)) (with_turn s)) TurnLimit s
-      (steps.set v (NumberValue (pos i)) (with_turn s) (steps.turn s h)) h
-
-  keeps-branch : (f g : Session → Outcome (Unit {0})) → Keeps f → Keeps g → (b : Bool) → Keeps (branch f g b)
-  keeps-branch f g first second true = first
-  keeps-branch f g first second false = second
-
-  keeps-repeat : (v : ℕ) (f : Session → Outcome (Unit {0})) → Keeps f → (left i : ℕ) → Keeps (repeat v f left i)
-  unfolding repeat
-  keeps-repeat v f body zero i = λ s h. h
-  keeps-repeat v f body (suc left) i =
-      keeps-then (begin_turn v i) (λ _ t. and_then (f t) (λ _. repeat v f left (suc i))) (keeps-begin v i)
-      (λ _. keeps-then f (λ _. repeat v f left (suc i)) body (λ _. keeps-repeat v f body left (suc i)))
-
-  mutual
-    unfolding run_statement
-
-    keeps-statement : (p : Statement) → Keeps (run_statement look p)
-    keeps-statement (Set v e) = keeps-then (evaluate look e) (λ x t. Gives tt (with_variable v x t)) (keeps-evaluate e) (λ x s h. steps.set v x s h)
-    keeps-statement (Put e f lease) =
-        keeps-then (evaluate look e) (λ x t. and_then (evaluate look f t) (λ y u. and_then (given (put_of x y lease) u) writing)) (keeps-evaluate e)
-        (λ x. keeps-then (evaluate look f) (λ y u. and_then (given (put_of x y lease) u) writing) (keeps-evaluate f) (λ y. keeps-put x y lease))
-    keeps-statement (Del e) = keeps-then (evaluate look e) (λ x t. and_then (given (del_of x) t) writing) (keeps-evaluate e) keeps-del
-    keeps-statement (If c then_block else_block) =
-        keeps-then (holds look c) (branch (run_block look then_block) (run_block look else_block)) (keeps-holds c)
-        (keeps-branch (run_block look then_block) (run_block look else_block) (keeps-block then_block) (keeps-block else_block))
-    keeps-statement (For v e limit body) =
-        keeps-then (evaluate look e) (λ x t. and_then (given (turns_of x limit) t) (λ n. repeat v (run_block look body) n 0)) (keeps-evaluate e)
-        (λ x. keeps-then (given (turns_of x limit)) (λ n. repeat v (run_block look body) n 0) (keeps-given (turns_of x limit))
-        (λ n. keeps-repeat v (run_block look body) (keeps-block body) n 0))
-    keeps-statement (Emit e) = keeps-then (evaluate look e) (λ x t. Gives tt (with_output x t)) (keeps-evaluate e) (λ x s h. steps.emit x s h)
-    keeps-statement (Abort e) =
-        keeps-then (evaluate look e) (λ x t. and_then (given (text_in x) t) aborts) (keeps-evaluate e)
-        (λ x. keeps-then (given (text_in x)) aborts (keeps-given (text_in x)) (λ t s h. h))
-
-    keeps-block : (b : Block) → Keeps (run_block look b)
-    keeps-block End = λ s h. h
-    keeps-block (Then first rest) = keeps-then (run_statement look first) (λ _. run_block look rest) (keeps-statement first) (λ _. keeps-block rest)
+  kept_since : HasMore look look (λ key s t. P s → P t)
+  unfolding rev_key get_key
+  kept_since = record {
+    agrees = λ key a is. is;
+    keeps = λ key s. record {
+      set = λ v x t is p. steps.set v x t (is p);
+      turn = λ t is p. steps.turn t (is p);
+      emit = λ x t is p. steps.emit x t (is p);
+      write = λ w t long is p. steps.write w t long (is p);
+      get = λ k t long is p. steps.get k t long (is p);
+      rev = λ k t long is p. steps.rev k t long (is p);
+    };
+    get = λ key s long new none p. subst (λ (w : Option Change). P (session_of (get_of look key w s))) new (steps.get key s long p);
+    rev = λ key s long none p. steps.rev key s long p;
+  }
 
   -- where it held at the beginning
   pub kept_by_run : (program : Block) → P fresh → P (session_of (run_block look program fresh))
-  kept_by_run program h = keeps-block program fresh h
+  kept_by_run program = (beside look look (λ key s t. P s → P t) kept_since program).keeps [] fresh fresh (λ p. p)

@@ -2,6 +2,7 @@ pub use Rattle.stm_steps.proofs.Entries
 pub mod ExampleRuns
 pub mod WorkedExamples
 pub mod KeyExamples
+pub mod RunInduction
 pub mod RunLaws
 pub mod KeepLemmas
 pub mod RunKeyLaws

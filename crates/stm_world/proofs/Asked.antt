@@ -156,16 +156,11 @@ steps_read_listed keys answers = record {
   rev = λ key s long is. rev_answered-listed keys answers key (look_up answers key) s refl is;
 }
 
-same_reads : (o : Outcome (Unit {0})) → reads_of o ≡ (session_of o).reads
-same_reads (Gives x s) = refl
-same_reads (Stops stop s) = refl
-
 listed_read : (keys : List (List ℕ)) (program : ProgramTree) (answers : List ReadAnswer) → keys_read answers ≡ keys →
     IsFirst keys answers (reads_of (run_with program answers))
 unfolding fresh
 listed_read keys program answers are =
-    ap (keys_first_read keys) (same_reads (run_with program answers))
-    ∙ kept_by_run (look_up answers) (λ s. IsFirst keys answers s.reads) (steps_read_listed keys answers) program.statements (first_none keys ∙ sym are)
+    kept_by_run (look_up answers) (λ s. IsFirst keys answers s.reads) (steps_read_listed keys answers) program.statements (first_none keys ∙ sym are)
 
 reads_after : (keys : List (List ℕ)) (program : ProgramTree) (before reads : List ReadAnswer) → AskedAfter program before reads →
     IsFirst keys before (reads_of (run_with program before)) → IsFirst keys (before ++ reads) (reads_of (run_with program (before ++ reads)))

@@ -220,7 +220,9 @@ fn compares_within(touched: &Touched, compare: &Compare) -> bool
 fn compare_within(touched: &Touched, compares: &[Compare]) -> bool
     ensures { result ≡ list_all (λ (compare : CompareValue). is_key_of touched.now compare.key) compares.now }
 {
-    compares.iter().all(|compare| compares_within(touched, compare))
+    compares
+        .iter()
+        .all(|compare| compares_within(touched, compare))
 }
 
 /// Whether a transaction compares and writes these keys alone, whichever of its lists runs.

@@ -15,7 +15,7 @@ use Rattle.stm_outcome.specs.declared.txn.Compare.{Compare}
 use Rattle.stm_outcome.specs.declared.txn.Op.{Op}
 use Rattle.stm_outcome.specs.declared.txn.Op.TheVariants.{Get, Put, Del}
 use Rattle.stm_outcome.specs.declared.txn.Txn.{Txn}
-use Rattle.stm_outcome.specs.Branches.{Progress, begun, with_change, deletion_of, change_made, with_change_made, progress_after, answers_after, changes_of_branch}
+use Rattle.stm_outcome.specs.Branches.{Progress, begun, deletion_of, change_made, with_change_made, progress_after, answers_after, changes_of_branch}
 use Rattle.stm_outcome.specs.Branches.{read_refusal, op_refusal, branch_refusal}
 use Rattle.stm_outcome.specs.Checks.{fault_of}
 use Rattle.stm_outcome.specs.Compares.{first_failed}

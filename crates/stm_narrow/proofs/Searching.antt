@@ -33,7 +33,7 @@ module _ (touched : List ℕ → Bool) (leased : ℕ → Bool) (since : ℕ) whe
   also_within : (p q : Place) → Alike p q → AllKeepTo q.others
   also_within p q same = subst AllKeepTo same.others same.within
 
-  turned_places : (p q : Place) → Alike p q → Alike q p
+  pub turned_places : (p q : Place) → Alike p q → Alike q p
   turned_places p q same = record {
     worlds = turned touched leased since p.world q.world same.worlds;
     others = sym same.others;
@@ -63,7 +63,7 @@ module _ (touched : List ℕ → Bool) (leased : ℕ → Bool) (since : ℕ) whe
       ap (λ slots. steps_up_to (length slots) slots ++ next_other p.others) same.worlds.runners
       ∙ ap (λ others. steps_up_to (length q.world.runners) q.world.runners ++ next_other others) same.others
 
-  moved_same : (m : Move) (p q : Place) → Alike p q → Alike (moved m p) (moved m q)
+  pub moved_same : (m : Move) (p q : Place) → Alike p q → Alike (moved m p) (moved m q)
   moved_same (StepOf id) p q same = record {
     worlds = (step_same touched leased since id p.world q.world same.worlds).next;
     others = same.others;
@@ -83,7 +83,7 @@ module _ (touched : List ℕ → Bool) (leased : ℕ → Bool) (since : ℕ) whe
 
   -- ---- schedules
 
-  after_same : (schedule : List Move) (p q : Place) → Alike p q → Alike (place_after schedule p) (place_after schedule q)
+  pub after_same : (schedule : List Move) (p q : Place) → Alike p q → Alike (place_after schedule p) (place_after schedule q)
   after_same [] p q same = same
   after_same (m ∷ ms) p q same = after_same ms (moved m p) (moved m q) (moved_same m p q same)
 

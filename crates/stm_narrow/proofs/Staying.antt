@@ -63,13 +63,13 @@ module _ (touched : List ℕ → Bool) (leased : ℕ → Bool) where
 
   none_of : (key : List ℕ) (changes : List Change) → touched key ≡ false → Within changes → change_of key changes ≡ None
   none_of key [] apart all = refl
-  none_of key (c ∷ cs) apart all = by (bytes_eq (key_of c) key) refl
+  none_of key (c ∷ cs) apart all = by (bytes_eq (key_of c) key) refl (none_of key cs apart all.1)
     where
-      by : (b : Bool) → bytes_eq (key_of c) key ≡ b → cond b (Some c) (change_of key cs) ≡ None
-      by true is =
+      by : (b : Bool) → bytes_eq (key_of c) key ≡ b → change_of key cs ≡ None → cond b (Some c) (change_of key cs) ≡ None
+      by true is rest =
           let same : key_of c ≡ key = (bytes_eq-Decides (key_of c) key).0 is in
           let both : true ≡ false = sym (key_within touched leased c all.0) ∙ ap touched same ∙ apart in absurd (cc both)
-      by false is = none_of key cs apart all.1
+      by false is rest = rest
 
   with_changes_stays : (h : History) (changes : List Change) → Within changes → Stays h (with_changes h changes)
   with_changes_stays h [] all = λ key apart. refl
@@ -79,11 +79,11 @@ module _ (touched : List ℕ → Bool) (leased : ℕ → Bool) where
 
   filtered_within : (p : Change → Bool) (changes : List Change) → Within changes → Within (filter p changes)
   filtered_within p [] all = tt
-  filtered_within p (c ∷ cs) all = by (p c)
+  filtered_within p (c ∷ cs) all = by (p c) (filtered_within p cs all.1)
     where
-      by : (b : Bool) → Within (cond b (c ∷ filter p cs) (filter p cs))
-      by true = (all.0, filtered_within p cs all.1)
-      by false = filtered_within p cs all.1
+      by : (b : Bool) → Within (filter p cs) → Within (cond b (c ∷ filter p cs) (filter p cs))
+      by true rest = (all.0, rest)
+      by false rest = rest
 
   -- ---- a commit
 

@@ -33,11 +33,11 @@ started (e ∷ es) = started_by e ++ started es
 
 -- two stores with the same counter whose touched keys are the same now, neither of them compacted above it; and no runner has made a step
 pub record BeginAlike (touched : List ℕ → Bool) (leased : ℕ → Bool) (v w : World) : Type 0 where
+  pub floors : (v.standing.floor ≤ now v.standing.history) × (w.standing.floor ≤ now w.standing.history)
   pub now : now v.standing.history ≡ now w.standing.history
   pub keys : (key : List ℕ) → IsTouched touched key → key_now v.standing.history key ≡ key_now w.standing.history key
   pub live : (id : ℕ) → leased id ≡ true → is_live_in v.standing.live id ≡ is_live_in w.standing.live id
   pub limit : v.standing.limit ≡ w.standing.limit
-  pub floors : (v.standing.floor ≤ now v.standing.history) × (w.standing.floor ≤ now w.standing.history)
   pub runners : v.runners ≡ w.runners
   pub begun : (id : ℕ) (r : Runner) → runner_at id w.runners ≡ Some r → r ≡ begin r.task
   pub keeps : (id : ℕ) (r : Runner) → runner_at id w.runners ≡ Some r → KeepsTo touched leased r.task.program

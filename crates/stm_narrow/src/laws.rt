@@ -28,7 +28,6 @@ pub fn agreeing_places_are_same()
 {}
 
 /// Two schedules that leave the same to be shown from one of two such places do so from the other.
-#[tactic(auto, using(crate::proofs::Showing::schedules_show_alike))]
 pub fn schedules_show_alike()
     ensures { SchedulesShowAlike }
 {}

@@ -41,7 +41,7 @@ prints_none t Device none is = is
 pub answers_of : (bytes : List ℕ) (t : Trace) (result : Result Printed AuditFault) → trace_in bytes ≡ Ok t → Prints t result → Answers bytes result
 answers_of bytes t (Ok p) is prints = (t, is, prints)
 answers_of bytes t (Err OutOfMemory) is prints = tt
-answers_of bytes t (Err (Bad bad)) is prints = inr (t, is, prints)
+answers_of bytes t (Err (Bad bad)) is prints = inr (t, is, prints.0, prints.1)
 answers_of bytes t (Err Device) is prints = prints
 
 pub answers_bad : (bytes : List ℕ) (bad : BadInput) → trace_in bytes ≡ Err bad → Answers bytes (Err (Bad bad))

@@ -4,9 +4,10 @@ use crate::parts::{number_at, plain, text_at};
 use crate::words::some;
 use serde_json::Value as Json;
 use std::alloc::{AllocError, Global};
+use stm_explain::Said;
 
 /// An anomaly of a commit, which its level promises not to come, or allows.
-fn anomaly_words(alloc: Global, parts: &[Json], verdict: &str) -> Result<String, AllocError> {
+fn anomaly_words(alloc: Global, parts: &[Json], verdict: &str) -> Said {
     let Some(key) = parts.get(3) else {
         return Ok(String::new(alloc));
     };
@@ -21,7 +22,7 @@ fn anomaly_words(alloc: Global, parts: &[Json], verdict: &str) -> Result<String,
 }
 
 /// That commits are missing before one.
-fn off_words(alloc: Global, parts: &[Json]) -> Result<String, AllocError> {
+fn off_words(alloc: Global, parts: &[Json]) -> Said {
     let commit = number_at(parts, 1).unwrap_or(0);
     format!(in alloc;
         "commit {commit}: its revision is not the store's, so commits are missing; the rest was not looked at"
@@ -29,7 +30,7 @@ fn off_words(alloc: Global, parts: &[Json]) -> Result<String, AllocError> {
 }
 
 /// How many commits were looked at.
-fn count_words(alloc: Global, parts: &[Json]) -> Result<String, AllocError> {
+fn count_words(alloc: Global, parts: &[Json]) -> Said {
     let count = number_at(parts, 1).unwrap_or(0);
     format!(in alloc; "commits: {count}")
 }

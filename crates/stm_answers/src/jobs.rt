@@ -6,23 +6,23 @@ use crate::words::some;
 use serde_json::Value as Json;
 use std::alloc::{AllocError, Global};
 use stm_compiling::{NamedRunner, name_of_runner};
-use stm_explain::shown;
+use stm_explain::{Said, shown};
 
 /// How many there are of what a line counts.
-fn count_words(alloc: Global, what: &str, parts: &[Json]) -> Result<String, AllocError> {
+fn count_words(alloc: Global, what: &str, parts: &[Json]) -> Said {
     let count = number_at(parts, 1).unwrap_or(0);
     format!(in alloc; "{what}: {count}")
 }
 
 /// How many commits failed over a key.
-fn conflicts_words(alloc: Global, key: &Json, parts: &[Json]) -> Result<String, AllocError> {
+fn conflicts_words(alloc: Global, key: &Json, parts: &[Json]) -> Said {
     let key = plain(alloc, key)?;
     let count = number_at(parts, 2).unwrap_or(0);
     format!(in alloc; "conflicts over {key}: {count}")
 }
 
 /// A job by its name and its number, or by its number.
-fn job_title(alloc: Global, runners: &[NamedRunner], number: u64) -> Result<String, AllocError> {
+fn job_title(alloc: Global, runners: &[NamedRunner], number: u64) -> Said {
     match name_of_runner(runners, number.saturating_add(1)) {
         Some(name) => format!(in alloc; "{name} (job {number})"),
         None => format!(in alloc; "job {number}"),
@@ -30,7 +30,7 @@ fn job_title(alloc: Global, runners: &[NamedRunner], number: u64) -> Result<Stri
 }
 
 /// How a job ended, and after how many attempts.
-fn job_words(alloc: Global, parts: &[Json], runners: &[NamedRunner]) -> Result<String, AllocError> {
+fn job_words(alloc: Global, parts: &[Json], runners: &[NamedRunner]) -> Said {
     let title = job_title(alloc, runners, number_at(parts, 1).unwrap_or(0))?;
     let attempts = number_at(parts, 4).unwrap_or(0);
     if text_at(parts, 2) == Some("committed") {
@@ -45,18 +45,14 @@ fn job_words(alloc: Global, parts: &[Json], runners: &[NamedRunner]) -> Result<S
 }
 
 /// A key with its value.
-fn value_words(alloc: Global, key: &Json, value: &Json) -> Result<String, AllocError> {
+fn value_words(alloc: Global, key: &Json, value: &Json) -> Said {
     let key = plain(alloc, key)?;
     let value = shown(alloc, value)?;
     format!(in alloc; "key {key} = {value}")
 }
 
 /// What some of the runs came to.
-fn outcome_line(
-    alloc: Global,
-    parts: &[Json],
-    runners: &[NamedRunner],
-) -> Result<String, AllocError> {
+fn outcome_line(alloc: Global, parts: &[Json], runners: &[NamedRunner]) -> Said {
     let (state, ends) = (list_at(parts, 1), list_at(parts, 2));
     let outcome = outcome_words(alloc, Noun::Job, runners, state, ends)?;
     let times = number_at(parts, 3).unwrap_or(0);

@@ -4,7 +4,7 @@ use crate::parts::{list_at, list_of, plain, text_at};
 use serde_json::Value as Json;
 use std::alloc::{AllocError, Global};
 use stm_compiling::{NamedRunner, name_of_runner};
-use stm_explain::shown;
+use stm_explain::{Said, shown};
 
 /// Adds values, with a comma between each two.
 fn push_values(alloc: Global, out: &mut String, values: &[Json]) -> Result<(), AllocError> {
@@ -57,7 +57,7 @@ pub(crate) enum Noun {
 }
 
 /// A run without a name, of the start of this number.
-fn numbered(alloc: Global, noun: Noun, number: u64) -> Result<String, AllocError> {
+fn numbered(alloc: Global, noun: Noun, number: u64) -> Said {
     match noun {
         Noun::Runner => format!(in alloc; "runner {number}"),
         Noun::Job => {
@@ -125,7 +125,7 @@ pub(crate) fn outcome_words(
     runners: &[NamedRunner],
     state: &[Json],
     ends: &[Json],
-) -> Result<String, AllocError> {
+) -> Said {
     let mut out = String::new(alloc);
     push_ends(alloc, &mut out, noun, runners, ends)?;
     push_state(alloc, &mut out, state)?;

@@ -1,8 +1,8 @@
 //! What the lines of a search are made of.
 
 use serde_json::Value as Json;
-use std::alloc::{AllocError, Global};
-use stm_explain::{is_hidden, shown};
+use std::alloc::Global;
+use stm_explain::{Said, is_hidden, shown};
 
 /// The text at a place of a list, if one stands there.
 pub(crate) fn text_at(parts: &[Json], place: usize) -> Option<&str> {
@@ -42,7 +42,7 @@ pub(crate) fn behind(parts: &[Json], place: usize) -> &[Json] {
 }
 
 /// A name as it is, or in quotes, where it has a character that does something to a terminal.
-pub(crate) fn plain(alloc: Global, name: &Json) -> Result<String, AllocError> {
+pub(crate) fn plain(alloc: Global, name: &Json) -> Said {
     match name.as_str() {
         Some(text) if !text.chars().any(is_hidden) => String::from_str(alloc, text),
         _ => shown(alloc, name),
@@ -50,7 +50,7 @@ pub(crate) fn plain(alloc: Global, name: &Json) -> Result<String, AllocError> {
 }
 
 /// So many moves.
-pub(crate) fn moves(alloc: Global, count: u64) -> Result<String, AllocError> {
+pub(crate) fn moves(alloc: Global, count: u64) -> Said {
     if count == 1 {
         return String::from_str(alloc, "1 move");
     }

@@ -4,6 +4,7 @@ use crate::parts::{number_at, text_at};
 use serde_json::Value as Json;
 use std::alloc::{AllocError, Global};
 use stm_compiling::{NamedRunner, name_of_runner};
+use stm_explain::Said;
 
 /// What is said of a schedule in which no two programs overlap, and no event of the others comes within one.
 const NO_RACE: &str = "this schedule runs one program after another: it is no race\n";
@@ -106,11 +107,7 @@ fn push_event(
 
 /// What is said of a schedule that breaks a rule, by the report of its run, in lines with line feeds: of each run that gave up, with the commits that it could
 /// send, and that it is no race, where no two programs overlap in it and no event of the others comes within one. It fails only when out of memory.
-pub fn schedule_in_words(
-    alloc: Global,
-    report: &str,
-    runners: &[NamedRunner],
-) -> Result<String, AllocError> {
+pub fn schedule_in_words(alloc: Global, report: &str, runners: &[NamedRunner]) -> Said {
     let mut out = String::new(alloc);
     let mut walk = Walk {
         open: None,

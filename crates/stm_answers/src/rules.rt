@@ -3,10 +3,11 @@
 use crate::outcomes::push_end;
 use crate::parts::{behind, list_at, moves, number_at, plain};
 use serde_json::Value as Json;
-use std::alloc::{AllocError, Global};
+use std::alloc::Global;
+use stm_explain::Said;
 
 /// What an answer is about, by what stands behind it in its line: a rule, and with `has_level` a level.
-fn subject(alloc: Global, behind: &[Json], has_level: bool) -> Result<String, AllocError> {
+fn subject(alloc: Global, behind: &[Json], has_level: bool) -> Said {
     match (behind, has_level) {
         ([name, level], true) => {
             let name = plain(alloc, name)?;
@@ -23,11 +24,7 @@ fn subject(alloc: Global, behind: &[Json], has_level: bool) -> Result<String, Al
 }
 
 /// That a rule is always kept.
-pub(crate) fn always_words(
-    alloc: Global,
-    parts: &[Json],
-    has_level: bool,
-) -> Result<String, AllocError> {
+pub(crate) fn always_words(alloc: Global, parts: &[Json], has_level: bool) -> Said {
     let rule = subject(alloc, behind(parts, 2), has_level)?;
     match number_at(parts, 1) {
         Some(length) => {
@@ -41,11 +38,7 @@ pub(crate) fn always_words(
 }
 
 /// That a rule is broken.
-pub(crate) fn broken_words(
-    alloc: Global,
-    parts: &[Json],
-    has_level: bool,
-) -> Result<String, AllocError> {
+pub(crate) fn broken_words(alloc: Global, parts: &[Json], has_level: bool) -> Said {
     let rule = subject(alloc, behind(parts, 3), has_level)?;
     let moves = moves(alloc, number_at(parts, 1).unwrap_or(0))?;
     let mut words = format!(in alloc; "{rule}: broken after {moves}: ")?;
@@ -54,11 +47,7 @@ pub(crate) fn broken_words(
 }
 
 /// That something was not decided.
-pub(crate) fn open_words(
-    alloc: Global,
-    parts: &[Json],
-    has_level: bool,
-) -> Result<String, AllocError> {
+pub(crate) fn open_words(alloc: Global, parts: &[Json], has_level: bool) -> Said {
     let moves = moves(alloc, number_at(parts, 1).unwrap_or(0))?;
     let named = behind(parts, 2);
     if named.is_empty() {

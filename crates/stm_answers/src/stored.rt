@@ -4,10 +4,10 @@ use crate::parts::{number_at, plain};
 use crate::words::some;
 use serde_json::Value as Json;
 use std::alloc::{AllocError, Global};
-use stm_explain::shown;
+use stm_explain::{Said, shown};
 
 /// A key: its value, and the revision of its last change; its version and its lease, if it has one.
-fn key_words(alloc: Global, parts: &[Json]) -> Result<String, AllocError> {
+fn key_words(alloc: Global, parts: &[Json]) -> Said {
     let (Some(key), Some(value)) = (parts.get(1), parts.get(2)) else {
         return Ok(String::new(alloc));
     };
@@ -24,7 +24,7 @@ fn key_words(alloc: Global, parts: &[Json]) -> Result<String, AllocError> {
 }
 
 /// A live lease: how long it lives, and since when.
-fn lease_words(alloc: Global, parts: &[Json]) -> Result<String, AllocError> {
+fn lease_words(alloc: Global, parts: &[Json]) -> Said {
     let lease = number_at(parts, 1).unwrap_or(0);
     let ttl = number_at(parts, 2).unwrap_or(0);
     let renewed = number_at(parts, 3).unwrap_or(0);
@@ -33,7 +33,7 @@ fn lease_words(alloc: Global, parts: &[Json]) -> Result<String, AllocError> {
 }
 
 /// The store's revision, and how many entries changed it.
-fn end_words(alloc: Global, parts: &[Json]) -> Result<String, AllocError> {
+fn end_words(alloc: Global, parts: &[Json]) -> Said {
     let revision = number_at(parts, 1).unwrap_or(0);
     let entries = number_at(parts, 2).unwrap_or(0);
     format!(in alloc; "revision {revision}, entries {entries}")

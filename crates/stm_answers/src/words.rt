@@ -6,6 +6,7 @@ use crate::rules::{always_words, broken_words, open_words};
 use serde_json::Value as Json;
 use std::alloc::{AllocError, Global};
 use stm_compiling::NamedRunner;
+use stm_explain::Said;
 
 /// With this ends the line of an answer at the strongest level.
 const STRONGEST: &str = "\"SerializableSnapshot\"]";
@@ -27,7 +28,7 @@ fn none_words(printed: &str) -> &'static str {
 }
 
 /// Which level is enough.
-fn enough_words(alloc: Global, parts: &[Json], printed: &str) -> Result<String, AllocError> {
+fn enough_words(alloc: Global, parts: &[Json], printed: &str) -> Said {
     match text_at(parts, 1) {
         Some(level) => format!(in alloc; "enough: {level}"),
         None => String::from_str(alloc, none_words(printed)),
@@ -35,7 +36,7 @@ fn enough_words(alloc: Global, parts: &[Json], printed: &str) -> Result<String, 
 }
 
 /// What stands before an answer about a level, which stands at a place of its line, if it is about one.
-fn at_level(alloc: Global, parts: &[Json], place: usize) -> Result<String, AllocError> {
+fn at_level(alloc: Global, parts: &[Json], place: usize) -> Said {
     match text_at(parts, place) {
         Some(level) => format!(in alloc; "{level}: "),
         None => Ok(String::new(alloc)),
@@ -43,18 +44,14 @@ fn at_level(alloc: Global, parts: &[Json], place: usize) -> Result<String, Alloc
 }
 
 /// That serial orders come to each outcome.
-fn serial_words(alloc: Global, parts: &[Json]) -> Result<String, AllocError> {
+fn serial_words(alloc: Global, parts: &[Json]) -> Said {
     let at = at_level(alloc, parts, 2)?;
     let count = number_at(parts, 1).unwrap_or(0);
     format!(in alloc; "{at}no anomaly: some serial order comes to each outcome (outcomes: {count})")
 }
 
 /// That no serial order comes to an outcome.
-fn anomaly_words(
-    alloc: Global,
-    parts: &[Json],
-    runners: &[NamedRunner],
-) -> Result<String, AllocError> {
+fn anomaly_words(alloc: Global, parts: &[Json], runners: &[NamedRunner]) -> Said {
     let at = at_level(alloc, parts, 4)?;
     let moves = moves(alloc, number_at(parts, 1).unwrap_or(0))?;
     let (state, ends) = (list_at(parts, 2), list_at(parts, 3));
@@ -63,24 +60,20 @@ fn anomaly_words(
 }
 
 /// An outcome.
-fn outcome_line(
-    alloc: Global,
-    parts: &[Json],
-    runners: &[NamedRunner],
-) -> Result<String, AllocError> {
+fn outcome_line(alloc: Global, parts: &[Json], runners: &[NamedRunner]) -> Said {
     let (state, ends) = (list_at(parts, 1), list_at(parts, 2));
     let outcome = outcome_words(alloc, Noun::Runner, runners, state, ends)?;
     format!(in alloc; "outcome: {outcome}")
 }
 
 /// How many outcomes there are.
-fn count_line(alloc: Global, parts: &[Json]) -> Result<String, AllocError> {
+fn count_line(alloc: Global, parts: &[Json]) -> Said {
     let count = number_at(parts, 1).unwrap_or(0);
     format!(in alloc; "outcomes: {count}")
 }
 
 /// Words that there are, unless an allocation failed for them.
-pub(crate) fn some(words: Result<String, AllocError>) -> Result<Option<String>, AllocError> {
+pub(crate) fn some(words: Said) -> Result<Option<String>, AllocError> {
     match words {
         Ok(words) => Ok(Some(words)),
         Err(error) => Err(error),

@@ -26,7 +26,7 @@ use crate::wanted::{
 };
 use serde_json::Value as Json;
 use std::alloc::{AllocError, Global};
-use stm_explain::shown;
+use stm_explain::{Said, shown};
 use stm_source::{BadSource, SourceCause};
 use stm_tokens::{Position, Symbol, TokenKind, Word, tokens_of};
 
@@ -34,7 +34,7 @@ use stm_tokens::{Position, Symbol, TokenKind, Word, tokens_of};
 const MOST_SHOWN: usize = 60;
 
 /// A line of explanation.
-fn line_at(alloc: Global, name: &str, position: Position, words: &str) -> Result<String, AllocError>
+fn line_at(alloc: Global, name: &str, position: Position, words: &str) -> Said
     ensures { IfOk result (λ line. string_bytes line ≡ explanation name.now position.line position.column words.now) }
 {
     let line = position.line;
@@ -43,7 +43,7 @@ fn line_at(alloc: Global, name: &str, position: Position, words: &str) -> Result
 }
 
 /// A text in quotes, with an escape in the place of each character that does something to a terminal.
-fn quoted(alloc: Global, text: &str) -> Result<String, AllocError> {
+fn quoted(alloc: Global, text: &str) -> Said {
     let text = String::from_str(alloc, text)?;
     shown(alloc, &Json::String(text))
 }
@@ -78,7 +78,7 @@ fn word_from<'a>(source: &'a [u8], spot: Spot<'_>, at: usize) -> &'a str {
 }
 
 /// What was found in a place.
-fn found_at(alloc: Global, source: &[u8], spot: Spot<'_>, at: usize) -> Result<String, AllocError> {
+fn found_at(alloc: Global, source: &[u8], spot: Spot<'_>, at: usize) -> Said {
     match spot.kind() {
         Some(TokenKind::End) | None => String::from_str(alloc, "the end"),
         Some(TokenKind::Text(text)) => {
@@ -266,7 +266,7 @@ fn no_such_word(
     noun: &str,
     words: &[&str],
     beside: &str,
-) -> Result<String, AllocError> {
+) -> Said {
     let name = name_in(spot);
     if is_called(spot) && nearest(alloc, words, name)?.is_empty() {
         let said = said_of_call(name);
@@ -287,7 +287,7 @@ fn no_such_word(
 }
 
 /// Which line ends before a token that begins the next one, in parentheses that are still open; nothing elsewhere.
-fn line_without(alloc: Global, source: &[u8], spot: Spot<'_>) -> Result<String, AllocError> {
+fn line_without(alloc: Global, source: &[u8], spot: Spot<'_>) -> Said {
     if let (Place::Parentheses, Some(before), Some(token)) = (
         spot.place(),
         spot.before.last(),
@@ -321,12 +321,7 @@ fn noun_at(spot: Spot<'_>) -> &'static str {
 }
 
 /// What is said of a token in whose place another one is wanted.
-fn syntax_words(
-    alloc: Global,
-    source: &[u8],
-    found: &str,
-    spot: Spot<'_>,
-) -> Result<String, AllocError> {
+fn syntax_words(alloc: Global, source: &[u8], found: &str, spot: Spot<'_>) -> Said {
     if is_glued(source, spot) && !name_in(spot).is_empty() {
         let said = said_of_digits(spot);
         return format!(in alloc; "{found} has no meaning here: {said}");
@@ -368,12 +363,7 @@ fn said_of_part(source: &[u8], spot: Spot<'_>) -> &'static str {
 }
 
 /// What is said of a value in the place of a condition, or the reverse.
-fn sort_words(
-    alloc: Global,
-    source: &[u8],
-    found: &str,
-    spot: Spot<'_>,
-) -> Result<String, AllocError> {
+fn sort_words(alloc: Global, source: &[u8], found: &str, spot: Spot<'_>) -> Said {
     if is_given_in_condition(source, spot) {
         return format!(in alloc;
             "{found} cannot be set here: a variable is set in front of the if"
@@ -417,7 +407,7 @@ fn said_of_name(source: &[u8], spot: Spot<'_>) -> &'static str {
 }
 
 /// Where below a name is given that is none yet, or which one given above is nearest to it, in words; nothing where neither is.
-fn near_words(alloc: Global, source: &[u8], spot: Spot<'_>) -> Result<String, AllocError> {
+fn near_words(alloc: Global, source: &[u8], spot: Spot<'_>) -> Said {
     if let Some(at) = let_below(alloc, name_in(spot), spot)? {
         let line = position_in(source, at).line;
         return format!(in alloc; "; its let stands below, in line {line}");
@@ -430,12 +420,7 @@ fn near_words(alloc: Global, source: &[u8], spot: Spot<'_>) -> Result<String, Al
 }
 
 /// What is said of a name that cannot stand in its place.
-fn name_words(
-    alloc: Global,
-    source: &[u8],
-    found: &str,
-    spot: Spot<'_>,
-) -> Result<String, AllocError> {
+fn name_words(alloc: Global, source: &[u8], found: &str, spot: Spot<'_>) -> Said {
     if let Some(said) = said_of_names(alloc, found, name_in(spot), spot)? {
         return Ok(said);
     }
@@ -449,13 +434,13 @@ fn name_words(
 }
 
 /// What is said of a number that is out of range.
-fn range_words(alloc: Global, found: &str, spot: Spot<'_>) -> Result<String, AllocError> {
+fn range_words(alloc: Global, found: &str, spot: Spot<'_>) -> Said {
     let numbers = numbers_at(spot);
     format!(in alloc; "the number {found} is out of range here: {numbers}")
 }
 
 /// What is said of a program that is started with another number of arguments than it has parameters.
-fn argument_words(alloc: Global, found: &str, spot: Spot<'_>) -> Result<String, AllocError> {
+fn argument_words(alloc: Global, found: &str, spot: Spot<'_>) -> Said {
     let wanted = parameters_of(spot.before, name_in(spot));
     let given = listed_behind(spot.from);
     if takes_list(spot.before, name_in(spot)) {
@@ -500,13 +485,7 @@ fn said_of_character(source: &[u8], spot: Spot<'_>, at: usize, character: &str) 
 }
 
 /// What is said where no token begins, but this character stands at a byte.
-fn token_words(
-    alloc: Global,
-    source: &[u8],
-    spot: Spot<'_>,
-    at: usize,
-    character: &str,
-) -> Result<String, AllocError> {
+fn token_words(alloc: Global, source: &[u8], spot: Spot<'_>, at: usize, character: &str) -> Said {
     if character == "\"" {
         return String::from_str(
             alloc,
@@ -522,12 +501,7 @@ fn token_words(
 }
 
 /// What is said of a value of another kind than is wanted.
-fn kind_words(
-    alloc: Global,
-    source: &[u8],
-    found: &str,
-    spot: Spot<'_>,
-) -> Result<String, AllocError> {
+fn kind_words(alloc: Global, source: &[u8], found: &str, spot: Spot<'_>) -> Said {
     match said_of_start(alloc, source, spot)? {
         Some(said) => Ok(said),
         None => said_of_value(alloc, source, found, spot),
@@ -556,12 +530,7 @@ fn too_many_words(word: &str) -> &'static str {
 }
 
 /// What is said of a token that is wrong.
-pub(crate) fn words_at(
-    alloc: Global,
-    source: &[u8],
-    spot: Spot<'_>,
-    bad: BadSource,
-) -> Result<String, AllocError> {
+pub(crate) fn words_at(alloc: Global, source: &[u8], spot: Spot<'_>, bad: BadSource) -> Said {
     let found = found_at(alloc, source, spot, bad.at)?;
     let found = found.as_str();
     match bad.cause {
@@ -598,13 +567,7 @@ pub(crate) fn words_at(
 }
 
 /// The line of a fault in what is left of a source, with its place in that source.
-fn line_left(
-    alloc: Global,
-    name: &str,
-    source: &str,
-    left: &str,
-    bad: BadSource,
-) -> Result<String, AllocError> {
+fn line_left(alloc: Global, name: &str, source: &str, left: &str, bad: BadSource) -> Said {
     let left = left.as_bytes();
     let tokens = tokens_of(alloc, left)?;
     let said = words_at(alloc, left, spot_at(tokens.as_slice(), bad.at), bad)?;
@@ -664,12 +627,7 @@ fn push_more(
 }
 
 /// What is said of the first fault of a source, and behind it lines for others.
-fn words_with_more(
-    alloc: Global,
-    name: &str,
-    source: &[u8],
-    bad: BadSource,
-) -> Result<String, AllocError> {
+fn words_with_more(alloc: Global, name: &str, source: &[u8], bad: BadSource) -> Said {
     let tokens = tokens_of(alloc, source)?;
     let mut words = words_at(alloc, source, spot_at(tokens.as_slice(), bad.at), bad)?;
     drop(tokens);
@@ -680,7 +638,7 @@ fn words_with_more(
 }
 
 /// The explanation of the first fault of a source, as a line, and behind it lines for others.
-fn explained(alloc: Global, name: &str, source: &[u8], bad: BadSource) -> Result<String, AllocError>
+fn explained(alloc: Global, name: &str, source: &[u8], bad: BadSource) -> Said
     ensures { IfOk result (λ line. (words : List ℕ) × (string_bytes line ≡ explanation name.now (place_of source.now bad.at).0 (place_of source.now bad.at).1 words)) }
 {
     let words = words_with_more(alloc, name, source, bad)?;

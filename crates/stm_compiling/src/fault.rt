@@ -3,9 +3,9 @@ ghost use Rattle.std.specs.Prelude.{◌≡◌, false, IfOk, string_bytes};
 ghost use Rattle.stm_explain.specs.Saying.{Reports};
 ghost use Rattle.stm_compiling.specs.Faults.{fault_status, fault_text, place_of, wrong_at, wrong_text};
 
-use std::alloc::{AllocError, Global};
+use std::alloc::Global;
 use stm_devices::Sink;
-use stm_explain::{Message, write_text};
+use stm_explain::{Message, Said, write_text};
 use stm_history::Text;
 use stm_source::BadSource;
 use stm_tokens::{Position, position_of};
@@ -33,7 +33,7 @@ pub(crate) fn position_in(source: &[u8], at: usize) -> Position
 }
 
 /// The line that says which cause stands where.
-fn wrong_at(alloc: Global, position: Position, cause: &str) -> Result<String, AllocError>
+fn wrong_at(alloc: Global, position: Position, cause: &str) -> Said
     ensures { IfOk result (λ line. string_bytes line ≡ wrong_at position.line position.column cause.now) }
 {
     let line = position.line;
@@ -42,7 +42,7 @@ fn wrong_at(alloc: Global, position: Position, cause: &str) -> Result<String, Al
 }
 
 /// The line that says what is wrong with a source, and where.
-pub(crate) fn wrong_line(alloc: Global, source: &[u8], bad: BadSource) -> Result<String, AllocError>
+pub(crate) fn wrong_line(alloc: Global, source: &[u8], bad: BadSource) -> Said
     ensures { IfOk result (λ line. string_bytes line ≡ wrong_text (place_of source.now bad.at) bad.cause) }
 {
     wrong_at(alloc, position_in(source, bad.at), bad.cause.name())

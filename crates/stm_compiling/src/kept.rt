@@ -2,6 +2,7 @@
 
 use crate::whole::compiled_source;
 use std::alloc::{AllocError, Global};
+use stm_explain::Said;
 use stm_source::SourceError;
 use stm_tokens::{Symbol, Token, TokenKind, Word, number_length, tokens_of};
 
@@ -187,7 +188,7 @@ fn push_item(
 
 /// The text of a source without its steps and without the events behind its last start, with each start at a level, where one is named, and with a line
 /// feed at its end.
-pub fn kept_text(alloc: Global, source: &str, level: Option<&str>) -> Result<String, AllocError> {
+pub fn kept_text(alloc: Global, source: &str, level: Option<&str>) -> Said {
     let tokens = tokens_of(alloc, source.as_bytes())?;
     let tokens = tokens.as_slice();
     let items = items_of(alloc, tokens)?;

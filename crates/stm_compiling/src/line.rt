@@ -7,6 +7,7 @@ ghost use Rattle.stm_texts.specs.Writing.{opening_elements, written_event, writt
 
 use serde_json::Value as Json;
 use std::alloc::{AllocError, Global};
+use stm_explain::Said;
 use stm_program::Program;
 use stm_program_json::write_program;
 use stm_report_lines::push_line;
@@ -57,7 +58,7 @@ fn scenario_json(alloc: Global, scenario: &Scenario) -> Result<Json, AllocError>
 }
 
 /// The line of a scenario: it as compact JSON, in its one spelling, and a line feed.
-pub(crate) fn scenario_line(alloc: Global, scenario: &Scenario) -> Result<String, AllocError>
+pub(crate) fn scenario_line(alloc: Global, scenario: &Scenario) -> Said
     ensures { IfOk result (λ line. string_bytes line ≡ line_text (written_scenario scenario.now)) }
 {
     let value = scenario_json(alloc, scenario)?;
@@ -67,7 +68,7 @@ pub(crate) fn scenario_line(alloc: Global, scenario: &Scenario) -> Result<String
 }
 
 /// The line of a program: it as compact JSON, in its one spelling, and a line feed.
-pub(crate) fn program_line(alloc: Global, program: &Program) -> Result<String, AllocError>
+pub(crate) fn program_line(alloc: Global, program: &Program) -> Said
     ensures { IfOk result (λ line. string_bytes line ≡ line_text (written_program program.now)) }
 {
     let value = write_program(alloc, program)?;

@@ -4,6 +4,7 @@ use crate::calls::takes_list;
 use crate::second_uses::line_of_second_use;
 use crate::spots::Spot;
 use std::alloc::{AllocError, Global};
+use stm_explain::Said;
 use stm_program::Operator;
 use stm_source::{Kind, kinds_wanted};
 use stm_tokens::{Symbol, Token, TokenKind};
@@ -110,12 +111,7 @@ fn misfit_words(
 }
 
 /// What is said of a program that cannot be started with these arguments, none of which is of another kind than the first place that it stands in wants.
-fn both_words(
-    alloc: Global,
-    source: &[u8],
-    spot: Spot<'_>,
-    name: &str,
-) -> Result<String, AllocError> {
+fn both_words(alloc: Global, source: &[u8], spot: Spot<'_>, name: &str) -> Said {
     if takes_list(spot.before, name) {
         return format!(in alloc;
             "{name} cannot be started with these arguments: the last ones are of two kinds, or one of them is wanted as a text and as a number"

@@ -6,6 +6,7 @@
 use crate::kept::between;
 use crate::wanted::EVENTS;
 use std::alloc::{AllocError, Global};
+use stm_explain::Said;
 use stm_source::{BadSource, SourceCause, SourceError, read_source};
 use stm_tokens::{Token, TokenKind, tokens_of};
 
@@ -210,13 +211,7 @@ fn push_blank(out: &mut String, bytes: &[u8]) -> Result<(), AllocError> {
 }
 
 /// A text without a part, in whose place stands this, of which the second is not longer than what it stands for.
-fn without(
-    alloc: Global,
-    text: &str,
-    part: Part,
-    head: &str,
-    sign: &str,
-) -> Result<String, AllocError> {
+fn without(alloc: Global, text: &str, part: Part, head: &str, sign: &str) -> Said {
     let mut out = String::new(alloc);
     out.push_str(between(text, 0, part.from))?;
     out.push_str(head)?;

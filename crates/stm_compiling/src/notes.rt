@@ -4,6 +4,7 @@ ghost use Rattle.stm_program_source.specs.Texts.{joined};
 ghost use Rattle.stm_compiling.specs.Notes as spec;
 
 use std::alloc::{AllocError, Global};
+use stm_explain::Said;
 use stm_history::Text;
 use stm_source::{Rule, Wait};
 
@@ -15,14 +16,14 @@ fn word_of(rule: &Rule) -> &'static str
 }
 
 /// The line that what begins with a word and has a name is not asked.
-fn unasked(alloc: Global, word: &str, name: &str) -> Result<String, AllocError>
+fn unasked(alloc: Global, word: &str, name: &str) -> Said
     ensures { IfOk result (λ note. string_bytes note ≡ spec.unasked word.now name.now) }
 {
     format!(in alloc; "stmrun: {word}{name} is not asked\n")
 }
 
 /// The line that a rule is not asked.
-fn rule_note(alloc: Global, rule: &Rule) -> Result<String, AllocError>
+fn rule_note(alloc: Global, rule: &Rule) -> Said
     ensures { IfOk result (λ note. string_bytes note ≡ spec.rule_note rule.now) }
 {
     unasked(alloc, word_of(rule), rule.name.as_str())
@@ -40,7 +41,7 @@ fn push_rule_notes(alloc: Global, notes: &mut String, rules: &[Rule]) -> Result<
 }
 
 /// The line that a runner does not wait for another.
-fn wait_note(alloc: Global, wait: &Wait) -> Result<String, AllocError>
+fn wait_note(alloc: Global, wait: &Wait) -> Said
     ensures { IfOk result (λ note. string_bytes note ≡ spec.wait_note wait.now) }
 {
     let runner = wait.runner;

@@ -4,7 +4,8 @@ use crate::calls::given_at;
 use crate::explaining::is_comparison;
 use crate::forms::{form_in, form_of};
 use crate::spots::Spot;
-use std::alloc::{AllocError, Global};
+use std::alloc::Global;
+use stm_explain::Said;
 use stm_program::Operator;
 use stm_tokens::{Symbol, TokenKind};
 
@@ -95,11 +96,7 @@ fn begins_text_of_numbers(spot: Spot<'_>) -> bool {
 }
 
 /// What is said of a value that is compared with one of the other kind, and is a number or a text, where its first token tells.
-fn said_of_compared(
-    alloc: Global,
-    found: &str,
-    is_number: Option<bool>,
-) -> Result<String, AllocError> {
+fn said_of_compared(alloc: Global, found: &str, is_number: Option<bool>) -> Said {
     match is_number {
         Some(false) => format!(in alloc;
             "found {found}, where a number is wanted as on the left: a number stands without quotes, and text_of(NUMBER) makes a text of one"
@@ -140,12 +137,7 @@ fn definition_of<'a>(source: &'a [u8], spot: Spot<'_>) -> &'a str {
 }
 
 /// What is said of a value that is of another kind than is wanted.
-pub(crate) fn said_of_value(
-    alloc: Global,
-    source: &[u8],
-    found: &str,
-    spot: Spot<'_>,
-) -> Result<String, AllocError> {
+pub(crate) fn said_of_value(alloc: Global, source: &[u8], found: &str, spot: Spot<'_>) -> Said {
     let definition = definition_of(source, spot);
     if !definition.is_empty() {
         return format!(in alloc;

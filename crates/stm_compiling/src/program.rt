@@ -9,6 +9,7 @@ ghost use Rattle.stm_compiling.specs.Programs as spec;
 
 use crate::line::program_line;
 use std::alloc::{AllocError, Global};
+use stm_explain::Said;
 use stm_program_source::push_quoted;
 use stm_source::{Kind, Rule, Scenario, SourceCause, SourceError, kinds_wanted, read_source};
 use stm_terms::fault;
@@ -42,7 +43,7 @@ fn is_whole(word: &[u8]) -> bool
 }
 
 /// A word as a text of a source.
-fn quoted_word(alloc: Global, word: &str) -> Result<String, AllocError>
+fn quoted_word(alloc: Global, word: &str) -> Said
     ensures { IfOk result (λ token. string_bytes token ≡ quoted word.now) }
 {
     let mut token = String::new(alloc);
@@ -51,7 +52,7 @@ fn quoted_word(alloc: Global, word: &str) -> Result<String, AllocError>
 }
 
 /// A word as a source has it: a number where it is spelled as one, else a text.
-fn argument(alloc: Global, word: &str) -> Result<String, AllocError>
+fn argument(alloc: Global, word: &str) -> Said
     ensures { IfOk result (λ token. string_bytes token ≡ spec.argument word.now) }
 {
     if is_whole(word.as_bytes()) {
@@ -75,7 +76,7 @@ fn before_mark(words: &[String]) -> usize
 }
 
 /// A word as a source has it, where a text or a number is wanted.
-fn argument_of(alloc: Global, kind: Option<Kind>, word: &str) -> Result<String, AllocError>
+fn argument_of(alloc: Global, kind: Option<Kind>, word: &str) -> Said
     ensures { IfOk result (λ token. string_bytes token ≡ spec.argument_of kind word.now) }
 {
     match kind {
@@ -170,12 +171,7 @@ fn push_separated(out: &mut String, texts: &[String]) -> Result<(), AllocError>
 }
 
 /// The line that starts a program, whose arguments have to be of these kinds.
-fn start_line(
-    alloc: Global,
-    kinds: &[Kind],
-    name: &str,
-    words: &[String],
-) -> Result<String, AllocError>
+fn start_line(alloc: Global, kinds: &[Kind], name: &str, words: &[String]) -> Said
     ensures { IfOk result (λ line. string_bytes line ≡ spec.start_line kinds.now name.now (map string_bytes words.now)) }
 {
     let tokens = arguments(alloc, kinds, words)?;

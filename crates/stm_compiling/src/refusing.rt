@@ -8,6 +8,7 @@ use crate::spots::{Spot, spot_at};
 use crate::titles::titles_but;
 use crate::whole::rules_in;
 use std::alloc::{AllocError, Global};
+use stm_explain::Said;
 use stm_source::{BadSource, Rule, SourceCause, SourceError};
 use stm_tokens::{Symbol, Token, TokenKind, tokens_of};
 
@@ -34,7 +35,7 @@ fn push_parameters(head: &mut String, tokens: &[Token]) -> Result<(), AllocError
 }
 
 /// The head of a program that is defined among tokens, `NAME(PARAMETER, ..)`; its name alone, where none of them defines one.
-fn head_of(alloc: Global, tokens: &[Token], name: &str) -> Result<String, AllocError> {
+fn head_of(alloc: Global, tokens: &[Token], name: &str) -> Said {
     let mut head = String::from_str(alloc, name)?;
     if let Some(index) = given_at(tokens, name) {
         let behind = tokens.get(index.saturating_add(3)..).unwrap_or(&[]);
@@ -46,7 +47,7 @@ fn head_of(alloc: Global, tokens: &[Token], name: &str) -> Result<String, AllocE
 }
 
 /// So many arguments, in words.
-fn arguments_in_words(alloc: Global, count: usize) -> Result<String, AllocError> {
+fn arguments_in_words(alloc: Global, count: usize) -> Said {
     match count {
         0 => String::from_str(alloc, "no arguments"),
         1 => String::from_str(alloc, "1 argument"),
@@ -66,12 +67,7 @@ fn said_of_options(words: &[String]) -> &'static str {
 }
 
 /// What is said of a program or a rule that takes another number of arguments than stand in the place where it is started, which these words are.
-fn count_words(
-    alloc: Global,
-    name: &str,
-    words: &[String],
-    spot: Spot<'_>,
-) -> Result<String, AllocError> {
+fn count_words(alloc: Global, name: &str, words: &[String], spot: Spot<'_>) -> Said {
     let options = said_of_options(words);
     let head = head_of(alloc, spot.before, name)?;
     let given = listed_behind(spot.from);

@@ -3,6 +3,7 @@
 use crate::wanted::allowed;
 use crate::whole::Beside;
 use std::alloc::{AllocError, Global};
+use stm_explain::Said;
 use stm_history::Text;
 use stm_tokens::{Token, TokenKind, tokens_of};
 
@@ -85,11 +86,7 @@ pub fn name_of_runner(runners: &[NamedRunner], number: u64) -> Option<&str> {
 }
 
 /// Which names these runners have, and which of them is nearest to a name that is none of them. It fails only when out of memory.
-pub fn runners_named(
-    alloc: Global,
-    runners: &[NamedRunner],
-    name: &str,
-) -> Result<String, AllocError> {
+pub fn runners_named(alloc: Global, runners: &[NamedRunner], name: &str) -> Said {
     let mut names = Vec::new(alloc);
     for runner in runners {
         names.push(runner.name.as_str())?;

@@ -5,6 +5,7 @@ use crate::fault::position_in;
 use crate::kept::{between, end_of, open_behind};
 use crate::spots::Spot;
 use std::alloc::{AllocError, Global};
+use stm_explain::Said;
 use stm_source::{BadSource, SourceCause, SourceError, read_source};
 use stm_tokens::{Symbol, Token, TokenKind};
 
@@ -71,12 +72,7 @@ fn argument_for<'a>(
 }
 
 /// A source up to the end of a program, in whose body the arguments of a start stand in the places of its parameters.
-fn with_arguments(
-    alloc: Global,
-    source: &str,
-    program: &[Token],
-    start: &[Token],
-) -> Result<String, AllocError> {
+fn with_arguments(alloc: Global, source: &str, program: &[Token], start: &[Token]) -> Said {
     let mut text = String::new(alloc);
     let mut copied = 0usize;
     let mut is_body = false;

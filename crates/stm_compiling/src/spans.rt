@@ -2,7 +2,8 @@
 
 use crate::fault::position_in;
 use crate::kept::{Begun, Item, items_of};
-use std::alloc::{AllocError, Global};
+use std::alloc::Global;
+use stm_explain::Said;
 use stm_tokens::{Position, Token, TokenKind, tokens_of};
 
 /// At most so many events are named that are no jobs.
@@ -81,12 +82,7 @@ fn spans_of(tokens: &[Token], items: &[Begun]) -> Spans {
 }
 
 /// The lines of a span in a source of this name.
-fn lines_of(
-    alloc: Global,
-    name: &str,
-    source: &str,
-    span: Option<Span>,
-) -> Result<String, AllocError> {
+fn lines_of(alloc: Global, name: &str, source: &str, span: Option<Span>) -> Said {
     let Some(span) = span else {
         return String::from_str(alloc, "none");
     };
@@ -100,7 +96,7 @@ fn lines_of(
 
 /// Which lines of a source of this name have the events that a search takes as set-up, and which have those of the others, in words. It fails only when out of
 /// memory.
-pub fn event_lines(alloc: Global, name: &str, source: &str) -> Result<String, AllocError> {
+pub fn event_lines(alloc: Global, name: &str, source: &str) -> Said {
     let tokens = tokens_of(alloc, source.as_bytes())?;
     let items = items_of(alloc, tokens.as_slice())?;
     let spans = spans_of(tokens.as_slice(), items.as_slice());
@@ -128,7 +124,7 @@ fn is_no_job(word: &str) -> bool {
 }
 
 /// Which events of a source of this name have no place among jobs, and where they stand: a line for each of the first ones. It fails only when out of memory.
-pub fn events_without_jobs(alloc: Global, name: &str, source: &str) -> Result<String, AllocError> {
+pub fn events_without_jobs(alloc: Global, name: &str, source: &str) -> Said {
     let tokens = tokens_of(alloc, source.as_bytes())?;
     let items = items_of(alloc, tokens.as_slice())?;
     let mut said = String::new(alloc);

@@ -6,6 +6,7 @@ use crate::naming::is_awaited;
 use crate::spots::{Event, Place, Spot};
 use crate::wanted::{allowed, nearest};
 use std::alloc::{AllocError, Global};
+use stm_explain::Said;
 use stm_tokens::{Symbol, Token, TokenKind, Word, tokens_of};
 
 /// Whether a name is that of a program, a rule or a final that stands behind this token.
@@ -172,11 +173,7 @@ fn others_of(alloc: Global, names: &[&str], name: &str) -> Result<Option<String>
 }
 
 /// Which names the programs, rules and finals among tokens have, of which this is none.
-pub(crate) fn titles_but(
-    alloc: Global,
-    tokens: &[Token],
-    name: &str,
-) -> Result<String, AllocError> {
+pub(crate) fn titles_but(alloc: Global, tokens: &[Token], name: &str) -> Said {
     let titles = titles_of(alloc, tokens)?;
     match others_of(alloc, titles.as_slice(), name)? {
         Some(words) => Ok(words),

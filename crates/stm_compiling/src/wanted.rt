@@ -5,6 +5,7 @@ use crate::compares::{is_chained, wanted_of_compares};
 use crate::forms::form_of;
 use crate::spots::{Event, Place, Spot};
 use std::alloc::{AllocError, Global};
+use stm_explain::Said;
 use stm_program::Operator;
 use stm_tokens::{Symbol, TokenKind, Word};
 use strsim::levenshtein;
@@ -424,7 +425,7 @@ pub(crate) fn nearest<'a>(
 }
 
 /// These words, with commas between them.
-fn listed(alloc: Global, words: &[&str]) -> Result<String, AllocError> {
+fn listed(alloc: Global, words: &[&str]) -> Said {
     let mut text = String::new(alloc);
     for (index, word) in words.iter().enumerate() {
         if index > 0 {
@@ -436,12 +437,7 @@ fn listed(alloc: Global, words: &[&str]) -> Result<String, AllocError> {
 }
 
 /// The words of a table, what stands beside them, and that of them which is nearest to one that is not among them.
-pub(crate) fn allowed(
-    alloc: Global,
-    words: &[&str],
-    beside: &str,
-    word: &str,
-) -> Result<String, AllocError> {
+pub(crate) fn allowed(alloc: Global, words: &[&str], beside: &str, word: &str) -> Said {
     let list = listed(alloc, words)?;
     let near = nearest(alloc, words, word)?;
     if near.is_empty() {

@@ -4,6 +4,7 @@ use crate::forms::{
     BEGINNINGS, COMPARES, CONDITIONS, EVENTS, EXPRESSIONS, Entry, FIRST_ELEMENTS, Form, LEVELS,
     LINES, OPERATIONS, ORDERS, Part, Parts, STATEMENTS,
 };
+use crate::messages::Said;
 use std::alloc::{AllocError, Global};
 use strsim::levenshtein;
 
@@ -83,7 +84,7 @@ fn push_words(text: &mut String, entries: &[Entry]) -> Result<(), AllocError> {
 }
 
 /// The words of a table, and that of them which is nearest to one that is not among them.
-fn listed(alloc: Global, entries: &[Entry], word: &str) -> Result<String, AllocError> {
+fn listed(alloc: Global, entries: &[Entry], word: &str) -> Said {
     let mut text = String::from_str(alloc, "one of ")?;
     push_words(&mut text, entries)?;
     let near = nearest(alloc, entries, word)?;
@@ -95,7 +96,7 @@ fn listed(alloc: Global, entries: &[Entry], word: &str) -> Result<String, AllocE
 }
 
 /// The words that are allowed in such a place, and which of them is nearest to one that is not.
-pub(crate) fn words_allowed(alloc: Global, part: Part, word: &str) -> Result<String, AllocError> {
+pub(crate) fn words_allowed(alloc: Global, part: Part, word: &str) -> Said {
     match part {
         Part::Event => listed(alloc, &EVENTS, word),
         Part::Beginning => listed(alloc, &BEGINNINGS, word),

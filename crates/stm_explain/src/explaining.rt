@@ -6,6 +6,7 @@ use crate::allowed::{described, form_of, noun, words_allowed};
 use crate::exchanged::exchanged;
 use crate::faults::{Fault, other_faults};
 use crate::forms::{Form, Input, Part};
+use crate::messages::Said;
 use crate::offsets::{line_length, line_start, offset_of};
 use crate::position::position_of;
 use crate::syntax::json_of;
@@ -62,7 +63,7 @@ fn is_first_word(found: Found<'_>) -> bool {
 }
 
 /// What is said of a value that does not fit.
-fn unfit(alloc: Global, found: Found<'_>) -> Result<String, AllocError> {
+fn unfit(alloc: Global, found: Found<'_>) -> Said {
     let value = shown(alloc, found.value)?;
     if is_first_word(found) {
         let noun = noun(found.part);
@@ -75,7 +76,7 @@ fn unfit(alloc: Global, found: Found<'_>) -> Result<String, AllocError> {
 }
 
 /// What is said of an unknown word.
-fn unknown(alloc: Global, part: Part, word: &str, value: &Value) -> Result<String, AllocError> {
+fn unknown(alloc: Global, part: Part, word: &str, value: &Value) -> Said {
     let noun = noun(part);
     let word_shown = shown(alloc, value)?;
     let allowed = words_allowed(alloc, part, word)?;
@@ -83,7 +84,7 @@ fn unknown(alloc: Global, part: Part, word: &str, value: &Value) -> Result<Strin
 }
 
 /// What is said of an array whose word is known and that has another number of elements after it than the word takes.
-fn miscounted(alloc: Global, input: Input, form: Form, has: usize) -> Result<String, AllocError> {
+fn miscounted(alloc: Global, input: Input, form: Form, has: usize) -> Said {
     let word = form.word;
     if form.parts.are_so_many(has) {
         let nowhere = nowhere(input);
@@ -101,7 +102,7 @@ fn misworded(
     found: Found<'_>,
     word: &str,
     elements: &[Value],
-) -> Result<String, AllocError> {
+) -> Said {
     match form_of(found.part, word) {
         Some(form) => miscounted(alloc, input, form, elements.len()),
         None => match found.value.get(0) {
@@ -112,7 +113,7 @@ fn misworded(
 }
 
 /// What is said of a value of the wrong shape.
-fn misshaped(alloc: Global, input: Input, found: Found<'_>) -> Result<String, AllocError> {
+fn misshaped(alloc: Global, input: Input, found: Found<'_>) -> Said {
     match found.part {
         Part::Event
         | Part::Beginning
@@ -135,7 +136,7 @@ fn misshaped(alloc: Global, input: Input, found: Found<'_>) -> Result<String, Al
 }
 
 /// What is said of a line of the wrong shape.
-fn misshaped_line(alloc: Global, found: Found<'_>) -> Result<String, AllocError> {
+fn misshaped_line(alloc: Global, found: Found<'_>) -> Said {
     let Some(first) = word_of_line(found.value) else {
         return unfit(alloc, found);
     };
@@ -149,19 +150,14 @@ fn misshaped_line(alloc: Global, found: Found<'_>) -> Result<String, AllocError>
 }
 
 /// What is said of a line with a known word, whose elements are too many or too few, or that has no number where one is due.
-fn unfit_line(alloc: Global, found: Found<'_>, form: Form) -> Result<String, AllocError> {
+fn unfit_line(alloc: Global, found: Found<'_>, form: Form) -> Said {
     let value = shown(alloc, found.value)?;
     let spelling = form.spelling;
     format!(in alloc; "found {value}, where a line {spelling} is wanted")
 }
 
 /// What is said of a part of a line that does not fit.
-fn unfit_in_line(
-    alloc: Global,
-    line: &Value,
-    value: &Value,
-    cause: Cause,
-) -> Result<String, AllocError> {
+fn unfit_in_line(alloc: Global, line: &Value, value: &Value, cause: Cause) -> Said {
     let value = shown(alloc, value)?;
     let spelling = match form_of_line(line) {
         Some(form) => form.spelling,
@@ -186,12 +182,7 @@ fn too_many(part: Part) -> &'static str {
 }
 
 /// What is said of a value at which reading stopped.
-fn words_of(
-    alloc: Global,
-    input: Input,
-    found: Found<'_>,
-    cause: Cause,
-) -> Result<String, AllocError> {
+fn words_of(alloc: Global, input: Input, found: Found<'_>, cause: Cause) -> Said {
     match cause {
         Cause::Shape => misshaped(alloc, input, found),
         Cause::TooDeep => String::from_str(alloc, "a program nests at most 32 deep"),
@@ -310,12 +301,7 @@ fn reported_of_whole(
 }
 
 /// The line of what is said of a fault.
-fn line_about(
-    alloc: Global,
-    name: &str,
-    text: &[u8],
-    reported: &Explained,
-) -> Result<String, AllocError>
+fn line_about(alloc: Global, name: &str, text: &[u8], reported: &Explained) -> Said
     requires { reported.now.offset ≤ length text.now }
     ensures { IfOk result (λ line. IsExplanation name.now text.now (string_bytes line)) }
 {
@@ -429,13 +415,7 @@ fn reported_first(
 /// The name is that of the text's file, line and column are those of an offset in the text. The words say what was found there and what is
 /// allowed, or why the text is no JSON. It fails where an allocation failed.
 #[tactic(auto, using(crate::proofs::LineLemmas::one))]
-pub fn explain(
-    alloc: Global,
-    input: Input,
-    name: &str,
-    text: &[u8],
-    bad: &BadInput,
-) -> Result<String, AllocError>
+pub fn explain(alloc: Global, input: Input, name: &str, text: &[u8], bad: &BadInput) -> Said
     ensures { IfOk result (λ lines. AreExplanations name.now text.now (string_bytes lines)) }
 {
     let steps = steps_of(alloc, bad.place.as_str())?;
@@ -447,13 +427,7 @@ pub fn explain(
 
 /// The explanation of what stands in a text of JSON at the place that these indices lead to, as one line: `NAME:LINE:COLUMN: WORDS` and a line
 /// feed. It fails where an allocation failed.
-pub fn explained_at(
-    alloc: Global,
-    name: &str,
-    text: &str,
-    steps: &[usize],
-    words: &str,
-) -> Result<String, AllocError>
+pub fn explained_at(alloc: Global, name: &str, text: &str, steps: &[usize], words: &str) -> Said
     ensures { IfOk result (λ line. IsExplanationOf name.now text.now words.now (string_bytes line)) }
 {
     let offset = offset_of(alloc, text, steps)?;
@@ -462,13 +436,7 @@ pub fn explained_at(
 }
 
 /// A line of explanation.
-pub(crate) fn line_of(
-    alloc: Global,
-    name: &str,
-    line: usize,
-    column: usize,
-    words: &str,
-) -> Result<String, AllocError>
+pub(crate) fn line_of(alloc: Global, name: &str, line: usize, column: usize, words: &str) -> Said
     ensures { IfOk result (λ text. string_bytes text ≡ explanation name.now line column words.now) }
 {
     format!(in alloc; "{name}:{line}:{column}: {words}\n")

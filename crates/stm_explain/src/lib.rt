@@ -28,7 +28,7 @@ pub use forms::{
 pub use kept_source::KeptSource;
 pub use laws::words_are_those_of_readers;
 pub use marked::Marked;
-pub use messages::{Message, write_text};
+pub use messages::{Message, Said, write_text};
 pub use position::{Position, position_of};
 pub use stm_devices::{DeviceFault, Sink};
 pub use stm_json::BadInput;

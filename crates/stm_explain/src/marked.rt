@@ -5,6 +5,7 @@ ghost use Rattle.stm_explain.specs.Explaining.{IsExplanationOf};
 ghost use Rattle.stm_explain.specs.Marks.{IsMark};
 
 use crate::explaining::line_of;
+use crate::messages::Said;
 use crate::offsets::offset_of;
 use crate::position::{Position, position_from};
 use json::{MAX_DEPTH, Reader, Scratch};
@@ -137,12 +138,7 @@ impl<'a> Marked<'a> {
 
     /// The explanation of what stands at the place that these indices lead to, as one line: `NAME:LINE:COLUMN: WORDS` and a line feed. It fails
     /// where an allocation failed.
-    pub fn explained_at(
-        &self,
-        alloc: Global,
-        steps: &[usize],
-        words: &str,
-    ) -> Result<String, AllocError>
+    pub fn explained_at(&self, alloc: Global, steps: &[usize], words: &str) -> Said
         ensures { IfOk result (λ line. IsExplanationOf self.now.name.now self.now.text.now words.now (string_bytes line)) }
     {
         let mark = self.mark_of(alloc, steps)?;

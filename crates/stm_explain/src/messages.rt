@@ -4,8 +4,12 @@ ghost use Rattle.stm_devices.specs.Transfers.{HasWritten};
 ghost use Rattle.stm_explain.specs.Saying.{bad_input, usage_fault, audit_fault, status_of, text_of, Reports};
 
 use itoa::Buffer;
+use std::alloc::AllocError;
 use stm_devices::{DeviceFault, Sink, write_all};
 use stm_json::BadInput;
+
+/// A text for people, or the failure of a growth.
+pub type Said = Result<String, AllocError>;
 
 /// Writes a text to a sink that has not failed, which takes no memory. Where the sink fails, a prefix of the text was written.
 pub fn write_text<E: Sink>(err: &mut E, text: &str) -> Result<(), DeviceFault>

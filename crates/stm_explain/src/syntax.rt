@@ -3,6 +3,7 @@ ghost use Rattle.std.specs.Prelude.{◌≡◌, ◌≤◌, length, IfErr, IfOk, I
 ghost use Rattle.serde_json.specs.Read.{read as read_text};
 
 use crate::explaining::Explained;
+use crate::messages::Said;
 use crate::offsets::line_start;
 use crate::tokens::{Slip, Wrong, slip_of};
 use serde_json::{Error, Value};
@@ -112,7 +113,7 @@ fn hint(before: &[u8], byte: u8) -> &'static str {
 }
 
 /// What is said of a byte that cannot stand where it does.
-fn found_text(alloc: Global, before: &[u8], byte: u8) -> Result<String, AllocError> {
+fn found_text(alloc: Global, before: &[u8], byte: u8) -> Said {
     let hint = hint(before, byte);
     if byte > 32 && byte < 127 {
         let found = char::from(byte);
@@ -123,7 +124,7 @@ fn found_text(alloc: Global, before: &[u8], byte: u8) -> Result<String, AllocErr
 }
 
 /// What is said of a byte in a token.
-fn slipped(alloc: Global, byte: u8, wrong: Wrong) -> Result<String, AllocError> {
+fn slipped(alloc: Global, byte: u8, wrong: Wrong) -> Said {
     match wrong {
         Wrong::Byte => found_text(alloc, b"", byte),
         Wrong::Control => {
@@ -147,7 +148,7 @@ fn slipped(alloc: Global, byte: u8, wrong: Wrong) -> Result<String, AllocError> 
 }
 
 /// What is wrong at an offset of a text whose value does not end too early.
-fn reason_at(alloc: Global, text: &[u8], offset: usize) -> Result<String, AllocError>
+fn reason_at(alloc: Global, text: &[u8], offset: usize) -> Said
     requires { offset ≤ length text.now }
 {
     let (before, rest) = text.split_at(offset);
@@ -192,7 +193,7 @@ fn reported_in_token(
 }
 
 /// What is wrong where JSON's reader stopped, by what it says of it.
-fn reason(alloc: Global, text: &[u8], offset: usize, error: &Error) -> Result<String, AllocError>
+fn reason(alloc: Global, text: &[u8], offset: usize, error: &Error) -> Said
     requires { offset ≤ length text.now }
 {
     if has_mark(text) {

@@ -1,7 +1,8 @@
 //! Values as they are shown.
 
+use crate::messages::Said;
 use serde_json::Value;
-use std::alloc::{AllocError, Global};
+use std::alloc::Global;
 
 /// At most this many bytes of a value's text are shown.
 const MOST_SHOWN: usize = 60;
@@ -12,7 +13,7 @@ pub fn is_hidden(character: char) -> bool {
 }
 
 /// A text of JSON, with an escape in the place of each hidden character.
-fn escaped(alloc: Global, text: &str) -> Result<String, AllocError> {
+fn escaped(alloc: Global, text: &str) -> Said {
     let mut out = String::new(alloc);
     for character in text.chars() {
         if is_hidden(character) {
@@ -27,7 +28,7 @@ fn escaped(alloc: Global, text: &str) -> Result<String, AllocError> {
 }
 
 /// A value in its shortest spelling, without a character that does something to a terminal; of a long one, its first bytes.
-pub fn shown(alloc: Global, value: &Value) -> Result<String, AllocError> {
+pub fn shown(alloc: Global, value: &Value) -> Said {
     let text = value.to_string(alloc)?;
     let text = escaped(alloc, text.as_str())?;
     if text.len() <= MOST_SHOWN {

@@ -13,7 +13,7 @@ use crate::seen_ends::{SeenEnds, never_words};
 use serde_json::Value as Json;
 use std::alloc::{AllocError, Global};
 use stm_events::EventRefusal;
-use stm_explain::shown;
+use stm_explain::{Said, shown};
 use stm_faulted_runs::fault_on;
 use stm_history::Text;
 use stm_meaning::{End, Run};
@@ -126,7 +126,7 @@ impl Follower for Account<'_> {
 }
 
 /// A text as it is shown: in quotes, and of a long one its beginning.
-pub(crate) fn shown_text(alloc: Global, text: &str) -> Result<String, AllocError> {
+pub(crate) fn shown_text(alloc: Global, text: &str) -> Said {
     let copy = String::from_str(alloc, text)?;
     let json = Json::String(copy);
     let shown = shown(alloc, &json);
@@ -135,7 +135,7 @@ pub(crate) fn shown_text(alloc: Global, text: &str) -> Result<String, AllocError
 }
 
 /// To which fault a program comes in a world, where in it, and why.
-fn fault_in(alloc: Global, program: &Program, world: &World) -> Result<String, AllocError> {
+fn fault_in(alloc: Global, program: &Program, world: &World) -> Said {
     let state = world.state()?;
     fault_on(alloc, program, &state)
 }
@@ -320,13 +320,7 @@ impl<'a> Account<'a> {
 }
 
 /// The line of a runner's account, which is of these runs: that it never committed is said where a rule is always kept.
-fn line_of(
-    alloc: Global,
-    runner: usize,
-    runs: &Runs,
-    of: &str,
-    is_kept: bool,
-) -> Result<String, AllocError> {
+fn line_of(alloc: Global, runner: usize, runs: &Runs, of: &str, is_kept: bool) -> Said {
     let never = never_words(runs.has_committed, is_kept);
     let mut line = format!(in alloc; "runner {runner}{never}; {of}")?;
     push_ends(alloc, &mut line, runs.ends.as_slice())?;

@@ -6,6 +6,7 @@ use crate::key_use::AskedKey;
 use crate::near_keys::{are_of_a_list, nearest};
 use crate::rules::RuleAnswer;
 use std::alloc::{AllocError, Global};
+use stm_explain::Said;
 use stm_explore::When;
 use stm_history::Text;
 
@@ -16,17 +17,13 @@ const NEAR: usize = 2;
 const MEANT: usize = 4;
 
 /// What a runner is called.
-fn runner_word(alloc: Global, place: usize) -> Result<String, AllocError> {
+fn runner_word(alloc: Global, place: usize) -> Said {
     let number = place.saturating_add(1);
     format!(in alloc; "runner {number}")
 }
 
 /// What a rule is called.
-pub(crate) fn rule_word(
-    alloc: Global,
-    answers: &[RuleAnswer],
-    place: usize,
-) -> Result<String, AllocError> {
+pub(crate) fn rule_word(alloc: Global, answers: &[RuleAnswer], place: usize) -> Said {
     if place < answers.len() {
         let rule = &answers[place].rule;
         if let Some(name) = &rule.name {
@@ -42,7 +39,7 @@ pub(crate) fn rule_word(
 }
 
 /// A text before a key that is near to another one; nothing where there is none.
-fn near_words(alloc: Global, near: &str) -> Result<String, AllocError> {
+fn near_words(alloc: Global, near: &str) -> Said {
     if near.is_empty() {
         return Ok(String::new(alloc));
     }
@@ -56,13 +53,7 @@ fn places_words(is_sure: bool) -> &'static str {
 }
 
 /// The line that says that somebody asks for a key that nothing puts, and which one is nearest.
-fn key_line(
-    alloc: Global,
-    who: &str,
-    key: &Text,
-    is_sure: bool,
-    near: &str,
-) -> Result<String, AllocError> {
+fn key_line(alloc: Global, who: &str, key: &Text, is_sure: bool, near: &str) -> Said {
     let key = shown_text(alloc, key.as_str())?;
     let places = places_words(is_sure);
     let near = near_words(alloc, near)?;
@@ -86,11 +77,7 @@ fn meant<'a>(account: &'a Account<'_>, key: &Text) -> Result<&'a str, AllocError
 }
 
 /// The line of a key that a runner asks for and that nothing puts.
-fn runner_key_line(
-    account: &Account<'_>,
-    asked: &AskedKey,
-    near: &str,
-) -> Result<String, AllocError> {
+fn runner_key_line(account: &Account<'_>, asked: &AskedKey, near: &str) -> Said {
     let alloc = account.alloc;
     let who = runner_word(alloc, asked.who)?;
     let is_sure = !account.keys.may_be_put(&asked.key);
@@ -125,7 +112,7 @@ impl Vain {
     }
 
     /// The line of a runner that asks for them.
-    fn line(&self, alloc: Global, runner: usize) -> Result<String, AllocError> {
+    fn line(&self, alloc: Global, runner: usize) -> Said {
         let who = runner_word(alloc, runner)?;
         let who = who.as_str();
         let keys = self.keys.as_str();
@@ -252,12 +239,7 @@ struct Hint {
 }
 
 /// What stands before a key of a rule: the rule, unless the key before it is of the same one.
-fn before_key(
-    alloc: Global,
-    last: Option<usize>,
-    answers: &[RuleAnswer],
-    place: usize,
-) -> Result<String, AllocError> {
+fn before_key(alloc: Global, last: Option<usize>, answers: &[RuleAnswer], place: usize) -> Said {
     if last == Some(place) {
         return String::from_str(alloc, ", ");
     }

@@ -1,6 +1,7 @@
 //! Who is told of a search.
 
-use std::alloc::{AllocError, Global};
+use std::alloc::Global;
+use stm_explain::Said;
 use stm_explore::{Nobody, Observer};
 
 /// Who is notified of how far a search is, and told what is said of it.
@@ -61,7 +62,7 @@ pub(crate) fn tell_left_out<O: Audience>(alloc: Global, steps: usize, audience: 
 }
 
 /// The line that says which events are what.
-fn parts_line(alloc: Global, setup: usize, others: usize) -> Result<String, AllocError> {
+fn parts_line(alloc: Global, setup: usize, others: usize) -> Said {
     format!(in alloc;
         "events of the set-up, up to the last start: {setup}; of the others, each at any moment, in their order: {others}"
     )

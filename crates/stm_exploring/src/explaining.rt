@@ -11,7 +11,7 @@ use crate::printed::{Printed, SearchAnswer};
 use crate::reading::ExploreFault;
 use std::alloc::{AllocError, Global};
 use stm_devices::Sink;
-use stm_explain::{Input, KeptSource, write_text};
+use stm_explain::{Input, KeptSource, Said, write_text};
 use stm_faulted_runs::{Named, rule_explained};
 
 /// The explanation of what is wrong with a scenario or with the program of a rule, where faults are explained; none of another fault.
@@ -84,12 +84,7 @@ fn schedule_in(printed: &str) -> Option<&str>
 }
 
 /// The explanation of a broken rule that comes to a fault after its schedule, by what is printed of that. It fails where an allocation failed.
-fn line_by_printed(
-    alloc: Global,
-    name: &str,
-    text: &str,
-    printed: &str,
-) -> Result<String, AllocError>
+fn line_by_printed(alloc: Global, name: &str, text: &str, printed: &str) -> Said
     ensures { IfOk result (λ line. ExplainsOnSchedule name.now text.now printed.now (string_bytes line)) }
 {
     match schedule_in(printed) {
@@ -99,7 +94,7 @@ fn line_by_printed(
 }
 
 /// The same, by the rule's text. It fails where an allocation failed, now or when the text was kept.
-fn rule_on<R>(alloc: Global, keeps: &KeptSource<'_, R>, printed: &str) -> Result<String, AllocError>
+fn rule_on<R>(alloc: Global, keeps: &KeptSource<'_, R>, printed: &str) -> Said
     ensures { IfOk result (λ line. ExplainsOnSchedule keeps.now.name.now keeps.now.bytes.items printed.now (string_bytes line)) }
 {
     match keeps.text() {
@@ -115,7 +110,7 @@ pub(crate) fn searched_explanation<R>(
     explain: bool,
     keeps: &KeptSource<'_, R>,
     searched: &Result<Printed, ExploreFault>,
-) -> Result<String, AllocError>
+) -> Said
     ensures { IfOk result (λ line. Explained explain (ExplainsSearched (record { name = keeps.now.name.now; text = keeps.now.bytes.items }) searched.now) (string_bytes line)) }
 {
     if !explain {

@@ -7,6 +7,7 @@ use crate::schedule_lines::push_scheduled;
 use crate::searching::world_of;
 use crate::setup::run_setup;
 use std::alloc::{AllocError, Global};
+use stm_explain::Said;
 use stm_explore::{Explored, KeyValue, Move, RunnerEnd, When, laid};
 use stm_faulted_runs::{fault_on, rule_reason};
 use stm_history::Text;
@@ -86,11 +87,7 @@ fn last_state(alloc: Global, scenario: &Scenario) -> Result<State, AllocError> {
 }
 
 /// To which fault a final comes where this has run, and why.
-fn final_reason(
-    alloc: Global,
-    program: &Program,
-    ran: Option<&Scenario>,
-) -> Result<String, AllocError> {
+fn final_reason(alloc: Global, program: &Program, ran: Option<&Scenario>) -> Said {
     match ran {
         Some(scenario) => {
             let state = last_state(alloc, scenario)?;
@@ -107,7 +104,7 @@ fn final_line(
     name: &Text,
     program: &Program,
     moves: &[Move],
-) -> Result<String, AllocError> {
+) -> Said {
     let ran = scheduled(alloc, scenario, moves)?;
     let reason = final_reason(alloc, program, ran.as_ref());
     drop(ran);
@@ -123,7 +120,7 @@ fn rule_line(
     name: &Text,
     program: &Program,
     moves: &[Move],
-) -> Result<String, AllocError> {
+) -> Said {
     let mut schedule = String::new(alloc);
     push_scheduled(alloc, &mut schedule, scenario, moves)?;
     let reason = rule_reason(alloc, program, schedule.as_str())?;

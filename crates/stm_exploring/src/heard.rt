@@ -4,6 +4,7 @@ use crate::audience::Audience;
 use crate::level_lines::level_name;
 use crate::leveled::LEVELS;
 use std::alloc::{AllocError, Global};
+use stm_explain::Said;
 use stm_explore::Observer;
 use stm_program::Level;
 
@@ -156,7 +157,7 @@ impl<O: Audience> Audience for AtLevel<'_, O> {
 }
 
 /// A line with the levels at which it was heard, behind it.
-fn with_levels(alloc: Global, line: &str, levels: &[Level]) -> Result<String, AllocError> {
+fn with_levels(alloc: Global, line: &str, levels: &[Level]) -> Said {
     let mut text = String::from_str(alloc, line)?;
     let mut between = " (at ";
     for level in levels {

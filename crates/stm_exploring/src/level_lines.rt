@@ -13,6 +13,7 @@ use crate::printed::{Printed, SearchAnswer};
 use crate::rules::{RuleAnswer, are_kept, is_broken, is_kept};
 use serde_json::{Value as Json, json};
 use std::alloc::{AllocError, Global};
+use stm_explain::Said;
 use stm_history::Text;
 use stm_program::Level;
 use stm_report_lines::push_line;
@@ -189,7 +190,7 @@ pub(crate) fn push_enough(
 }
 
 /// What is printed of answers at levels.
-fn levels_text(alloc: Global, at: &[LevelAnswers]) -> Result<String, AllocError>
+fn levels_text(alloc: Global, at: &[LevelAnswers]) -> Said
     ensures { IfOk result (λ text. string_bytes text ≡ levels_text at.now) }
 {
     let mut text = String::new(alloc);

@@ -3,6 +3,7 @@ ghost use Rattle.std.specs.Prelude.{◌<◌};
 
 use crate::key_use::KeyUse;
 use std::alloc::{AllocError, Global};
+use stm_explain::Said;
 use stm_history::Text;
 use strsim::levenshtein;
 
@@ -84,7 +85,7 @@ pub(crate) fn nearest<'a>(
 }
 
 /// A text without its digits.
-fn without_digits(alloc: Global, text: &str) -> Result<String, AllocError> {
+fn without_digits(alloc: Global, text: &str) -> Said {
     let mut rest = String::new(alloc);
     for character in text.chars() {
         if !character.is_ascii_digit() {

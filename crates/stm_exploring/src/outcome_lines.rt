@@ -12,6 +12,7 @@ use crate::schedule_lines::push_scheduled;
 use serde_json::{Value as Json, json};
 use std::alloc::{AllocError, Global};
 use std::collections::BTreeSet;
+use stm_explain::Said;
 use stm_history::{Sequence, Text};
 use stm_meaning::Value;
 use stm_report_lines::{array_json, parts_json, push_line, worded_json};
@@ -144,12 +145,7 @@ fn push_texts(text: &mut String, texts: &BTreeSet<Text>) -> Result<(), AllocErro
 }
 
 /// These texts, and behind them a line of a word and a number.
-pub(crate) fn counted_text(
-    alloc: Global,
-    texts: &BTreeSet<Text>,
-    word: &str,
-    count: u64,
-) -> Result<String, AllocError>
+pub(crate) fn counted_text(alloc: Global, texts: &BTreeSet<Text>, word: &str, count: u64) -> Said
     ensures { IfOk result (λ text. string_bytes text ≡ counted_text texts.now.keys word.now count) }
 {
     let mut text = String::new(alloc);

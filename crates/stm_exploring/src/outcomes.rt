@@ -23,6 +23,7 @@ use crate::setup::{run_setup, setup_and_others};
 use std::alloc::{AllocError, Global};
 use std::collections::BTreeSet;
 use stm_devices::Source;
+use stm_explain::Said;
 use stm_explore::{Budget, Move, Outcome, Outcomes, RunnerEnd, Sequence, find_outcomes};
 use stm_history::Text;
 use stm_program::{Level, Program};
@@ -46,19 +47,14 @@ fn found_texts(
 }
 
 /// These texts of all outcomes, and how many there are.
-fn all_text(alloc: Global, texts: &BTreeSet<Text>) -> Result<String, AllocError>
+fn all_text(alloc: Global, texts: &BTreeSet<Text>) -> Said
     ensures { IfOk result (λ text. string_bytes text ≡ all_text texts.now.keys) }
 {
     counted_text(alloc, texts, "outcomes", texts.len() as u64)
 }
 
 /// What is printed of what whole schedules come to.
-fn gathered_text(
-    alloc: Global,
-    witnessed: bool,
-    scenario: &Scenario,
-    gathered: &Outcomes,
-) -> Result<String, AllocError>
+fn gathered_text(alloc: Global, witnessed: bool, scenario: &Scenario, gathered: &Outcomes) -> Said
     ensures { IfOk result (λ text. string_bytes text ≡ gathered_text witnessed scenario.now gathered.now) }
 {
     match gathered {

@@ -10,6 +10,7 @@ use crate::printed::Printed;
 use crate::rules::{RuleAnswer, first_broken, verdict_of_all};
 use crate::schedule_lines::push_scheduled;
 use std::alloc::{AllocError, Global};
+use stm_explain::Said;
 use stm_explore::Explored;
 use stm_history::Text;
 use stm_texts::Scenario;
@@ -73,11 +74,7 @@ fn push_broken(
 }
 
 /// What is printed of answers about a scenario.
-fn answers_text(
-    alloc: Global,
-    scenario: &Scenario,
-    answers: &[RuleAnswer],
-) -> Result<String, AllocError>
+fn answers_text(alloc: Global, scenario: &Scenario, answers: &[RuleAnswer]) -> Said
     ensures { IfOk result (λ text. string_bytes text ≡ answers_text scenario.now answers.now) }
 {
     let mut text = String::new(alloc);

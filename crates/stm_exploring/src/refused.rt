@@ -6,6 +6,7 @@ use crate::searching::world_of;
 use crate::setup::{is_start, setup_and_others};
 use std::alloc::{AllocError, Global};
 use stm_events::EventRefusal;
+use stm_explain::Said;
 use stm_outcome::Txn;
 use stm_retry::{World, is_out_of_memory};
 use stm_texts::{Scenario, WorldEvent};
@@ -21,17 +22,17 @@ const ONCE: &str = "";
 const IN_EVERY_ORDER: &str = " in every order";
 
 /// A word of an event, or more, with the number behind it.
-fn numbered(alloc: Global, words: &str, number: u64) -> Result<String, AllocError> {
+fn numbered(alloc: Global, words: &str, number: u64) -> Said {
     format!(in alloc; "{words} {number}")
 }
 
 /// The words of a grant.
-fn grant_words(alloc: Global, id: u64, ttl: u64) -> Result<String, AllocError> {
+fn grant_words(alloc: Global, id: u64, ttl: u64) -> Said {
     format!(in alloc; "grant {id} ttl {ttl}")
 }
 
 /// The words of a watch of the keys from one to before another.
-fn range_words(alloc: Global, first: &str, end: &str) -> Result<String, AllocError> {
+fn range_words(alloc: Global, first: &str, end: &str) -> Said {
     let first = shown_text(alloc, first)?;
     let end = shown_text(alloc, end)?;
     let first = first.as_str();
@@ -40,14 +41,14 @@ fn range_words(alloc: Global, first: &str, end: &str) -> Result<String, AllocErr
 }
 
 /// The words of a watch of a key.
-fn watch_words(alloc: Global, key: &str) -> Result<String, AllocError> {
+fn watch_words(alloc: Global, key: &str) -> Said {
     let key = shown_text(alloc, key)?;
     let key = key.as_str();
     format!(in alloc; "watch {key}")
 }
 
 /// An event as a source has it, without what is long.
-fn event_words(alloc: Global, event: &WorldEvent) -> Result<String, AllocError> {
+fn event_words(alloc: Global, event: &WorldEvent) -> Said {
     match event {
         WorldEvent::Start { limit, .. } => numbered(alloc, "start with limit", *limit as u64),
         WorldEvent::Step { runner } => numbered(alloc, "step", *runner),

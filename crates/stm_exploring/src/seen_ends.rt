@@ -6,6 +6,7 @@ use crate::accounts::{Told, shown_text};
 use crate::audience::Audience;
 use std::alloc::{AllocError, Global};
 use std::cell::RefCell;
+use stm_explain::Said;
 use stm_explore::{Onlooker, RunnerEnd};
 
 /// The ends of a line, where the search has come to all schedules.
@@ -48,7 +49,7 @@ impl Onlooker for SeenEnds {
 }
 
 /// An end that was known of a runner, as it is said.
-fn end_words(alloc: Global, end: Option<&RunnerEnd>) -> Result<String, AllocError> {
+fn end_words(alloc: Global, end: Option<&RunnerEnd>) -> Said {
     match end {
         None => String::from_str(alloc, "still waiting"),
         Some(RunnerEnd::Committed { .. }) => String::from_str(alloc, "committed"),
@@ -151,7 +152,7 @@ pub(crate) fn never_words(has_committed: bool, is_all: bool) -> &'static str
 }
 
 /// The line of a runner with these ends, of all schedules, or of what was looked at.
-fn line_of(alloc: Global, runner: usize, ends: &Ends, is_all: bool) -> Result<String, AllocError> {
+fn line_of(alloc: Global, runner: usize, ends: &Ends, is_all: bool) -> Said {
     let never = never_words(ends.has_committed, is_all);
     let of = if is_all { OF_ALL } else { OF_SOME };
     let mut line = format!(in alloc; "runner {runner}{never}; {of}")?;

@@ -23,6 +23,7 @@ use crate::searching::{programs_of, world_of};
 use crate::setup::{run_setup, setup_and_others};
 use serde_json::Value as Json;
 use std::alloc::{AllocError, Global};
+use stm_explain::Said;
 use stm_explore::{Budget, Outcome, RunnerEnd, SerialAnswer, find_anomaly};
 use stm_history::Text;
 use stm_program::Program;
@@ -90,11 +91,7 @@ fn push_anomaly(
 }
 
 /// What is printed of an answer.
-fn serial_text(
-    alloc: Global,
-    scenario: &Scenario,
-    answer: &SerialAnswer,
-) -> Result<String, AllocError>
+fn serial_text(alloc: Global, scenario: &Scenario, answer: &SerialAnswer) -> Said
     ensures { IfOk result (λ text. string_bytes text ≡ serial_text scenario.now answer.now) }
 {
     let mut text = String::new(alloc);

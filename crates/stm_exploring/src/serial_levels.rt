@@ -19,6 +19,7 @@ use crate::printed::{Printed, SearchAnswer};
 use crate::serial::{compare_scenario, serial_parts};
 use serde_json::Value as Json;
 use std::alloc::{AllocError, Global};
+use stm_explain::Said;
 use stm_explore::{Budget, SerialAnswer};
 use stm_history::Text;
 use stm_program::Level;
@@ -169,7 +170,7 @@ fn push_serial_levels(
 }
 
 /// What is printed of what is known at levels.
-fn serial_levels_text(alloc: Global, at: &[SerialLevel]) -> Result<String, AllocError>
+fn serial_levels_text(alloc: Global, at: &[SerialLevel]) -> Said
     ensures { IfOk result (λ text. string_bytes text ≡ serial_levels_text at.now) }
 {
     let mut text = String::new(alloc);

@@ -9,6 +9,7 @@ use crate::reading::ExploreFault;
 use crate::setup::setup_and_others;
 use itoa::Buffer;
 use std::alloc::{AllocError, Global};
+use stm_explain::Said;
 use stm_explore::Wait;
 use stm_history::Text;
 use stm_json::{BadInput, Cause};
@@ -199,7 +200,7 @@ fn push_more(text: &mut String, waits: &[Wait]) -> Result<(), AllocError>
 }
 
 /// How waits are spelled.
-fn waits_text(alloc: Global, waits: &[Wait]) -> Result<String, AllocError>
+fn waits_text(alloc: Global, waits: &[Wait]) -> Said
     ensures { IfOk result (λ text. string_bytes text ≡ waits_text waits.now) }
 {
     let mut text = String::new(alloc);

@@ -11,6 +11,7 @@ use crate::reads::Reads;
 use crate::runs::{Explained, to_explain};
 use crate::scripts::Named;
 use std::alloc::{AllocError, Global};
+use stm_explain::Said;
 use stm_history::ReadAnswer;
 use stm_json::ReadError;
 use stm_steps::Fault;
@@ -40,7 +41,7 @@ fn place_of_job(
 }
 
 /// The head of a job's line.
-fn head_of_job(alloc: Global, job: &FaultedJob<'_>) -> Result<String, AllocError>
+fn head_of_job(alloc: Global, job: &FaultedJob<'_>) -> Said
     ensures { IfOk result (λ head. string_bytes head ≡ (reported_of_job (reported_job job.now)).head) }
 {
     let (job, fault) = (job.job, job.fault);
@@ -48,11 +49,7 @@ fn head_of_job(alloc: Global, job: &FaultedJob<'_>) -> Result<String, AllocError
 }
 
 /// The line of a job.
-fn job_line(
-    alloc: Global,
-    explained: &Explained<'_>,
-    job: &FaultedJob<'_>,
-) -> Result<String, AllocError>
+fn job_line(alloc: Global, explained: &Explained<'_>, job: &FaultedJob<'_>) -> Said
     ensures { IfOk result (λ line. IsLineOf (origin_in explained.now) (reported_of_job (reported_job job.now)) (string_bytes line)) }
 {
     let place = place_of_job(alloc, explained, job)?;
@@ -75,11 +72,7 @@ fn push_job(
 }
 
 /// The lines of these jobs of a scenario.
-fn lines_in(
-    alloc: Global,
-    explained: &Explained<'_>,
-    jobs: &[FaultedJob<'_>],
-) -> Result<String, AllocError>
+fn lines_in(alloc: Global, explained: &Explained<'_>, jobs: &[FaultedJob<'_>]) -> Said
     ensures { IfOk result (λ said. ExplainsEach (origin_in explained.now) (map reported_of_job (map reported_job jobs.now)) (string_bytes said)) }
 {
     let mut out = String::new(alloc);
@@ -90,12 +83,7 @@ fn lines_in(
 }
 
 /// The lines of these jobs of a scenario that was read from this text.
-fn lines_of(
-    alloc: Global,
-    source: &Named<'_>,
-    scenario: &Scenario,
-    jobs: &[FaultedJob<'_>],
-) -> Result<String, AllocError>
+fn lines_of(alloc: Global, source: &Named<'_>, scenario: &Scenario, jobs: &[FaultedJob<'_>]) -> Said
     ensures { IfOk result (λ said. ExplainsJobs source.now.name.now source.now.text.now (OkOf scenario.now) (map reported_job jobs.now) (string_bytes said)) }
 {
     let explained = to_explain(alloc, source.name, source.text, scenario)?;
@@ -108,7 +96,7 @@ fn lines_of_scenario(
     source: &Named<'_>,
     scenario: Scenario,
     jobs: &[FaultedJob<'_>],
-) -> Result<String, AllocError>
+) -> Said
     ensures { IfOk result (λ said. ExplainsJobs source.now.name.now source.now.text.now (OkOf scenario) (map reported_job jobs.now) (string_bytes said)) }
 {
     let said = lines_of(alloc, source, &scenario, jobs);
@@ -119,11 +107,7 @@ fn lines_of_scenario(
 /// A line for each of these jobs of a scenario, in this order; none where the text is no scenario.
 ///
 /// A line is `NAME:LINE:COLUMN: job JOB: FAULT at PLACE: REASON`, as `faults_explained` has it of a run. It fails where an allocation failed.
-pub fn jobs_explained(
-    alloc: Global,
-    source: &Named<'_>,
-    jobs: &[FaultedJob<'_>],
-) -> Result<String, AllocError>
+pub fn jobs_explained(alloc: Global, source: &Named<'_>, jobs: &[FaultedJob<'_>]) -> Said
     ensures { IfOk result (λ said. ExplainsJobs source.now.name.now source.now.text.now (scenario_in source.now.text.now) (map reported_job jobs.now) (string_bytes said)) }
 {
     match read_scenario(alloc, source.text.as_bytes()) {

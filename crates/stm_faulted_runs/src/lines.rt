@@ -9,7 +9,7 @@ use crate::following::index_of;
 use crate::places::{Place, place_of_run};
 use crate::runs::Explained;
 use std::alloc::{AllocError, Global};
-use stm_explain::Marked;
+use stm_explain::{Marked, Said};
 use stm_retry::{Denied, Reply};
 use stm_steps::{Fault, Lookup, State};
 
@@ -25,7 +25,7 @@ pub(crate) struct ReportedFault {
 }
 
 /// The words of a line.
-pub(crate) fn words_of(alloc: Global, head: &str, more: &str) -> Result<String, AllocError>
+pub(crate) fn words_of(alloc: Global, head: &str, more: &str) -> Said
     ensures { IfOk result (λ words. string_bytes words ≡ head.now ++ more.now) }
 {
     let mut words = String::from_str(alloc, head)?;
@@ -34,12 +34,7 @@ pub(crate) fn words_of(alloc: Global, head: &str, more: &str) -> Result<String, 
 }
 
 /// A line that begins so, of a fault at a place.
-pub(crate) fn line_of(
-    alloc: Global,
-    marked: &Marked<'_>,
-    head: &str,
-    place: &Place,
-) -> Result<String, AllocError>
+pub(crate) fn line_of(alloc: Global, marked: &Marked<'_>, head: &str, place: &Place) -> Said
     ensures { IfOk result (λ line. IsExplanationOf marked.now.name.now marked.now.text.now (head.now ++ string_bytes place.now.more) (string_bytes line)) }
 {
     let words = words_of(alloc, head, place.more.as_str())?;
@@ -75,7 +70,7 @@ fn place_reported(
 }
 
 /// The head of a run's line.
-fn run_head(alloc: Global, event: u64, fault: Fault, runner: u64) -> Result<String, AllocError>
+fn run_head(alloc: Global, event: u64, fault: Fault, runner: u64) -> Said
     ensures { IfOk result (λ head. string_bytes head ≡ run_head event fault runner) }
 {
     format!(in alloc; "event {event}: {fault} of runner {runner}")
@@ -87,7 +82,7 @@ fn run_line(
     explained: &Explained<'_>,
     runners: &[State],
     reported: ReportedFault,
-) -> Result<String, AllocError>
+) -> Said
     ensures { IfOk result (λ line. IsLineOf (origin_in explained.now) (reported_run reported) (string_bytes line)) }
 {
     let place = place_reported(alloc, explained, runners, reported)?;

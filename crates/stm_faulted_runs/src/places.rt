@@ -12,6 +12,7 @@ use crate::reasons::{reason, reason_with_key};
 use crate::runs::{Explained, StartedRun, run_at};
 use serde_json::Value as Json;
 use std::alloc::{AllocError, Global};
+use stm_explain::Said;
 use stm_program::Program;
 use stm_program_json::first_statement;
 use stm_sites::{FoundFault, find_fault};
@@ -36,7 +37,7 @@ fn push_step(alloc: Global, text: &mut String, index: usize) -> Result<(), Alloc
 }
 
 /// The JSON Pointer of these indices.
-fn pointer_of(alloc: Global, steps: &[usize]) -> Result<String, AllocError>
+fn pointer_of(alloc: Global, steps: &[usize]) -> Said
     ensures { IfOk result (λ p. string_bytes p ≡ pointer steps.now) }
 {
     let mut text = String::new(alloc);
@@ -47,14 +48,14 @@ fn pointer_of(alloc: Global, steps: &[usize]) -> Result<String, AllocError>
 }
 
 /// What is said of a fault at a place with this pointer.
-fn words_at(alloc: Global, pointer: &str, reason: &str) -> Result<String, AllocError>
+fn words_at(alloc: Global, pointer: &str, reason: &str) -> Said
     ensures { IfOk result (λ more. string_bytes more ≡ codes " at " ++ pointer.now ++ codes ": " ++ reason.now) }
 {
     format!(in alloc; " at {pointer}: {reason}")
 }
 
 /// What is said of a fault at a place.
-fn words_of(alloc: Global, steps: &[usize], reason: &str) -> Result<String, AllocError>
+fn words_of(alloc: Global, steps: &[usize], reason: &str) -> Said
     ensures { IfOk result (λ more. ReturnsPlace steps.now (string_bytes more)) }
 {
     let pointer = pointer_of(alloc, steps)?;
@@ -62,12 +63,7 @@ fn words_of(alloc: Global, steps: &[usize], reason: &str) -> Result<String, Allo
 }
 
 /// Why a fault was found, with the key that is absent, or holds "", where it is for that. These indices lead to its place in the text of this JSON.
-fn reason_of(
-    alloc: Global,
-    whole: &Json,
-    steps: &[usize],
-    found: &FoundFault,
-) -> Result<String, AllocError> {
+fn reason_of(alloc: Global, whole: &Json, steps: &[usize], found: &FoundFault) -> Said {
     let site = &found.site;
     let reason = reason(alloc, found.fault, site.node, site.values.as_slice())?;
     match empty_key(whole, steps, site) {
@@ -77,12 +73,7 @@ fn reason_of(
 }
 
 /// What is said of a fault that was found, at its place in the text of this JSON.
-fn more_of(
-    alloc: Global,
-    whole: &Json,
-    steps: &[usize],
-    found: &FoundFault,
-) -> Result<String, AllocError>
+fn more_of(alloc: Global, whole: &Json, steps: &[usize], found: &FoundFault) -> Said
     ensures { IfOk result (λ more. ReturnsPlace steps.now (string_bytes more)) }
 {
     let reason = reason_of(alloc, whole, steps, found)?;

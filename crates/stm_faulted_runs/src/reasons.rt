@@ -2,7 +2,7 @@
 
 use serde_json::{Value as Json, json};
 use std::alloc::{AllocError, Global};
-use stm_explain::shown;
+use stm_explain::{Said, shown};
 use stm_program::Operator;
 use stm_sites::Node;
 use stm_steps::{Fault, Value};
@@ -16,13 +16,13 @@ fn json_of(alloc: Global, value: &Value) -> Result<Json, AllocError> {
 }
 
 /// A value in the spelling of programs; of one that is long, the front.
-fn spelled(alloc: Global, value: &Value) -> Result<String, AllocError> {
+fn spelled(alloc: Global, value: &Value) -> Said {
     let json = json_of(alloc, value)?;
     shown(alloc, &json)
 }
 
 /// The value at an index of these, where there is one.
-fn spelled_at(alloc: Global, values: &[Value], index: usize) -> Result<String, AllocError> {
+fn spelled_at(alloc: Global, values: &[Value], index: usize) -> Said {
     match values.get(index) {
         Some(value) => spelled(alloc, value),
         None => String::from_str(alloc, "a value"),
@@ -48,7 +48,7 @@ fn operation_of(node: Node) -> (&'static str, &'static str) {
 }
 
 /// Why the result of an operator is none.
-fn of_overflow(alloc: Global, node: Node, values: &[Value]) -> Result<String, AllocError> {
+fn of_overflow(alloc: Global, node: Node, values: &[Value]) -> Said {
     let (name, sign) = operation_of(node);
     let left = spelled_at(alloc, values, 0)?;
     let right = spelled_at(alloc, values, 1)?;
@@ -56,14 +56,14 @@ fn of_overflow(alloc: Global, node: Node, values: &[Value]) -> Result<String, Al
 }
 
 /// Why a division is none.
-fn of_zero(alloc: Global, node: Node, values: &[Value]) -> Result<String, AllocError> {
+fn of_zero(alloc: Global, node: Node, values: &[Value]) -> Said {
     let (_, sign) = operation_of(node);
     let left = spelled_at(alloc, values, 0)?;
     format!(in alloc; "division by zero: {left} {sign} 0")
 }
 
 /// Why a count is no number of turns.
-fn of_count(alloc: Global, node: Node, values: &[Value]) -> Result<String, AllocError> {
+fn of_count(alloc: Global, node: Node, values: &[Value]) -> Said {
     let count = spelled_at(alloc, values, 0)?;
     match node {
         Node::Loop(limit) => {
@@ -82,7 +82,7 @@ fn length_at(values: &[Value], index: usize) -> usize {
 }
 
 /// Why two texts are not put together.
-fn of_length(alloc: Global, values: &[Value]) -> Result<String, AllocError> {
+fn of_length(alloc: Global, values: &[Value]) -> Said {
     let front = length_at(values, 0);
     let back = length_at(values, 1);
     format!(in alloc; "a text of {front} bytes and one of {back} are more than 65536 together")
@@ -99,7 +99,7 @@ fn first_of_kind(values: &[Value], is_text: bool) -> Option<&Value> {
 }
 
 /// What is said of the first of these that is no number.
-fn of_text(alloc: Global, values: &[Value]) -> Result<String, AllocError> {
+fn of_text(alloc: Global, values: &[Value]) -> Said {
     match first_of_kind(values, true) {
         Some(value) => {
             let value = spelled(alloc, value)?;
@@ -110,7 +110,7 @@ fn of_text(alloc: Global, values: &[Value]) -> Result<String, AllocError> {
 }
 
 /// What is said of the first of these that is no text.
-fn of_number(alloc: Global, values: &[Value]) -> Result<String, AllocError> {
+fn of_number(alloc: Global, values: &[Value]) -> Said {
     match first_of_kind(values, false) {
         Some(value) => {
             let value = spelled(alloc, value)?;
@@ -121,7 +121,7 @@ fn of_number(alloc: Global, values: &[Value]) -> Result<String, AllocError> {
 }
 
 /// What is said of two values of which one is a text and the other a number.
-fn of_two_kinds(alloc: Global, values: &[Value]) -> Result<String, AllocError> {
+fn of_two_kinds(alloc: Global, values: &[Value]) -> Said {
     let left = spelled_at(alloc, values, 0)?;
     let right = spelled_at(alloc, values, 1)?;
     format!(in alloc;
@@ -130,7 +130,7 @@ fn of_two_kinds(alloc: Global, values: &[Value]) -> Result<String, AllocError> {
 }
 
 /// Why values are not of the kinds that a node wants.
-fn of_kind(alloc: Global, node: Node, values: &[Value]) -> Result<String, AllocError> {
+fn of_kind(alloc: Global, node: Node, values: &[Value]) -> Said {
     match node {
         Node::Operation(_) | Node::Loop(_) | Node::OfNumber => of_text(alloc, values),
         Node::OfText => of_number(alloc, values),
@@ -139,12 +139,7 @@ fn of_kind(alloc: Global, node: Node, values: &[Value]) -> Result<String, AllocE
 }
 
 /// Why a node stops its run by a fault, where its parts gave these values.
-pub(crate) fn reason(
-    alloc: Global,
-    fault: Fault,
-    node: Node,
-    values: &[Value],
-) -> Result<String, AllocError> {
+pub(crate) fn reason(alloc: Global, fault: Fault, node: Node, values: &[Value]) -> Said {
     match fault {
         Fault::Kind => of_kind(alloc, node, values),
         Fault::Overflow => of_overflow(alloc, node, values),
@@ -161,11 +156,7 @@ pub(crate) fn reason(
 }
 
 /// This reason, with the key whose value is the "" in it.
-pub(crate) fn reason_with_key(
-    alloc: Global,
-    reason: String,
-    key: &str,
-) -> Result<String, AllocError> {
+pub(crate) fn reason_with_key(alloc: Global, reason: String, key: &str) -> Said {
     let key = Json::String(String::from_str(alloc, key)?);
     let key = shown(alloc, &key)?;
     format!(in alloc; "{reason}; the key {key} is absent, or its value \"\"")

@@ -16,7 +16,7 @@ use crate::places::{fault_in_program, place_of_fault};
 use crate::scripts::Named;
 use serde_json::Value as Json;
 use std::alloc::{AllocError, Global};
-use stm_explain::explained_at;
+use stm_explain::{Said, explained_at};
 use stm_json::ReadError;
 use stm_program::Program;
 use stm_program_json::{first_statement, read_program, write_program};
@@ -26,7 +26,7 @@ use stm_steps::Fault;
 use stm_texts::{Scenario, opens_with, read_scenario};
 
 /// The head of a rule's line.
-fn head_of_rule(alloc: Global, fault: Fault) -> Result<String, AllocError>
+fn head_of_rule(alloc: Global, fault: Fault) -> Said
     ensures { IfOk result (λ head. string_bytes head ≡ rule_head fault) }
 {
     format!(in alloc; "{fault} of the rule")
@@ -39,7 +39,7 @@ fn fault_line(
     json: &Json,
     first: usize,
     found: &FoundFault,
-) -> Result<String, AllocError>
+) -> Said
     requires first { first ≤ 1 }
     requires few { BeginsBelow MAX_NODES found.now.site.place }
     ensures { IfOk result (λ line. IsRuleLine rule.now.name.now rule.now.text.now first found.now (string_bytes line)) }
@@ -59,7 +59,7 @@ fn explained_with(
     first: usize,
     program: &Program,
     state: &State,
-) -> Result<String, AllocError>
+) -> Said
     requires { first ≤ 1 }
     ensures { IfOk result (λ line. ExplainsProgram rule.now.name.now rule.now.text.now first (state_answers state.now) (OkOf program.now) (string_bytes line)) }
 {
@@ -73,12 +73,7 @@ fn explained_with(
 }
 
 /// The line of a rule with this JSON, where the program that it spells comes to a fault on a state.
-fn explained_on(
-    alloc: Global,
-    rule: &Named<'_>,
-    json: &Json,
-    state: &State,
-) -> Result<String, AllocError>
+fn explained_on(alloc: Global, rule: &Named<'_>, json: &Json, state: &State) -> Said
     ensures { IfOk result (λ line. ExplainsProgram rule.now.name.now rule.now.text.now (first_statement (view json.now)) (state_answers state.now)
         (program_of (view json.now)) (string_bytes line)) }
 {
@@ -93,7 +88,7 @@ fn explained_on(
 }
 
 /// The line of a rule, where its text spells a program that comes to a fault on a state.
-fn explained_by(alloc: Global, rule: &Named<'_>, state: &State) -> Result<String, AllocError>
+fn explained_by(alloc: Global, rule: &Named<'_>, state: &State) -> Said
     ensures { IfOk result (λ line. ExplainsOver rule.now.name.now rule.now.text.now (state_answers state.now) (string_bytes line)) }
 {
     match Json::from_str(alloc, rule.text) {
@@ -146,11 +141,7 @@ fn state_left(alloc: Global, scenario: Scenario) -> Result<State, AllocError>
 }
 
 /// The line of a rule, where its program comes to a fault on the state that a scenario leaves.
-fn explained_after(
-    alloc: Global,
-    rule: &Named<'_>,
-    scenario: Scenario,
-) -> Result<String, AllocError>
+fn explained_after(alloc: Global, rule: &Named<'_>, scenario: Scenario) -> Said
     ensures { IfOk result (λ line. ExplainsRule rule.now.name.now rule.now.text.now (OkOf scenario) (string_bytes line)) }
 {
     let state = state_left(alloc, scenario)?;
@@ -161,7 +152,7 @@ fn explained_after(
 /// `NAME:LINE:COLUMN: FAULT of the rule at PLACE: REASON`, as `faults_explained` has it of a run.
 ///
 /// It fails where an allocation failed.
-pub fn rule_explained(alloc: Global, rule: &Named<'_>, scenario: &str) -> Result<String, AllocError>
+pub fn rule_explained(alloc: Global, rule: &Named<'_>, scenario: &str) -> Said
     ensures { IfOk result (λ line. ExplainsRule rule.now.name.now rule.now.text.now (scenario_in scenario.now) (string_bytes line)) }
 {
     match read_scenario(alloc, scenario.as_bytes()) {
@@ -172,12 +163,7 @@ pub fn rule_explained(alloc: Global, rule: &Named<'_>, scenario: &str) -> Result
 }
 
 /// What is said of a fault that was found in a program with this JSON, of whose elements the first statement is the one with this index.
-fn fault_at_place(
-    alloc: Global,
-    json: &Json,
-    first: usize,
-    found: &FoundFault,
-) -> Result<String, AllocError>
+fn fault_at_place(alloc: Global, json: &Json, first: usize, found: &FoundFault) -> Said
     requires first { first ≤ 1 }
     requires few { BeginsBelow MAX_NODES found.now.site.place }
     ensures { IfOk result (λ said. IsFaultSaid first found.now (string_bytes said)) }
@@ -187,7 +173,7 @@ fn fault_at_place(
 }
 
 /// What is said of a fault that was found in a program.
-fn fault_in(alloc: Global, program: &Program, found: &FoundFault) -> Result<String, AllocError>
+fn fault_in(alloc: Global, program: &Program, found: &FoundFault) -> Said
     requires { BeginsBelow MAX_NODES found.now.site.place }
     ensures { IfOk result (λ said. IsReasonSaid program.now (SomeOf found.now) (string_bytes said)) }
 {
@@ -202,7 +188,7 @@ fn fault_in(alloc: Global, program: &Program, found: &FoundFault) -> Result<Stri
 /// none.
 ///
 /// It fails where an allocation failed.
-pub fn fault_on(alloc: Global, program: &Program, state: &State) -> Result<String, AllocError>
+pub fn fault_on(alloc: Global, program: &Program, state: &State) -> Said
     ensures { IfOk result (λ said. SaysFault program.now state.now (string_bytes said)) }
 {
     let found = fault_in_program(alloc, program, state)?;
@@ -215,7 +201,7 @@ pub fn fault_on(alloc: Global, program: &Program, state: &State) -> Result<Strin
 }
 
 /// What is said of a rule's program that comes to a fault on the state that a scenario leaves.
-fn reason_after(alloc: Global, program: &Program, scenario: Scenario) -> Result<String, AllocError>
+fn reason_after(alloc: Global, program: &Program, scenario: Scenario) -> Said
     ensures { IfOk result (λ said. SaysReason program.now (OkOf scenario) (string_bytes said)) }
 {
     let state = state_left(alloc, scenario)?;
@@ -225,7 +211,7 @@ fn reason_after(alloc: Global, program: &Program, scenario: Scenario) -> Result<
 /// What `fault_on` says of a rule's program on the state after the scenario that this text spells.
 ///
 /// It fails where an allocation failed.
-pub fn rule_reason(alloc: Global, program: &Program, scenario: &str) -> Result<String, AllocError>
+pub fn rule_reason(alloc: Global, program: &Program, scenario: &str) -> Said
     ensures { IfOk result (λ said. SaysReason program.now (scenario_in scenario.now) (string_bytes said)) }
 {
     match read_scenario(alloc, scenario.as_bytes()) {

@@ -8,6 +8,7 @@ ghost use Rattle.stm_faulted_runs.specs.Origins.{origin_in};
 use crate::events::explain_events;
 use crate::runs::{Explained, to_explain};
 use std::alloc::{AllocError, Global};
+use stm_explain::Said;
 use stm_json::ReadError;
 use stm_retry::{World, WorldEvent};
 use stm_texts::{Opening, Scenario, opens_with, read_scenario};
@@ -22,12 +23,7 @@ pub struct Named<'a> {
 }
 
 /// The lines of the runs that events begin in a world.
-fn lines_in(
-    alloc: Global,
-    explained: &Explained<'_>,
-    world: World,
-    events: &[WorldEvent],
-) -> Result<String, AllocError>
+fn lines_in(alloc: Global, explained: &Explained<'_>, world: World, events: &[WorldEvent]) -> Said
     ensures { IfOk result (λ said. ExplainsEach (origin_in explained.now) (faults_from world events.now) (string_bytes said)) }
 {
     let mut world = world;
@@ -48,7 +44,7 @@ fn lines_from(
     explained: &Explained<'_>,
     opening: Opening,
     events: &[WorldEvent],
-) -> Result<String, AllocError>
+) -> Said
     ensures { IfOk result (λ said. ExplainsEach (origin_in explained.now) (faults_from (opened opening) events.now) (string_bytes said)) }
 {
     let world = World::with_limits(alloc, opening.revision(), opening.operations())?;
@@ -56,7 +52,7 @@ fn lines_from(
 }
 
 /// The lines of the runs of a scenario that was read from this text.
-fn lines_of(alloc: Global, source: &Named<'_>, scenario: &Scenario) -> Result<String, AllocError>
+fn lines_of(alloc: Global, source: &Named<'_>, scenario: &Scenario) -> Said
     ensures { IfOk result (λ said. ExplainsRun source.now.name.now source.now.text.now (OkOf scenario.now) (string_bytes said)) }
 {
     let opening = opens_with(scenario.opening);
@@ -65,11 +61,7 @@ fn lines_of(alloc: Global, source: &Named<'_>, scenario: &Scenario) -> Result<St
 }
 
 /// The same, of a scenario that is dropped then.
-fn lines_of_scenario(
-    alloc: Global,
-    source: &Named<'_>,
-    scenario: Scenario,
-) -> Result<String, AllocError>
+fn lines_of_scenario(alloc: Global, source: &Named<'_>, scenario: Scenario) -> Said
     ensures { IfOk result (λ said. ExplainsRun source.now.name.now source.now.text.now (OkOf scenario) (string_bytes said)) }
 {
     let said = lines_of(alloc, source, &scenario);
@@ -84,7 +76,7 @@ fn lines_of_scenario(
 /// not come to this fault on what its runner had read, the line ends after the runner, and is that of the start.
 ///
 /// It fails where an allocation failed.
-pub fn faults_explained(alloc: Global, source: &Named<'_>) -> Result<String, AllocError>
+pub fn faults_explained(alloc: Global, source: &Named<'_>) -> Said
     ensures { IfOk result (λ said. ExplainsRun source.now.name.now source.now.text.now (scenario_in source.now.text.now) (string_bytes said)) }
 {
     match read_scenario(alloc, source.text.as_bytes()) {

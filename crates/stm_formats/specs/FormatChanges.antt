@@ -46,9 +46,10 @@ abbrev pub changes_after : Cuts → ℕ → List Event → List ℕ
 changes_after cuts count [] = []
 changes_after cuts count (event ∷ events) = counted_change cuts count event ++ changes_after cuts (suc count) events
 
--- those of a revision that has come
+-- those of a revision that has come: that it was compacted, where it was
 abbrev pub revision_words : Cuts → History → ℕ → List ℕ
-revision_words cuts h revision = if nat_lt (now h) revision then [] else changes_after cuts 0 (events_of h revision)
+revision_words cuts h revision =
+    if nat_lt (now h) revision then [] else (if nat_le revision h.opening.number then codes "  (compacted)" else changes_after cuts 0 (events_of h revision))
 
 -- Those of the revisions above one and up to another: of the first two. More than one an event makes only where it ends several leases.
 abbrev pub changed_since : Cuts → History → ℕ → ℕ → List ℕ

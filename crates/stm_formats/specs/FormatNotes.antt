@@ -1,5 +1,5 @@
 -- What comes after the rows: the keys that are present, the revision, and the runners that are unfinished.
-use Rattle.std.specs.Prelude.{ℕ, ◌-◌, suc, List, [], ◌∷◌, ◌++◌, length, Bool, true, false, Option, Some, None, Result, Ok, Err, codes, decimal, slice_set}
+use Rattle.std.specs.Prelude.{ℕ, ◌-◌, suc, nat_eq, nat_le, if◌then◌else◌, List, [], ◌∷◌, ◌++◌, length, Bool, true, false, Option, Some, None, Result, Ok, Err, codes, decimal, slice_set}
 use Rattle.stm_history.specs.declared.key_state.KeyState.{KeyState}
 use Rattle.stm_history.specs.History.{History, now, key_now}
 use Rattle.stm_txn.specs.PresentKeys.{keys_present}
@@ -7,6 +7,8 @@ use Rattle.stm_events.specs.declared.reply.Reply.{Reply}
 use Rattle.stm_events.specs.declared.reply.Reply.TheVariants.{Started, Committed, GaveUp, Aborted, Faulted, Ended}
 use Rattle.stm_events.specs.declared.refusal.Denied.{Denied}
 use Rattle.stm_world.specs.World.{World}
+use Rattle.stm_reasons.specs.Counters.{counter_after}
+use Rattle.stm_formats.specs.declared.format_notes.TheConstants.{MOST_KEY_NOTES}
 use Rattle.stm_formats.specs.declared.format_label.RunnerLabel.{RunnerLabel}
 use Rattle.stm_formats.specs.FormatShown.{plain, shown}
 use Rattle.stm_formats.specs.FormatPieces.{joined}
@@ -18,13 +20,41 @@ use Rattle.stm_formats.specs.FormatLabels.{runner_words}
 abbrev pub key_note : ℕ → List ℕ → KeyState → List ℕ
 key_note most key state = joined (codes "key " ∷ plain key ∷ codes " = \"" ∷ shown most state.value ∷ codes "\" @" ∷ decimal state.mod_rev ∷ [])
 
-abbrev pub notes_of_key : ℕ → List ℕ → Option KeyState → List (List ℕ)
-notes_of_key most key None = []
-notes_of_key most key (Some state) = key_note most key state ∷ []
+-- where it changed above a revision
+abbrev pub notes_of_key : ℕ → ℕ → List ℕ → Option KeyState → List (List ℕ)
+notes_of_key most above key None = []
+notes_of_key most above key (Some state) = if nat_le state.mod_rev above then [] else key_note most key state ∷ []
 
-abbrev pub key_notes : ℕ → History → List (List ℕ) → List (List ℕ)
-key_notes most h [] = []
-key_notes most h (key ∷ keys) = notes_of_key most key (key_now h key) ++ key_notes most h keys
+abbrev pub key_notes : ℕ → ℕ → History → List (List ℕ) → List (List ℕ)
+key_notes most above h [] = []
+key_notes most above h (key ∷ keys) = notes_of_key most above key (key_now h key) ++ key_notes most above h keys
+
+abbrev pub is_start : Result Reply Denied → Bool
+is_start (Ok (Started runner)) = true
+is_start (Ok other) = false
+is_start (Err denied) = false
+
+-- the revision at which the first runner was started; where none was, that before the first event
+abbrev pub set_up : ℕ → ℕ → List (Result Reply Denied) → ℕ
+set_up since counter [] = since
+set_up since counter (reply ∷ replies) = if is_start reply then counter else set_up since (counter_after counter reply) replies
+
+-- Above which revision that many keys have to have changed, to be noted: few are noted whenever they did.
+abbrev pub noted_above : ℕ → ℕ → List (Result Reply Denied) → ℕ
+noted_above count since replies = if nat_le count MOST_KEY_NOTES then 0 else set_up since since replies
+
+-- how many keys are left out
+abbrev pub left_out_notes : ℕ → ℕ → List (List ℕ)
+left_out_notes above count =
+    if nat_eq count 0 then []
+    else joined (codes "keys left out, unchanged since @" ∷ decimal above ∷ codes ": " ∷ decimal count ∷ codes " (script --format lines has all)" ∷ []) ∷ []
+
+abbrev pub noted_keys_above : ℕ → ℕ → History → List (List ℕ) → List (List ℕ)
+noted_keys_above most above h keys = key_notes most above h keys ++ left_out_notes above (length keys - length (key_notes most above h keys))
+
+-- of keys that are present, where the store was at a revision before these replies
+abbrev pub noted_keys : ℕ → ℕ → List (Result Reply Denied) → History → List (List ℕ) → List (List ℕ)
+noted_keys most since replies h keys = noted_keys_above most (noted_above (length keys) since replies) h keys
 
 -- ---- the runners that are unfinished
 
@@ -58,7 +88,7 @@ unfinished_notes labels runner (false ∷ ended) = unfinished_note labels runner
 abbrev pub end_note : ℕ → ℕ → List ℕ
 end_note revision entries = joined (codes "revision " ∷ decimal revision ∷ codes ", entries " ∷ decimal entries ∷ [])
 
-abbrev pub notes_of : ℕ → List RunnerLabel → World → List (Result Reply Denied) → List (List ℕ)
-notes_of most labels w replies =
-    key_notes most w.standing.history (keys_present w.standing.history)
+abbrev pub notes_of : ℕ → List RunnerLabel → World → ℕ → List (Result Reply Denied) → List (List ℕ)
+notes_of most labels w since replies =
+    noted_keys most since replies w.standing.history (keys_present w.standing.history)
     ++ end_note (now w.standing.history) (length w.entries) ∷ unfinished_notes labels 1 (ended_after [] replies)

@@ -27,12 +27,12 @@ abbrev pub history_kept : World → History
 history_kept w = (kept w.standing).history
 
 -- what is left, and on what values runs aborted or came to faults
-abbrev pub left_from : ℕ → List RunnerLabel → World → List (Result Reply Denied) → List (List ℕ)
-left_from most labels w replies = notes_of most labels w replies ++ end_notes (whole_keys most) labels (history_kept w) replies 0 replies
+abbrev pub left_from : ℕ → List RunnerLabel → World → ℕ → List (Result Reply Denied) → List (List ℕ)
+left_from most labels w since replies = notes_of most labels w since replies ++ end_notes (whole_keys most) labels (history_kept w) replies 0 replies
 
 -- that, and why commits failed
 abbrev pub notes_from : ℕ → List RunnerLabel → World → ℕ → List (Result Reply Denied) → List (List ℕ)
-notes_from most labels w since replies = left_from most labels w replies ++ reason_notes labels (reasons_of (history_kept w) since replies)
+notes_from most labels w since replies = left_from most labels w since replies ++ reason_notes labels (reasons_of (history_kept w) since replies)
 
 -- how many bytes of a value a text of this width shows at most
 abbrev pub most_shown : Option ℕ → ℕ
@@ -59,5 +59,5 @@ svg_from labels w since events replies =
 
 abbrev pub html_from : List RunnerLabel → World → ℕ → List WorldEvent → List (Result Reply Denied) → List ℕ
 html_from labels w since events replies =
-    html_of labels (history_kept w) (counters since replies) (rows_from None labels w since events replies) (left_from MOST_SHOWN labels w replies)
+    html_of labels (history_kept w) (counters since replies) (rows_from None labels w since events replies) (left_from MOST_SHOWN labels w since replies)
     (reasons_of (history_kept w) since replies)

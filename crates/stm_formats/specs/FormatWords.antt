@@ -12,6 +12,7 @@ use Rattle.stm_events.specs.declared.reply.KeyRead.{KeyRead}
 use Rattle.stm_events.specs.declared.refusal.Denied.{Denied}
 use Rattle.stm_events.specs.declared.refusal.EventRefusal.{EventRefusal}
 use Rattle.stm_events.specs.Names.{refusal_name}
+use Rattle.stm_keys.specs.declared.event.Event.{Event}
 use Rattle.stm_texts.specs.Grammar.{level_text}
 use Rattle.stm_reasons.specs.Counters.{counter_after}
 use Rattle.stm_formats.specs.declared.format_label.RunnerLabel.{RunnerLabel}
@@ -22,7 +23,7 @@ use Rattle.stm_formats.specs.FormatKeys.{key_words}
 use Rattle.stm_formats.specs.FormatPieces.{joined}
 use Rattle.stm_formats.specs.FormatLabels.{program_of}
 use Rattle.stm_formats.specs.FormatSource.{source_words, program_words, compare_words}
-use Rattle.stm_formats.specs.FormatChanges.{known_words, between, changed_since}
+use Rattle.stm_formats.specs.FormatChanges.{known_words, between, changes_after, changed_since}
 
 -- a word and the number or the text that it is about
 abbrev pub named_words : List ℕ → ℕ → List ℕ
@@ -113,9 +114,27 @@ revoked_words id revision = joined (codes "revoke " ∷ decimal id ∷ codes " @
 abbrev pub advanced_words : ℕ → ℕ → List ℕ
 advanced_words now expired = joined (codes "advance to " ∷ decimal now ∷ codes ", " ∷ decimal expired ∷ codes " expired" ∷ [])
 
-abbrev pub batch_words : ℕ → ℕ → ℕ → List ℕ
-batch_words watcher events upto =
-    joined (codes "poll " ∷ decimal watcher ∷ codes ": " ∷ decimal events ∷ codes " events to @" ∷ decimal upto ∷ [])
+-- from which revision on is watched, where that is said
+abbrev pub from_words : ℕ → List ℕ
+from_words from = if nat_eq from 0 then [] else joined (codes " from @" ∷ decimal from ∷ [])
+
+-- what is watched
+abbrev pub watched_words : Cuts → WorldEvent → List ℕ
+watched_words cuts (event.WatchKey key from) = joined (codes ": \"" ∷ key_words cuts key ∷ codes "\"" ∷ from_words from ∷ [])
+watched_words cuts (event.WatchRange first end from) =
+    joined (codes ": \"" ∷ key_words cuts first ∷ codes "\"..\"" ∷ key_words cuts end ∷ codes "\"" ∷ from_words from ∷ [])
+watched_words cuts other = []
+
+abbrev pub watch_words : Cuts → ℕ → WorldEvent → List ℕ
+watch_words cuts watcher event = joined (codes "watch " ∷ decimal watcher ∷ watched_words cuts event ∷ [])
+
+abbrev pub events_word : ℕ → List ℕ
+events_word count = if nat_eq count 1 then codes " event to @" else codes " events to @"
+
+-- what a poll gave
+abbrev pub batch_words : Cuts → ℕ → ℕ → List Event → List ℕ
+batch_words cuts watcher upto events =
+    joined (codes "poll " ∷ decimal watcher ∷ codes ": " ∷ decimal (length events) ∷ events_word (length events) ∷ decimal upto ∷ changes_after cuts 0 events ∷ [])
 
 -- a watcher that was lost, and the first revision whose events are kept
 abbrev pub lost_words : ℕ → ℕ → List ℕ
@@ -137,8 +156,8 @@ reply_words cuts labels h event (Kept id) = named_words (codes "keep") id
 reply_words cuts labels h event (Revoked id revision) = revoked_words id revision
 reply_words cuts labels h event (Advanced now expired) = advanced_words now (length expired)
 reply_words cuts labels h event (Compacted revision) = changed_words (codes "compact") revision
-reply_words cuts labels h event (Watching watcher) = named_words (codes "watch") watcher
-reply_words cuts labels h event (Batch watcher upto events) = batch_words watcher (length events) upto
+reply_words cuts labels h event (Watching watcher) = watch_words cuts watcher event
+reply_words cuts labels h event (Batch watcher upto events) = batch_words cuts watcher upto events
 reply_words cuts labels h event (Lost watcher floor) = lost_words watcher floor
 reply_words cuts labels h event (Cancelled watcher) = named_words (codes "cancel") watcher
 

@@ -108,7 +108,11 @@ fn push_change(
 }
 
 /// The words of the changes that these events show.
-fn changes_words(alloc: Global, cuts: &Cuts, events: &[Event]) -> Result<Vec<u8>, AllocError>
+pub(crate) fn changes_words(
+    alloc: Global,
+    cuts: &Cuts,
+    events: &[Event],
+) -> Result<Vec<u8>, AllocError>
     ensures { IfOk result (λ words. words.items ≡ changes_after cuts.now 0 events.now) }
 {
     let mut out = Vec::new(alloc);
@@ -129,6 +133,9 @@ fn revision_words(
 {
     if revision > keys.revision() {
         return Ok(Vec::new(alloc));
+    }
+    if revision <= keys.below() {
+        return Ok(said(alloc, &[Piece::Say("  (compacted)")])?.into_vec());
     }
     changes_words(alloc, cuts, keys.events_at(revision))
 }

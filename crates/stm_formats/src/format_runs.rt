@@ -75,11 +75,12 @@ fn left_from(
     most: u32,
     labels: &[RunnerLabel],
     world: &World,
+    since: u64,
     replies: &[Result<Reply, Denied>],
 ) -> Result<Vec<Sequence<u8>>, AllocError>
-    ensures { IfOk result (λ notes. notes.items ≡ left_from most labels.now world.now replies.now) }
+    ensures { IfOk result (λ notes. notes.items ≡ left_from most labels.now world.now since replies.now) }
 {
-    let mut notes = notes_of(alloc, most, labels, world, replies)?;
+    let mut notes = notes_of(alloc, most, labels, world, since, replies)?;
     let cuts = whole_keys(alloc, most);
     push_ends(
         alloc,
@@ -103,7 +104,7 @@ fn notes_from(
 ) -> Result<Vec<Sequence<u8>>, AllocError>
     ensures { IfOk result (λ notes. notes.items ≡ notes_from most labels.now world.now since replies.now) }
 {
-    let mut notes = left_from(alloc, most, labels, world, replies)?;
+    let mut notes = left_from(alloc, most, labels, world, since, replies)?;
     let reasons = reasons_of(alloc, world.store().keys(), since, replies)?;
     push_reasons(alloc, labels, &mut notes, reasons.as_slice())?;
     Ok(notes)
@@ -165,7 +166,7 @@ pub fn html_from(
 {
     let keys = world.store().keys();
     let rows = rows_from(alloc, None, labels, world, since, events, replies)?;
-    let notes = left_from(alloc, MOST_SHOWN, labels, world, replies)?;
+    let notes = left_from(alloc, MOST_SHOWN, labels, world, since, replies)?;
     let counters = counters(alloc, since, replies)?;
     let reasons = reasons_of(alloc, keys, since, replies)?;
     html_of(

@@ -4,15 +4,15 @@ ghost use Rattle.stm_texts.specs.Grammar.{level_text};
 ghost use Rattle.stm_formats.specs.FormatWords.{named_words, reported_words, changed_words, called_words, start_words, link, seen_words, as_of, fetched_words, counted_read};
 ghost use Rattle.stm_formats.specs.FormatWords.{reads_after, listed_words, attempt_words, commit_words, compared_words, compared_by, failed_word, at_words, txn_words, revoked_words};
 ghost use Rattle.stm_formats.specs.FormatPieces.{joined};
-ghost use Rattle.stm_formats.specs.FormatWords.{advanced_words, batch_words, lost_words, reply_words, asked_word, refused_words, told_words, words_of};
+ghost use Rattle.stm_formats.specs.FormatWords.{advanced_words, from_words, watched_words, watch_words, events_word, batch_words, lost_words, reply_words, asked_word, refused_words, told_words, words_of};
 
-use crate::format_changes::{MOST_CHANGES, between, changed_since, known_words};
+use crate::format_changes::{MOST_CHANGES, between, changed_since, changes_words, known_words};
 use crate::format_keys::{Cuts, key_words};
 use crate::format_label::{RunnerLabel, program_of};
 use crate::format_pieces::{Piece, push_pieces, said};
 use crate::format_source::{compare_words, program_words, source_words};
 use std::alloc::{AllocError, Global};
-use stm_events::{EventRefusal, KeyRead};
+use stm_events::{Event, EventRefusal, KeyRead};
 use stm_history::Sequence;
 use stm_keys::Keys;
 use stm_program::{Level, Program};
@@ -354,17 +354,118 @@ fn advanced(alloc: Global, now: u64, expired: u64) -> Result<Sequence<u8>, Alloc
     said(alloc, &pieces)
 }
 
-/// The words of a poll.
-fn batch(alloc: Global, watcher: u64, events: u64, upto: u64) -> Result<Sequence<u8>, AllocError>
-    ensures { IfOk result (λ words. words ≡ batch_words watcher events upto) }
+/// The words for the revision from which on is watched, where that is said.
+fn from_words(alloc: Global, from: u64) -> Result<Sequence<u8>, AllocError>
+    ensures { IfOk result (λ words. words ≡ from_words from) }
 {
+    if from == 0 {
+        return Ok(Sequence::new(alloc));
+    }
+    said(alloc, &[Piece::Say(" from @"), Piece::Number(from)])
+}
+
+/// The words for a key that is watched.
+fn watched_key(alloc: Global, cuts: &Cuts, key: &str, from: u64) -> Result<Sequence<u8>, AllocError>
+    ensures { IfOk result (λ words. words ≡ joined (codes ": \"" ∷ key_words cuts.now key.now ∷ codes "\"" ∷ from_words from ∷ [])) }
+{
+    let key = key_words(alloc, cuts, key)?;
+    let from = from_words(alloc, from)?;
+    let pieces = [
+        Piece::Say(": \""),
+        Piece::Raw(key.as_slice()),
+        Piece::Say("\""),
+        Piece::Raw(from.as_slice()),
+    ];
+    said(alloc, &pieces)
+}
+
+/// The words for a range that is watched.
+fn watched_range(
+    alloc: Global,
+    cuts: &Cuts,
+    first: &str,
+    end: &str,
+    from: u64,
+) -> Result<Sequence<u8>, AllocError>
+    ensures { IfOk result (λ words. words
+        ≡ joined (codes ": \"" ∷ key_words cuts.now first.now ∷ codes "\"..\"" ∷ key_words cuts.now end.now ∷ codes "\"" ∷ from_words from ∷ [])) }
+{
+    let first = key_words(alloc, cuts, first)?;
+    let end = key_words(alloc, cuts, end)?;
+    let from = from_words(alloc, from)?;
+    let pieces = [
+        Piece::Say(": \""),
+        Piece::Raw(first.as_slice()),
+        Piece::Say("\"..\""),
+        Piece::Raw(end.as_slice()),
+        Piece::Say("\""),
+        Piece::Raw(from.as_slice()),
+    ];
+    said(alloc, &pieces)
+}
+
+/// The words for what is watched.
+fn watched(alloc: Global, cuts: &Cuts, event: &WorldEvent) -> Result<Sequence<u8>, AllocError>
+    ensures { IfOk result (λ words. words ≡ watched_words cuts.now event.now) }
+{
+    match event {
+        WorldEvent::WatchKey { key, from } => watched_key(alloc, cuts, key.as_str(), *from),
+        WorldEvent::WatchRange { first, end, from } => {
+            watched_range(alloc, cuts, first.as_str(), end.as_str(), *from)
+        }
+        _ => Ok(Sequence::new(alloc)),
+    }
+}
+
+/// The words of a watcher.
+fn watching(
+    alloc: Global,
+    cuts: &Cuts,
+    watcher: u64,
+    event: &WorldEvent,
+) -> Result<Sequence<u8>, AllocError>
+    ensures { IfOk result (λ words. words ≡ watch_words cuts.now watcher event.now) }
+{
+    let watched = watched(alloc, cuts, event)?;
+    let pieces = [
+        Piece::Say("watch "),
+        Piece::Number(watcher),
+        Piece::Raw(watched.as_slice()),
+    ];
+    said(alloc, &pieces)
+}
+
+/// What stands between a number of events and the revision up to which a poll gave them.
+fn events_word(count: u64) -> &'static str
+    ensures { result.now ≡ events_word count }
+{
+    if count == 1 {
+        " event to @"
+    } else {
+        " events to @"
+    }
+}
+
+/// The words of a poll.
+fn batch(
+    alloc: Global,
+    cuts: &Cuts,
+    watcher: u64,
+    upto: u64,
+    events: &[Event],
+) -> Result<Sequence<u8>, AllocError>
+    ensures { IfOk result (λ words. words ≡ batch_words cuts.now watcher upto events.now) }
+{
+    let count = events.len() as u64;
+    let changes = changes_words(alloc, cuts, events)?;
     let pieces = [
         Piece::Say("poll "),
         Piece::Number(watcher),
         Piece::Say(": "),
-        Piece::Number(events),
-        Piece::Say(" events to @"),
+        Piece::Number(count),
+        Piece::Say(events_word(count)),
         Piece::Number(upto),
+        Piece::Raw(changes.as_slice()),
     ];
     said(alloc, &pieces)
 }
@@ -439,12 +540,12 @@ fn taken_words(
         Reply::Revoked { id, revision } => revoked(alloc, *id, *revision),
         Reply::Advanced { now, expired } => advanced(alloc, *now, expired.len() as u64),
         Reply::Compacted { revision } => changed(alloc, "compact", *revision),
-        Reply::Watching { watcher } => named(alloc, "watch", *watcher),
+        Reply::Watching { watcher } => watching(alloc, cuts, *watcher, event),
         Reply::Batch {
             watcher,
             upto,
             events,
-        } => batch(alloc, *watcher, events.len() as u64, *upto),
+        } => batch(alloc, cuts, *watcher, *upto, events.as_slice()),
         Reply::Lost { watcher, floor } => lost(alloc, *watcher, *floor),
         Reply::Cancelled { watcher } => named(alloc, "cancel", *watcher),
     }

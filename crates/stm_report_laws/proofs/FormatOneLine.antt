@@ -39,7 +39,7 @@ use Rattle.stm_reasons.specs.Counters.{counter_after}
 use Rattle.stm_reasons.specs.Causes.{state_by}
 use Rattle.stm_formats.specs.FormatChanges.{state_words, known_words, change_words, between, counted_change, changes_after, revision_words, changed_since}
 use Rattle.stm_formats.specs.FormatWords.{named_words, reported_words, called_words, start_words, link, seen_words, as_of, fetched_words, counted_read, reads_after, listed_words}
-use Rattle.stm_formats.specs.FormatWords.{attempt_words, commit_words, compared_words, compared_by, failed_word, at_words, txn_words, revoked_words, changed_words, advanced_words, batch_words}
+use Rattle.stm_formats.specs.FormatWords.{attempt_words, commit_words, compared_words, compared_by, failed_word, at_words, txn_words, revoked_words, changed_words, advanced_words, from_words, watched_words, watch_words, events_word, batch_words}
 use Rattle.stm_formats.specs.FormatWords.{lost_words, asked_word, refused_words, reply_words, told_words, words_of}
 use Rattle.stm_formats.specs.FormatRows.{lane_of, row_of, rows_of}
 use Rattle.stm_formats.specs.FormatColumns.{column, place}
@@ -226,7 +226,10 @@ changes_without cuts count (e ∷ es) =
 
 revision_without : (cuts : Cuts) (h : History) (revision : ℕ) → has 10 (revision_words cuts h revision) ≡ false
 revision_without cuts h revision =
-    either_without (nat_lt (now h) revision) [] (changes_after cuts 0 (events_of h revision)) refl (changes_without cuts 0 (events_of h revision))
+    let kept : List ℕ = changes_after cuts 0 (events_of h revision) in
+    let known : List ℕ = cond (nat_le revision h.opening.number) (codes "  (compacted)") kept in
+    either_without (nat_lt (now h) revision) [] known refl
+    (either_without (nat_le revision h.opening.number) (codes "  (compacted)") kept refl (changes_without cuts 0 (events_of h revision)))
 
 changed_without : (cuts : Cuts) (h : History) (before after : ℕ) → has 10 (changed_since cuts h before after) ≡ false
 changed_without cuts h before after =
@@ -296,10 +299,26 @@ advanced_without now expired =
     joined_without (codes "advance to " ∷ decimal now ∷ codes ", " ∷ decimal expired ∷ codes " expired" ∷ [])
     (refl, (decimal_without now, (refl, (decimal_without expired, (refl, tt)))))
 
-batch_without : (watcher events upto : ℕ) → has 10 (batch_words watcher events upto) ≡ false
-batch_without watcher events upto =
-    joined_without (codes "poll " ∷ decimal watcher ∷ codes ": " ∷ decimal events ∷ codes " events to @" ∷ decimal upto ∷ [])
-    (refl, (decimal_without watcher, (refl, (decimal_without events, (refl, (decimal_without upto, tt))))))
+from_without : (from : ℕ) → has 10 (from_words from) ≡ false
+from_without from =
+    either_without (nat_eq from 0) [] (joined (codes " from @" ∷ decimal from ∷ [])) refl (joined_without (codes " from @" ∷ decimal from ∷ []) (refl, (decimal_without from, tt)))
+
+watched_without : (cuts : Cuts) (e : WorldEvent) → has 10 (watched_words cuts e) ≡ false
+watched_without cuts (event.WatchKey key from) =
+    joined_without (codes ": \"" ∷ key_words cuts key ∷ codes "\"" ∷ from_words from ∷ []) (refl, (key_without cuts key, (refl, (from_without from, tt))))
+watched_without cuts (event.WatchRange first end from) =
+    joined_without (codes ": \"" ∷ key_words cuts first ∷ codes "\"..\"" ∷ key_words cuts end ∷ codes "\"" ∷ from_words from ∷ [])
+    (refl, (key_without cuts first, (refl, (key_without cuts end, (refl, (from_without from, tt))))))
+watched_without cuts _ = refl
+
+watch_without : (cuts : Cuts) (watcher : ℕ) (e : WorldEvent) → has 10 (watch_words cuts watcher e) ≡ false
+watch_without cuts watcher e =
+    joined_without (codes "watch " ∷ decimal watcher ∷ watched_words cuts e ∷ []) (refl, (decimal_without watcher, (watched_without cuts e, tt)))
+
+batch_without : (cuts : Cuts) (watcher upto : ℕ) (events : List Event) → has 10 (batch_words cuts watcher upto events) ≡ false
+batch_without cuts watcher upto events =
+    joined_without (codes "poll " ∷ decimal watcher ∷ codes ": " ∷ decimal (length events) ∷ events_word (length events) ∷ decimal upto ∷ changes_after cuts 0 events ∷ [])
+    (refl, (decimal_without watcher, (refl, (decimal_without (length events), (either_without (nat_eq (length events) 1) (codes " event to @") (codes " events to @") refl refl, (decimal_without upto, (changes_without cuts 0 events, tt)))))))
 
 lost_without : (watcher floor : ℕ) → has 10 (lost_words watcher floor) ≡ false
 lost_without watcher floor =
@@ -327,8 +346,8 @@ reply_without cuts labels h e (Kept id) = named_without (codes "keep") id refl
 reply_without cuts labels h e (Revoked id revision) = revoked_without id revision
 reply_without cuts labels h e (Advanced now expired) = advanced_without now (length expired)
 reply_without cuts labels h e (Compacted revision) = compacted_without revision
-reply_without cuts labels h e (Watching watcher) = named_without (codes "watch") watcher refl
-reply_without cuts labels h e (Batch watcher upto events) = batch_without watcher (length events) upto
+reply_without cuts labels h e (Watching watcher) = watch_without cuts watcher e
+reply_without cuts labels h e (Batch watcher upto events) = batch_without cuts watcher upto events
 reply_without cuts labels h e (Lost watcher floor) = lost_without watcher floor
 reply_without cuts labels h e (Cancelled watcher) = named_without (codes "cancel") watcher refl
 

@@ -10,6 +10,7 @@ use stm_answers::{NamedRunner, in_words, schedule_in_words};
 use stm_arguments::{Level, Levels};
 use stm_commands::{Format, KeptSource, Std, script_as_to};
 use stm_devices::write_all;
+use stm_explain::Said;
 
 /// In what form a search prints what it finds: a schedule, and the lines around it.
 #[derive(Clone, Copy)]
@@ -36,12 +37,7 @@ const BROKEN: &str = "[\"broken\"";
 const IS_BROKEN: &str = ": broken";
 
 /// What a run of a scenario prints in a format. It fails only when out of memory.
-fn run_of(
-    alloc: Global,
-    source: Option<&SourceText>,
-    format: Format,
-    line: &str,
-) -> Result<String, AllocError> {
+fn run_of(alloc: Global, source: Option<&SourceText>, format: Format, line: &str) -> Said {
     let labels = match source {
         Some(source) => source.labels.as_slice(),
         None => &[],
@@ -60,24 +56,14 @@ fn run_of(
 }
 
 /// The table of a run of a scenario, behind an empty line. It fails only when out of memory.
-fn table_of(
-    alloc: Global,
-    source: Option<&SourceText>,
-    width: Option<u32>,
-    line: &str,
-) -> Result<String, AllocError> {
+fn table_of(alloc: Global, source: Option<&SourceText>, width: Option<u32>, line: &str) -> Said {
     let table = run_of(alloc, source, Format::Text { width }, line)?;
     let table = table.as_str();
     format!(in alloc; "\n{table}")
 }
 
 /// What is said below the table of a schedule that breaks a rule: nothing of another one.
-fn notes_of(
-    alloc: Global,
-    form: Form<'_>,
-    printed: &str,
-    line: &str,
-) -> Result<String, AllocError> {
+fn notes_of(alloc: Global, form: Form<'_>, printed: &str, line: &str) -> Said {
     match (form, broken_line(printed)) {
         (Form::Text(source, _), Some(_)) => {
             let report = run_of(alloc, source, Format::Lines, line)?;
@@ -88,12 +74,7 @@ fn notes_of(
 }
 
 /// What stands above the table of a search at all levels: which rule its schedule breaks, and at which level. Nothing of another form or search.
-fn heading_of(
-    alloc: Global,
-    form: Form<'_>,
-    levels: Levels,
-    printed: &str,
-) -> Result<String, AllocError> {
+fn heading_of(alloc: Global, form: Form<'_>, levels: Levels, printed: &str) -> Said {
     let (Form::Text(source, _), Levels::All, Some(line)) = (form, levels, broken_line(printed))
     else {
         return Ok(String::new(alloc));
@@ -183,12 +164,7 @@ fn push_found(
 }
 
 /// What a search at these levels printed, in this form, with an empty line behind a table.
-fn found_in(
-    alloc: Global,
-    form: Form<'_>,
-    levels: Levels,
-    printed: &str,
-) -> Result<String, AllocError> {
+fn found_in(alloc: Global, form: Form<'_>, levels: Levels, printed: &str) -> Said {
     let mut out = String::new(alloc);
     let mut is_behind_table = false;
     for line in printed.lines() {

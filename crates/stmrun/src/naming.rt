@@ -2,6 +2,7 @@
 
 use std::alloc::{AllocError, Global};
 use stm_compiling::{NamedRunner, name_of_runner};
+use stm_explain::Said;
 
 /// What stands in a line before the key by which a final asks how a runner ended, and its `#`.
 const ASKED: &str = "the key \"#";
@@ -142,7 +143,7 @@ pub(crate) fn with_names(
     called: Called,
     runners: &[NamedRunner],
     line: &str,
-) -> Result<String, AllocError> {
+) -> Said {
     match with_asked(alloc, runners, line)? {
         Some(line) => named_in(alloc, called, runners, line.as_str()),
         None => named_in(alloc, called, runners, line),
@@ -150,12 +151,7 @@ pub(crate) fn with_names(
 }
 
 /// A line with the names of the runners that it is about. Behind a quote stand words of others, in which nothing is the number of a runner.
-fn named_in(
-    alloc: Global,
-    called: Called,
-    runners: &[NamedRunner],
-    line: &str,
-) -> Result<String, AllocError> {
+fn named_in(alloc: Global, called: Called, runners: &[NamedRunner], line: &str) -> Said {
     let mut named = String::new(alloc);
     let mut are_others = false;
     for (index, part) in line.split(called.word).enumerate() {

@@ -87,7 +87,7 @@ pub(crate) fn resumed(
     let others = behind_starts(scenario)?;
     let events = scenario_source(alloc, &others)?;
     drop(others);
-    let mut text = kept_text(alloc, source.text.as_str(), level.map(word_of))?;
+    let mut text = kept_text(alloc, source.text.as_str().trim_start(), level.map(word_of))?;
     for line in events.as_str().lines() {
         push_line(&mut text, source.runners.as_slice(), line)?;
     }

@@ -1,7 +1,7 @@
 //! Inputs that are read as JSON: files of it, and sources, which are compiled first.
 ghost use Rattle.std.specs.Prelude.{◌≡◌, false};
 
-use crate::explaining::{has_hidden, kept, name_of, say_unread, say_unwritten};
+use crate::explaining::{has_hidden, name_of, say_unread, say_unwritten};
 use crate::files::{Opened, open, open_beside};
 use crate::naming::{Called, RUNNERS, with_names};
 use crate::noting::Noting;
@@ -15,6 +15,7 @@ use stm_compiling::{
     named_runners, notes_of, placed_program, refused_in,
 };
 use stm_devices::{ReadFault, read_all};
+use stm_explain::Said;
 use stm_history::{Sequence, Text};
 
 /// What the names of sources end in.
@@ -28,6 +29,9 @@ const STANDARD: &str = "-";
 
 /// What stands before what a command has to say, also where it explains nothing.
 const OWN: &str = "stmrun: ";
+
+/// With this begins a line of what explore answers, and nothing that a source has.
+const ANSWER: &str = "[\"";
 
 /// The words and signs with which a source begins, and nothing that is JSON.
 const BEGINNINGS: [&str; 17] = [
@@ -91,12 +95,15 @@ fn line_of<'a>(rt: &HostRuntime, path: &str, line: Text) -> Result<JsonFile<'a>,
     }
 }
 
-/// What the file of a path has, or standard input, or the status, once it was said why it cannot be read.
+/// What the file of a path has, or standard input, without answers of explore; or the status, once it was said why it cannot be read.
 fn bytes_at(rt: &HostRuntime, path: &str) -> Result<Vec<u8>, u8> {
     let mut input = Std::new(Noting::new(open(rt, path)));
     let read = read_all(rt.alloc(), &mut input);
     match read {
-        Ok(bytes) => Ok(bytes),
+        Ok(mut bytes) => {
+            without_answers(bytes.as_mut_slice());
+            Ok(bytes)
+        }
         Err(ReadFault::OutOfMemory) => Err(out_of_memory(rt)),
         Err(ReadFault::Device) => {
             let _ = rt.eprintln("stmrun: device fault");
@@ -133,6 +140,34 @@ pub(crate) fn begins_source(text: &str) -> bool {
         }
     }
     false
+}
+
+/// How many bytes the answers of explore have in front of a source: none, where what stands behind them is no source.
+fn answers_before(text: &str) -> usize {
+    let mut count = 0usize;
+    for line in text.lines() {
+        if !line.starts_with(ANSWER) {
+            break;
+        }
+        count = count.saturating_add(line.len()).saturating_add(1);
+    }
+    match text.get(count..) {
+        Some(behind) if begins_source(behind) => count,
+        _ => 0,
+    }
+}
+
+/// Makes spaces of the answers of explore in front of a source, so that what it prints is read as the source behind them, with the lines as they are.
+fn without_answers(bytes: &mut [u8]) {
+    let count = answers_before(front_of(bytes));
+    let Some(front) = bytes.get_mut(..count) else {
+        return;
+    };
+    for byte in front.iter_mut() {
+        if *byte != b'\n' {
+            *byte = b' ';
+        }
+    }
 }
 
 /// A scenario, and what is known of its source.
@@ -278,12 +313,7 @@ pub(crate) fn rules_at(rt: &HostRuntime, path: &str, explain: bool) -> Result<Se
 }
 
 /// Lines about a source, with the names that it gives to runners, which are called so.
-fn named_lines(
-    alloc: Global,
-    lines: &str,
-    called: Called,
-    runners: &[NamedRunner],
-) -> Result<String, AllocError> {
+fn named_lines(alloc: Global, lines: &str, called: Called, runners: &[NamedRunner]) -> Said {
     let mut named = String::new(alloc);
     for line in lines.lines() {
         let line = with_names(alloc, called, runners, line)?;
@@ -299,7 +329,7 @@ fn with_source(
     placed: &PlacedLine<'_>,
     called: Called,
     runners: &[NamedRunner],
-) -> Result<String, AllocError> {
+) -> Said {
     let mut said = named_lines(alloc, placed.words.as_str(), called, runners)?;
     said.push_str("    ")?;
     said.push_str(placed.source)?;
@@ -326,7 +356,7 @@ fn placed_line(
     places: &SourcePlaces<'_>,
     called: Called,
     runners: &[NamedRunner],
-) -> Result<String, AllocError> {
+) -> Said {
     match places.placed(alloc, line) {
         Ok(Some(placed)) => with_source(alloc, &placed, called, runners),
         Ok(None) => named_lines(alloc, line, called, runners),
@@ -360,12 +390,7 @@ pub(crate) fn say_no_jobs(rt: &HostRuntime, given: &Given<'_>, err: &Std<Vec<u8>
 }
 
 /// What is said of runs by these lines: with the places of the source of their scenario, where it has one, and with the names that this gives to runners.
-fn said_of_runs(
-    alloc: Global,
-    given: &Given<'_>,
-    called: Called,
-    lines: &str,
-) -> Result<String, AllocError> {
+fn said_of_runs(alloc: Global, given: &Given<'_>, called: Called, lines: &str) -> Said {
     let runners = runners_of(alloc, given)?;
     let name = name_of_source(given);
     let text = match &given.text {
@@ -403,12 +428,7 @@ fn say_of_runs(rt: &HostRuntime, given: &Given<'_>, called: Called, lines: &str)
 }
 
 /// Lines that say which rules are not asked, and which runners do not wait, with the names of runners.
-fn named_notes(
-    alloc: Global,
-    rules: &[Rule],
-    waits: &[Wait],
-    runners: &[NamedRunner],
-) -> Result<String, AllocError> {
+fn named_notes(alloc: Global, rules: &[Rule], waits: &[Wait], runners: &[NamedRunner]) -> Said {
     let notes = notes_of(alloc, rules, waits)?;
     named_lines(alloc, notes.as_str(), RUNNERS, runners)
 }
@@ -516,11 +536,7 @@ fn text_kept<'a, S>(input: &'a KeptSource<'_, S>) -> Result<Option<&'a str>, All
 }
 
 /// What was said of a source that was compiled, with the names that its text gives to runners.
-fn named_compiled<S>(
-    alloc: Global,
-    lines: &str,
-    input: &KeptSource<'_, S>,
-) -> Result<String, AllocError> {
+fn named_compiled<S>(alloc: Global, lines: &str, input: &KeptSource<'_, S>) -> Said {
     let text = text_kept(input)?;
     let runners = runners_in(alloc, text.unwrap_or(""))?;
     named_lines(alloc, lines, RUNNERS, runners.as_slice())
@@ -628,6 +644,17 @@ fn line_printed<S>(
     }
 }
 
+/// The source of a path, which has these bytes, to be read and kept.
+fn held_source<'a>(
+    rt: &HostRuntime,
+    path: &'a str,
+    bytes: &'a [u8],
+) -> KeptSource<'a, Std<&'a [u8]>>
+    ensures { result.source.failed ≡ false }
+{
+    KeptSource::new(rt.alloc(), name_of(path), Std::new(bytes))
+}
+
 /// A copy of a text, where there is one; none, where an allocation fails.
 fn copy_of(rt: &HostRuntime, text: Option<&str>) -> Option<String> {
     let text = text?;
@@ -651,7 +678,8 @@ pub(crate) fn program_at<'a>(
     words: &[String],
     explain: bool,
 ) -> Result<GivenProgram<'a>, u8> {
-    let mut input = kept(rt, path);
+    let bytes = bytes_at(rt, path)?;
+    let mut input = held_source(rt, path, bytes.as_slice());
     let said: Vec<u8> = Vec::new(rt.alloc());
     let mut err = Std::new(said);
     let part = Part::Program { name, words };
@@ -659,7 +687,6 @@ pub(crate) fn program_at<'a>(
     let printed = compiled_part(rt.alloc(), part, explained, &mut input, &mut err);
     let printed = line_printed(rt, path, part, printed, &err, &input);
     let text = copy_of(rt, input.text());
-    say_unread(rt, name_of(path), input.source.device.failure);
     let file = line_of(rt, path, printed?)?;
     Ok(GivenProgram { file, text })
 }
@@ -683,9 +710,9 @@ pub(crate) fn say_in_program(
     }
 }
 
-/// Prints a part of a path's source. A fault is explained, or is not.
-pub(crate) fn run_compile(rt: &HostRuntime, path: &str, part: Part<'_>, explain: bool) -> u8 {
-    let mut input = kept(rt, path);
+/// Prints a part of the source of a path, which has these bytes. A fault is explained, or is not.
+fn compile_bytes(rt: &HostRuntime, path: &str, bytes: &[u8], part: Part<'_>, explain: bool) -> u8 {
+    let mut input = held_source(rt, path, bytes);
     let mut out = Std::new(Noting::new(rt.stdout()));
     let said: Vec<u8> = Vec::new(rt.alloc());
     let mut err = Std::new(said);
@@ -698,9 +725,16 @@ pub(crate) fn run_compile(rt: &HostRuntime, path: &str, part: Part<'_>, explain:
         &mut err,
     );
     let status = say_part(rt, path, part, status, &err, &input);
-    say_unread(rt, name_of(path), input.source.device.failure);
     if explain {
         say_unwritten(rt, out.device.failure);
     }
     status
+}
+
+/// Prints a part of a path's source. A fault is explained, or is not.
+pub(crate) fn run_compile(rt: &HostRuntime, path: &str, part: Part<'_>, explain: bool) -> u8 {
+    match bytes_at(rt, path) {
+        Ok(bytes) => compile_bytes(rt, path, bytes.as_slice(), part, explain),
+        Err(status) => status,
+    }
 }

@@ -146,7 +146,7 @@ fn format_of(rt: &HostRuntime, word: Option<&str>) -> Result<Format, u8> {
         Some("json") => Ok(Format::Json),
         Some(_) => {
             let _ = rt.eprintln(
-                "error: unknown format for '--format <FORMAT>' with '--store <STORE>'\n  [possible values: lines, json]",
+                "error: unknown format for '--format <FORMAT>' with '--store <STORE>'\n  [possible values: lines, json]\n  Without --store a scenario is played over a new store in any format; stmrun store <STORE> --format text prints what this one has",
             );
             Err(2)
         }

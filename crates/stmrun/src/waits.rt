@@ -4,6 +4,7 @@ use crate::explaining::has_hidden;
 use crate::sources::out_of_memory;
 use std::alloc::{AllocError, Global};
 use stm_compiling::{Beside, NamedRunner, Wait as SourceWait, runners_named};
+use stm_explain::Said;
 use stm_exploring::{BadWaits, Wait, waits_in};
 
 /// What stands after a fault of an option.
@@ -150,7 +151,7 @@ fn push_numbered(
 }
 
 /// A text of waits, with the numbers of runners for their names.
-fn numbered(alloc: Global, beside: &Beside, text: &str) -> Result<String, AllocError> {
+fn numbered(alloc: Global, beside: &Beside, text: &str) -> Said {
     let mut with_numbers = String::new(alloc);
     for (index, part) in text.split(',').enumerate() {
         if index > 0 {

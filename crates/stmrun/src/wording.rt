@@ -7,6 +7,7 @@ use crate::sources::out_of_memory;
 use std::alloc::{AllocError, Global};
 use stm_answers::{NamedRunner, audit_line_in_words, job_line_in_words, store_line_in_words};
 use stm_commands::Std;
+use stm_explain::Said;
 
 /// The name of the form in which lines are words.
 pub(crate) const TEXT: &str = "text";
@@ -43,7 +44,7 @@ fn line_in_words(
 }
 
 /// Lines in words.
-fn lines_in_words(alloc: Global, lines: Lines<'_>, printed: &str) -> Result<String, AllocError> {
+fn lines_in_words(alloc: Global, lines: Lines<'_>, printed: &str) -> Said {
     let mut out = String::new(alloc);
     for line in printed.lines() {
         match line_in_words(alloc, lines, line)? {

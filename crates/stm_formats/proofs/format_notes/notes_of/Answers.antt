@@ -5,8 +5,8 @@ use Rattle.stm_history.proofs.CutLaws.{cut_keeps_now}
 use Rattle.stm_txn.specs.Standing.{Standing}
 use Rattle.stm_txn.specs.PresentKeys.{keys_present}
 use Rattle.stm_compaction.proofs.Present.{present_in_cut}
-use Rattle.stm_formats.specs.FormatNotes.{key_notes, end_note, ended_after, unfinished_notes}
-use Rattle.stm_formats.proofs.FormatKeptKeys.{same_notes}
+use Rattle.stm_formats.specs.FormatNotes.{noted_keys, end_note, ended_after, unfinished_notes}
+use Rattle.stm_formats.proofs.FormatKeptKeys.{same_noted}
 use Rattle.stm_formats.proofs.format_notes.notes_of.Goals as goal
 
 pub returns : goal.returns
@@ -19,26 +19,26 @@ returns c =
     let entries : ℕ = length w.entries in
     let unfinished : List (List ℕ) = unfinished_notes c.args.labels.now 1 (ended_after [] c.args.replies.now) in
     let listed : List (List ℕ) = map string_bytes c.in_ok-present.present.items in
+    let noted : History → List (List ℕ) → List (List ℕ) = noted_keys c.args.most c.args.since c.args.replies.now in
     let same : c.keys.result.now.history ≡ kept = c.keys.ensures.history ∙ ap (λ (s : Standing). s.history) c.store.ensures.standing in
     let present : listed ≡ keys_present h = c.in_ok-present.ensures.computed ∙ ap keys_present same ∙ present_in_cut h number reached in
-    let notes : c.push_unfinished.new.notes.items ≡ (key_notes c.args.most kept listed ++ end_note (now kept) entries ∷ []) ++ unfinished =
+    let notes : c.push_unfinished.new.notes.items ≡ (noted kept listed ++ end_note (now kept) entries ∷ []) ++ unfinished =
     rw (
       c.in_ok-push_unfinished.ensures,
       c.as_slice-2.ensures.value,
       c.in_ok-ended.ensures,
       c.in_ok-push.ensures.items,
       c.in_ok-end_note.ensures,
-      c.in_ok-push_keys.ensures,
+      c.in_ok-notes.ensures,
       c.store-2.ensures.standing,
       c.as_slice.ensures.value,
-      c.new-notes.ensures.items,
       c.revision-revision.ensures.value,
       c.keys-2.ensures.history,
       c.store-3.ensures.standing,
       c.history.ensures.entries,
     ) refl in
     notes
-    ∙ ap (λ (ks : List (List ℕ)). (ks ++ end_note (now kept) entries ∷ []) ++ unfinished) (same_notes c.args.most h number reached listed)
-    ∙ ap (λ (n : ℕ). (key_notes c.args.most h listed ++ end_note n entries ∷ []) ++ unfinished) (cut_keeps_now h number reached)
-    ∙ ap (λ (keys : List (List ℕ)). (key_notes c.args.most h keys ++ end_note (now h) entries ∷ []) ++ unfinished) present
-    ∙ append_assoc (key_notes c.args.most h (keys_present h)) (end_note (now h) entries ∷ []) unfinished
+    ∙ ap (λ (ks : List (List ℕ)). (ks ++ end_note (now kept) entries ∷ []) ++ unfinished) (same_noted c.args.most c.args.since c.args.replies.now h number reached listed)
+    ∙ ap (λ (n : ℕ). (noted h listed ++ end_note n entries ∷ []) ++ unfinished) (cut_keeps_now h number reached)
+    ∙ ap (λ (keys : List (List ℕ)). (noted h keys ++ end_note (now h) entries ∷ []) ++ unfinished) present
+    ∙ append_assoc (noted h (keys_present h)) (end_note (now h) entries ∷ []) unfinished

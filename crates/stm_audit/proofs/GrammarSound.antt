@@ -1,17 +1,17 @@
 -- What is read of a trace is spelled by the bytes.
 use Rattle.std.proofs.Common.{◌≡◌, ℕ, ◌≤◌, List, [], ◌∷◌, length, Bool, true, false, cond, Option, Some, None, Ok, refl, ap, subst, ◌∙◌, arith, codes}
-use Rattle.std.specs.Prelude.{nat_lt, is_some, option_and_then}
+use Rattle.std.specs.Prelude.{nat_lt}
 use Rattle.std.proofs.lemmas.Bool.Decides.{nat_tests}
 use Rattle.std.proofs.lemmas.Slice.Eq.{bytes_eq-Decides}
-use Rattle.serde_json.specs.Data.{Data, null, boolean, number, string, array, object, Items, no_items, item}
-use Rattle.serde_json.specs.Find.{as_array, as_null}
+use Rattle.serde_json.specs.Data.{Data, null, string, array, Items, no_items, item}
+use Rattle.serde_json.specs.Find.{as_array}
 use Rattle.serde_json.specs.View.{items_of}
 use Rattle.stm_history.specs.declared.revisions.TheConstants.{HIGHEST_NUMBER, HIGHEST_REVISION}
 use Rattle.stm_json.specs.declared.cause.Cause.TheVariants.{Shape, TooLong}
 use Rattle.stm_json.specs.declared.limits.TheConstants.{MOST_BYTES}
 use Rattle.stm_json.specs.Bytes.{data_of}
-use Rattle.stm_json.specs.Elements.{worded, one_of, two_of, three_of, four_of, number_up_to, number_in}
-use Rattle.stm_json.specs.Outcome.{bad, ◌>>=◌, within}
+use Rattle.stm_json.specs.Elements.{worded, one_of, two_of, number_up_to, number_in}
+use Rattle.stm_json.specs.Outcome.{bad, within}
 use Rattle.stm_json.specs.Parts.{same, spelled, each_from, text_of}
 use Rattle.stm_json.proofs.OutcomeLemmas.{bind_ok, within_ok}
 use Rattle.stm_json.proofs.ElementLemmas.{worded-is, one_of-is, two_of-is, three_of-is, four_of-is}

@@ -1,7 +1,7 @@
 -- The first fault of a trace is the fault that reading it answers.
 use Rattle.std.proofs.Common.{◌≡◌, ℕ, suc, arith, List, [], ◌∷◌, ◌++◌, length, Bool, true, false, cond, Option, Some, None, Ok, refl, codes}
 use Rattle.std.specs.Prelude.{nat_lt}
-use Rattle.serde_json.specs.Data.{Data, null, boolean, number, string, array, object, Items, no_items, item}
+use Rattle.serde_json.specs.Data.{Data, null, string, array, Items, no_items, item}
 use Rattle.serde_json.specs.Find.{as_str, as_array}
 use Rattle.stm_history.specs.declared.revisions.TheConstants.{HIGHEST_NUMBER, HIGHEST_REVISION}
 use Rattle.stm_json.specs.declared.cause.Cause.TheVariants.{Shape, TooLong, NotJson}
@@ -26,9 +26,9 @@ use Rattle.stm_texts.specs.FirstFault.{level_words}
 use Rattle.stm_audit.specs.declared.commit.Commit.{Commit}
 use Rattle.stm_audit.specs.declared.trace.Trace.{Trace}
 use Rattle.stm_audit.specs.FirstFault.{elements_faults, all_faults, value_faults, read_faults, write_table, commit_faults, key_faults}
-use Rattle.stm_audit.specs.FirstFault.{beginning_faults, trace_faults, data_faults, first_fault}
+use Rattle.stm_audit.specs.FirstFault.{trace_faults, data_faults, first_fault}
 use Rattle.stm_audit.specs.Reading.{listed, text_or_null, read_by, read_of, put_of, del_of, write_of, commit_by, commit_of, stood, key_by, key_of, began}
-use Rattle.stm_audit.specs.Reading.{beginning_by, beginning_of, trace_after, trace_of, trace_read, trace_in}
+use Rattle.stm_audit.specs.Reading.{beginning_of, trace_after, trace_of, trace_read, trace_in}
 
 -- ---- lists
 
@@ -160,7 +160,8 @@ key_sorts = AnyText ∷ AnyText ∷ NumberIn 1 HIGHEST_REVISION ∷ []
 abbrev entry : List ℕ → List ℕ → ℕ → List ℕ × KeyState
 entry key value revision = (key, stood value revision)
 
-key_parts : (p : List ℕ) (ds : Items) → first_of (cond (is_count key_sorts ds) (parts_faults p 0 key_sorts ds) (wrong p Shape)) ≡ fault_of p (key_by (three_of ds))
+key_parts : (p : List ℕ) (ds : Items)
+    → first_of (cond (is_count key_sorts ds) (parts_faults p 0 key_sorts ds) (wrong p Shape)) ≡ fault_of p (key_by (three_of ds))
 key_parts p (item a (item b (item c no_items))) =
     part_then p 0 (text_of a) _ (faults_by AnyText (at p 0) a) _ (text_faulted (at p 0) a) (λ (key : List ℕ).
     part_then p 1 (text_of b) _ (faults_by AnyText (at p 1) b) _ (text_faulted (at p 1) b) (λ (value : List ℕ).

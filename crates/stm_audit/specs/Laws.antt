@@ -19,4 +19,5 @@ pub record IsKept (h : History) (known : ℕ) (t : Commit) : Type 0 where
 -- a commit of which nothing is found, or nothing that its level promises not to come, is what its level promises
 abbrev pub KeptWhereNothingIsBroken : Type 0
 KeptWhereNothingIsBroken =
-    (h : History) (known : ℕ) (made : List Commit) (number : ℕ) (t : Commit) → IfSome (found_in h known made number t) (λ (f : Finding). f.is_broken ≡ false) → IsKept h known t
+    (h : History) (known : ℕ) (made : List Commit) (number : ℕ) (t : Commit)
+    → IfSome (found_in h known made number t) (λ (f : Finding). f.is_broken ≡ false) → IsKept h known t

@@ -52,6 +52,14 @@ fn first_older(commits: &[Commit], revision: u64, audited: &Audited) -> Option<u
     off_by_deleting(commits, audited.off)
 }
 
+/// The line for people: that a commit met an older key, and what a trace begins with then.
+fn line_of(alloc: Global, number: u64, revision: u64) -> Result<String, AllocError> {
+    let begin = format!(in alloc; "[\"begin\",{revision},[[KEY,VALUE,MOD],..]]")?;
+    format!(in alloc;
+        "stmrun: commit {number} met a key that was there before: the trace of an older store begins with {begin}, the keys at that revision\n"
+    )
+}
+
 /// What is said of a trace that does not say what it begins with, by its audit.
 fn said_of(alloc: Global, commits: &[Commit], audited: &Audited) -> Result<String, AllocError> {
     let Some(first) = commits.first() else {
@@ -59,9 +67,7 @@ fn said_of(alloc: Global, commits: &[Commit], audited: &Audited) -> Result<Strin
     };
     let revision = before(first);
     match first_older(commits, revision, audited) {
-        Some(number) => format!(in alloc;
-            "stmrun: commit {number} met a key that was there before: the trace of an older store begins with [\"begin\",{revision},[[KEY,VALUE,MOD],..]], the keys at that revision\n"
-        ),
+        Some(number) => line_of(alloc, number, revision),
         None => Ok(String::new(alloc)),
     }
 }

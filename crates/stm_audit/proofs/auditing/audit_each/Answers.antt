@@ -1,4 +1,4 @@
-use Rattle.std.proofs.Common.{◌+◌, ◌∙◌, [], map, sym, arith}
+use Rattle.std.proofs.Common.{◌∙◌, [], map, sym, arith}
 use Rattle.std.proofs.lemmas.List.{drop_all}
 use Rattle.stm_audit.specs.Audit.{audit_from}
 use Rattle.stm_audit.proofs.AuditLemmas.{goes_on, stops, ends}
@@ -23,5 +23,5 @@ returns-then-not-fits c =
 pub returns : goal.returns
 returns c =
     rw c.of-2.ensures (ends c.args.known c.loop-index.store.standing (map (λ x. x.now) c.loop-index.made.items) c.loop-index.findings.items c.args.commits.now
-    c.loop-index.index (audit_from c.args.known c.args.store.now.standing [] 1 c.args.commits.now) (drop_all c.loop-index.index c.args.commits.now (omega arith))
-    c.loop-index.invariant)
+    c.loop-index.index (audit_from c.args.known c.args.store.now.standing [] 1 c.args.commits.now)
+    (drop_all c.loop-index.index c.args.commits.now (omega arith)) c.loop-index.invariant)

@@ -41,9 +41,17 @@ func count(stm concurrency.STM) error {
 	return nil
 }
 
-// traceOf runs transactions of two clients side by side at a level on a new etcd, and returns their trace's file.
+// beginning is the first line of the traces: the store is older than the log, and has Ana on call and a counter.
+const beginning = `["begin",4,[["ana","yes",3],["n","7",4]]]`
+
+// traceOf runs transactions of two clients side by side at a level on an etcd that has keys, and returns their trace's file.
 func traceOf(t *testing.T, level concurrency.Isolation, folder string) string {
 	members := startMembers(t, 1)
+	for _, put := range [][2]string{{"ana", "no"}, {"ana", "yes"}, {"n", "7"}} {
+		if _, err := clientOf(t, members...).Put(context.Background(), put[0], put[1]); err != nil {
+			t.Fatal(err)
+		}
+	}
 	log := &tracing.Log{}
 	var group sync.WaitGroup
 	for _, people := range [][2]string{{"ana", "ben"}, {"ben", "ana"}} {
@@ -107,23 +115,19 @@ func (c *traced) hasRead(other *traced) bool {
 }
 
 // staleReads counts, by the writes of a trace in their order alone, the commits one of whose keys had been changed since it was read: those that write that key (lost
-// updates), those that write what the commit had read that changed it first (write skews), and the others. The trace begins at revision 2 and only puts.
+// updates), those that write what the commit had read that changed it first (write skews), and the others. The trace begins at revision 4 and only puts.
 func staleReads(t *testing.T, path string) (lost, skews, others int) {
-	text, err := os.ReadFile(path)
-	if err != nil {
-		t.Fatal(err)
-	}
 	var trace []*traced
-	if err := json.Unmarshal(text, &trace); err != nil {
+	if err := json.Unmarshal([]byte(withoutBeginning(t, path)), &trace); err != nil {
 		t.Fatal(err)
 	}
 	for i, one := range trace {
-		if one.revision != int64(i+2) {
+		if one.revision != int64(i+5) {
 			t.Fatalf("%s: commit %d has revision %d", path, i+1, one.revision)
 		}
 		for _, read := range one.reads {
 			key, of := read[0].(string), int64(read[3].(float64))
-			for _, other := range trace[of-1 : i] {
+			for _, other := range trace[of-4 : i] {
 				if !other.writesTo(key) {
 					continue
 				}
@@ -142,8 +146,21 @@ func staleReads(t *testing.T, path string) (lost, skews, others int) {
 	return lost, skews, others
 }
 
+// withoutBeginning is the trace of a file without its first line.
+func withoutBeginning(t *testing.T, path string) string {
+	text, err := os.ReadFile(path)
+	if err != nil {
+		t.Fatal(err)
+	}
+	rest := strings.TrimPrefix(string(text), "["+beginning+",\n")
+	if rest == string(text) {
+		t.Fatalf("%s does not begin with %s: %.200s", path, beginning, text)
+	}
+	return "[" + rest
+}
+
 // TestAudit logs what a real etcd and its Go client commit: at ReadCommitted there are write skews and lost updates, and at the other levels each key is at the commit
-// as it was read. Where the variable STMRUN names the program, that says the same of the traces.
+// as it was read. Where the variable STMRUN names the program, that says the same of the traces, and of one without its first line that this is missing.
 func TestAudit(t *testing.T) {
 	folder := t.TempDir()
 	for i, level := range LevelNames {
@@ -158,6 +175,11 @@ func TestAudit(t *testing.T) {
 			said := string(printed)
 			if err != nil || strings.Count(said, `"LostUpdate"`) != lost || strings.Count(said, `"WriteSkew"`) != skews || strings.Count(said, "\n") != lost+skews+1 {
 				t.Errorf("%s: %v: %s", level, err, said)
+			}
+			older := exec.Command(stmrun, "audit")
+			older.Stdin = strings.NewReader(withoutBeginning(t, path))
+			if both, err := older.CombinedOutput(); err == nil || !strings.Contains(string(both), `"DirtyRead"`) || !strings.Contains(string(both), `["begin",4,`) {
+				t.Errorf("%s, older than its log: %v: %s", level, err, both)
 			}
 		}
 	}

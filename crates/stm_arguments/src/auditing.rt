@@ -17,11 +17,12 @@ const EXAMPLE: &str =
 
 REVISION is the store's after the commit. A read says what KEY had at the revision OF: VALUE, null where it was absent, and
 the modification revision MOD, 0 where it was absent. A WRITE is [\"put\",KEY,VALUE] or [\"del\",KEY]. The end of a lease is a
-commit that deletes its keys. A trace has every commit since its first one, in which no key is present before unless its first element says
+commit that deletes its keys. A trace has every commit since its first one, before which no key is present, unless the first
+element is
 
   [\"begin\",REVISION,[[KEY,VALUE,MOD],..]]
 
-at which revision of the store it begins, and which keys were present then, ascending by bytes. If t.json holds
+the store's revision before the first commit, and the keys that were present then, ascending by bytes. If t.json holds
 
   [[\"ReadCommitted\",2,[[\"n\",null,0,1]],[[\"put\",\"n\",\"1\"]]],
    [\"ReadCommitted\",3,[[\"n\",null,0,1]],[[\"put\",\"n\",\"1\"]]]]

@@ -1,17 +1,17 @@
 -- What is read of a trace is spelled by the bytes.
 use Rattle.std.proofs.Common.{◌≡◌, ℕ, ◌≤◌, List, [], ◌∷◌, length, Bool, true, false, cond, Option, Some, None, Ok, refl, ap, subst, ◌∙◌, arith, codes}
-use Rattle.std.specs.Prelude.{nat_lt, is_some, option_and_then}
+use Rattle.std.specs.Prelude.{nat_lt}
 use Rattle.std.proofs.lemmas.Bool.Decides.{nat_tests}
 use Rattle.std.proofs.lemmas.Slice.Eq.{bytes_eq-Decides}
-use Rattle.serde_json.specs.Data.{Data, null, boolean, number, string, array, object, Items, no_items, item}
-use Rattle.serde_json.specs.Find.{as_array, as_null}
+use Rattle.serde_json.specs.Data.{Data, null, string, array, Items, no_items, item}
+use Rattle.serde_json.specs.Find.{as_array}
 use Rattle.serde_json.specs.View.{items_of}
 use Rattle.stm_history.specs.declared.revisions.TheConstants.{HIGHEST_NUMBER, HIGHEST_REVISION}
 use Rattle.stm_json.specs.declared.cause.Cause.TheVariants.{Shape, TooLong}
 use Rattle.stm_json.specs.declared.limits.TheConstants.{MOST_BYTES}
 use Rattle.stm_json.specs.Bytes.{data_of}
-use Rattle.stm_json.specs.Elements.{worded, one_of, two_of, three_of, four_of, number_up_to, number_in}
-use Rattle.stm_json.specs.Outcome.{bad, ◌>>=◌, within}
+use Rattle.stm_json.specs.Elements.{worded, one_of, two_of, number_up_to, number_in}
+use Rattle.stm_json.specs.Outcome.{bad, within}
 use Rattle.stm_json.specs.Parts.{same, spelled, each_from, text_of}
 use Rattle.stm_json.proofs.OutcomeLemmas.{bind_ok, within_ok}
 use Rattle.stm_json.proofs.ElementLemmas.{worded-is, one_of-is, two_of-is, three_of-is, four_of-is}
@@ -35,44 +35,21 @@ use Rattle.stm_audit.specs.Reading.{stood, key_by, key_of, began, beginning_by, 
 
 -- ---- arrays of three and of four
 
-quad_at : (d : Data) (o : Option Items) (p : Data × Data × Data × Data) → as_array d ≡ o → option_and_then four_of o ≡ Some p
-    → d ≡ array (items_of (p.0 ∷ p.1 ∷ p.2 ∷ p.3 ∷ []))
-quad_at d None p e h = absurd (cc (h))
-quad_at d (Some ds) p e h = list_is d ds e ∙ ap array (four_of-is ds p h)
-
 quad_is : (d : Data) (p : Data × Data × Data × Data) → quad d ≡ Some p → d ≡ array (items_of (p.0 ∷ p.1 ∷ p.2 ∷ p.3 ∷ []))
-quad_is d p h = quad_at d (as_array d) p refl h
-
-triple_at : (d : Data) (o : Option Items) (p : Data × Data × Data) → as_array d ≡ o → option_and_then three_of o ≡ Some p
-    → d ≡ array (items_of (p.0 ∷ p.1 ∷ p.2 ∷ []))
-triple_at d None p e h = absurd (cc (h))
-triple_at d (Some ds) p e h = list_is d ds e ∙ ap array (three_of-is ds p h)
+quad_is (array ds) p h = ap array (four_of-is ds p h)
+quad_is _ p h = cc
 
 triple_is : (d : Data) (p : Data × Data × Data) → triple d ≡ Some p → d ≡ array (items_of (p.0 ∷ p.1 ∷ p.2 ∷ []))
-triple_is d p h = triple_at d (as_array d) p refl h
+triple_is (array ds) p h = ap array (three_of-is ds p h)
+triple_is _ p h = cc
 
 -- ---- reads
 
-null_is : (d : Data) → is_some (as_null d) ≡ true → d ≡ null
-null_is null is = refl
-null_is (boolean b) is = absurd (cc (is))
-null_is (number n) is = absurd (cc (is))
-null_is (string s) is = absurd (cc (is))
-null_is (array ds) is = absurd (cc (is))
-null_is (object ms) is = absurd (cc (is))
-
-value_by : (d : Data) (b : Bool) (v : Option (List ℕ)) → is_some (as_null d) ≡ b → cond b (Ok None) (text_of d >>= λ s. Ok (Some s)) ≡ Ok v → SpellsValue d v
-value_by d true v is h =
-    let same : None ≡ v = cc (h) in
-    subst (SpellsValue d) same (null_is d is)
-value_by d false v is h =
-    let s = bind_ok (text_of d) _ v h in
-    let same : Some s.0 ≡ v = cc (s.2) in
-    subst (SpellsValue d) same (text_of-is d s.0 s.1)
-
 value_sound : (d : Data) (v : Option (List ℕ)) → text_or_null d ≡ Ok v → SpellsValue d v
-unfolding text_or_null
-value_sound d v h = value_by d (is_some (as_null d)) v refl h
+unfolding text_or_null text_of
+value_sound null None h = refl
+value_sound (string s) (Some t) h = cc
+value_sound _ _ h = cc
 
 abbrev read_with : List ℕ → Option (List ℕ) → ℕ → ℕ → CommittedRead
 read_with key value mod_rev of_rev = record { key = key; value = value; mod_rev = mod_rev; of_rev = of_rev }

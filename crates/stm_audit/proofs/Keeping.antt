@@ -20,20 +20,16 @@ use Rattle.stm_audit.specs.Reads.{is_so, is_untrue, is_stale}
 
 -- ---- where none is found, none is so
 
-head_passes_not : {X : Type 0} (x : X) (rest : Option X) (b : Bool) → cond b (Some x) rest ≡ None → (b ≡ false) × (rest ≡ None)
-head_passes_not x rest true is = absurd (cc)
-head_passes_not x rest false is = (refl, is)
-
-none_found : {X : Type 0} (p : X → Bool) (xs : List X) → find p xs ≡ None → AllByRecursion (λ x. p x ≡ false) xs
-none_found p [] is = tt
-none_found p (x ∷ xs) is = let both = head_passes_not x (find p xs) (p x) is in (both.0, none_found p xs both.1)
-
-each : {X : Type 0} (P Q : X → Type 0) (xs : List X) → ((x : X) → P x → Q x) → AllByRecursion P xs → AllByRecursion Q xs
-each P Q [] turn all = tt
-each P Q (x ∷ xs) turn all = (turn x all.0, each P Q xs turn all.1)
+none_found : {X : Type 0} (p : X → Bool) (Q : X → Type 0) (xs : List X) → ((x : X) → p x ≡ false → Q x) → find p xs ≡ None → AllByRecursion Q xs
+none_found p Q [] turn is = tt
+none_found p Q (x ∷ xs) turn is = by_test (p x) refl is (none_found p Q xs turn)
+  where
+    by_test : (b : Bool) → p x ≡ b → cond b (Some x) (find p xs) ≡ None → (find p xs ≡ None → AllByRecursion Q xs) → Q x × AllByRecursion Q xs
+    by_test true e is rest = absurd (cc)
+    by_test false e is rest = (turn x e, rest is)
 
 none_is : {X : Type 0} (p : X → Bool) (Q : X → Type 0) (xs : List X) → ((x : X) → p x ≡ false → Q x) → find p xs ≡ None → All Q xs
-none_is p Q xs turn is = All-from_recursion Q xs (each (λ x. p x ≡ false) Q xs turn (none_found p xs is))
+none_is p Q xs turn is = All-from_recursion Q xs (none_found p Q xs turn is)
 
 same_number : (m n : ℕ) → not (nat_eq m n) ≡ false → m ≡ n
 same_number m n is = grind (arith, nat_tests)
@@ -68,16 +64,16 @@ compares_both SerializableSnapshot is = refl
 compares_both _ is = absurd (cc)
 
 pub kept_where_nothing_is_broken : KeptWhereNothingIsBroken
-kept_where_nothing_is_broken h made number t kept =
-    let untrue : Option CommittedRead = find (is_untrue h) t.reads in
+kept_where_nothing_is_broken h known made number t kept =
+    let untrue : Option CommittedRead = find (is_untrue h known) t.reads in
     let stale : Option CommittedRead = find (is_stale h) t.reads in
     let after_untrue : Option Finding = option_or (stale_in h made number t) (overwritten_in h number t) in
-    let all_so : find (is_untrue h) t.reads ≡ None = none_first (of_read h number DirtyRead true) untrue after_untrue (λ a. refl) kept in
+    let all_so : find (is_untrue h known) t.reads ≡ None = none_first (of_read h number DirtyRead true) untrue after_untrue (λ a. refl) kept in
     let next : NotBroken after_untrue = past (of_read h number DirtyRead true) untrue after_untrue all_so kept in
     let none_stale : is_comparing t.level ≡ true → find (is_stale h) t.reads ≡ None =
     λ is. none_first (of_stale h made number t) stale (overwritten_in h number t) (λ a. is) next in
     record {
-      so = none_is (is_untrue h) (λ (a : CommittedRead). is_so h a ≡ true) t.reads (λ a. not-false (is_so h a)) all_so;
+      so = none_is (is_untrue h known) (λ (a : CommittedRead). is_so h known a ≡ true) t.reads (λ a. not-false (is_so h known a)) all_so;
       unchanged = λ is.
           none_is (is_stale h) (λ (a : CommittedRead). a.mod_rev ≡ mod_of (key_now h a.key)) t.reads (λ a. same_number a.mod_rev (mod_of (key_now h a.key)))
           (none_stale is);

@@ -1,6 +1,6 @@
 -- What is printed, line after line, and what is answered of an input.
 use Rattle.std.proofs.Common.{◌≡◌, ℕ, ◌+◌, ◌<◌, List, [], ◌++◌, length, take, drop, get_or, IfSome, Some, None, Bool, false, Option, Result, Ok, Err}
-use Rattle.std.proofs.Common.{sym, ap, subst, ◌∙◌, append_assoc, inl, inr}
+use Rattle.std.proofs.Common.{subst, append_assoc, inl, inr}
 use Rattle.std.proofs.lemmas.List.{append-nil}
 use Rattle.stm_devices.specs.declared.transfer.TheConstants.{MOST_READ}
 use Rattle.stm_json.specs.declared.read_error.BadInput.{BadInput}
@@ -22,14 +22,10 @@ use Rattle.stm_audit.proofs.AuditLemmas.{left_at}
 pub one_line_more : (fs : List Finding) (i : ℕ) (f : Finding) (text next total : List ℕ) → i < length fs → f ≡ get_or fs i f
     → next ≡ text ++ line_text (finding_line f) → text ++ findings_text (drop i fs) ≡ total → next ++ findings_text (drop (i + 1) fs) ≡ total
 one_line_more fs i f text next total within at is so_far =
-    let one : text ++ findings_text (drop i fs) ≡ (text ++ line_text (finding_line f)) ++ findings_text (drop (i + 1) fs) =
-    ap (λ (l : List Finding). text ++ findings_text l) (left_at fs i f within at) ∙ simp append_assoc in
-    rw is (sym one ∙ so_far)
+    rw (is, append_assoc text (line_text (finding_line f)) (findings_text (drop (i + 1) fs))) (rw (left_at fs i f within at) at so_far)
 
 pub all_lines : (fs : List Finding) (i : ℕ) (text total : List ℕ) → drop i fs ≡ [] → text ++ findings_text (drop i fs) ≡ total → text ≡ total
-all_lines fs i text total none so_far =
-    let one : text ++ findings_text (drop i fs) ≡ text = ap (λ (l : List Finding). text ++ findings_text l) none ∙ append-nil text in
-    sym one ∙ so_far
+all_lines fs i text total none so_far = rw (none, append-nil) at so_far
 
 -- ---- traces
 
@@ -45,7 +41,7 @@ prints_none t Device none is = is
 pub answers_of : (bytes : List ℕ) (t : Trace) (result : Result Printed AuditFault) → trace_in bytes ≡ Ok t → Prints t result → Answers bytes result
 answers_of bytes t (Ok p) is prints = (t, is, prints)
 answers_of bytes t (Err OutOfMemory) is prints = tt
-answers_of bytes t (Err (Bad bad)) is prints = inr (t, is, prints)
+answers_of bytes t (Err (Bad bad)) is prints = inr (t, is, prints.0, prints.1)
 answers_of bytes t (Err Device) is prints = prints
 
 pub answers_bad : (bytes : List ℕ) (bad : BadInput) → trace_in bytes ≡ Err bad → Answers bytes (Err (Bad bad))

@@ -1,7 +1,7 @@
 -- The first fault of a trace is the fault that reading it answers.
 use Rattle.std.proofs.Common.{◌≡◌, ℕ, suc, arith, List, [], ◌∷◌, ◌++◌, length, Bool, true, false, cond, Option, Some, None, Ok, refl, codes}
 use Rattle.std.specs.Prelude.{nat_lt}
-use Rattle.serde_json.specs.Data.{Data, null, boolean, number, string, array, object, Items, no_items, item}
+use Rattle.serde_json.specs.Data.{Data, null, string, array, Items, no_items, item}
 use Rattle.serde_json.specs.Find.{as_str, as_array}
 use Rattle.stm_history.specs.declared.revisions.TheConstants.{HIGHEST_NUMBER, HIGHEST_REVISION}
 use Rattle.stm_json.specs.declared.cause.Cause.TheVariants.{Shape, TooLong, NotJson}
@@ -26,9 +26,9 @@ use Rattle.stm_texts.specs.FirstFault.{level_words}
 use Rattle.stm_audit.specs.declared.commit.Commit.{Commit}
 use Rattle.stm_audit.specs.declared.trace.Trace.{Trace}
 use Rattle.stm_audit.specs.FirstFault.{elements_faults, all_faults, value_faults, read_faults, write_table, commit_faults, key_faults}
-use Rattle.stm_audit.specs.FirstFault.{beginning_faults, trace_faults, data_faults, first_fault}
+use Rattle.stm_audit.specs.FirstFault.{trace_faults, data_faults, first_fault}
 use Rattle.stm_audit.specs.Reading.{listed, text_or_null, read_by, read_of, put_of, del_of, write_of, commit_by, commit_of, stood, key_by, key_of, began}
-use Rattle.stm_audit.specs.Reading.{beginning_by, beginning_of, trace_after, trace_of, trace_read, trace_in}
+use Rattle.stm_audit.specs.Reading.{beginning_of, trace_after, trace_of, trace_read, trace_in}
 
 -- ---- lists
 
@@ -54,10 +54,7 @@ value_faulted : (p : List ℕ) (d : Data) → first_of (value_faults p d) ≡ fa
 unfolding text_or_null text_of
 value_faulted p null = refl
 value_faulted p (string s) = refl
-value_faulted p (boolean b) = wrong_is {A = Option (List ℕ)} p Shape (bad Shape) refl
-value_faulted p (number n) = wrong_is {A = Option (List ℕ)} p Shape (bad Shape) refl
-value_faulted p (array ds) = wrong_is {A = Option (List ℕ)} p Shape (bad Shape) refl
-value_faulted p (object ms) = wrong_is {A = Option (List ℕ)} p Shape (bad Shape) refl
+value_faulted p _ = wrong_is {A = Option (List ℕ)} p Shape (bad Shape) refl
 
 abbrev read_sorts : List Sort
 read_sorts = AnyText ∷ By value_faults ∷ any_number ∷ any_number ∷ []
@@ -66,17 +63,13 @@ abbrev read_with : List ℕ → Option (List ℕ) → ℕ → ℕ → CommittedR
 read_with key value mod_rev of_rev = record { key = key; value = value; mod_rev = mod_rev; of_rev = of_rev }
 
 read_parts : (p : List ℕ) (ds : Items) → first_of (cond (is_count read_sorts ds) (parts_faults p 0 read_sorts ds) (wrong p Shape)) ≡ fault_of p (read_by (four_of ds))
-read_parts p no_items = wrong_is p Shape (read_by None) refl
-read_parts p (item a no_items) = wrong_is p Shape (read_by None) refl
-read_parts p (item a (item b no_items)) = wrong_is p Shape (read_by None) refl
-read_parts p (item a (item b (item c no_items))) = wrong_is p Shape (read_by None) refl
 read_parts p (item a (item b (item c (item d no_items)))) =
     part_then p 0 (text_of a) _ (faults_by AnyText (at p 0) a) _ (text_faulted (at p 0) a) (λ (key : List ℕ).
     part_then p 1 (text_or_null b) _ (value_faults (at p 1) b) _ (value_faulted (at p 1) b) (λ (value : Option (List ℕ)).
     part_then p 2 (number_up_to HIGHEST_NUMBER c) _ (faults_by any_number (at p 2) c) _ (number_reported (at p 2) c) (λ (modified : ℕ).
     part_then p 3 (number_up_to HIGHEST_NUMBER d) (λ shown. Ok (read_with key value modified shown)) (faults_by any_number (at p 3) d) []
     (number_reported (at p 3) d) (λ shown. refl))))
-read_parts p (item a (item b (item c (item d (item e ds))))) = wrong_is p Shape (read_by None) refl
+read_parts p _ = wrong_is {A = CommittedRead} p Shape (bad Shape) refl
 
 read_faulted : (p : List ℕ) (d : Data) → first_of (read_faults p d) ≡ fault_of p (read_of d)
 unfolding read_of
@@ -92,18 +85,15 @@ abbrev del_sorts : List Sort
 del_sorts = AnyText ∷ []
 
 put_faulted : (p : List ℕ) (ds : Items) → first_of (sorted_faults p (Some put_sorts) ds) ≡ fault_of p (put_of (two_of ds))
-put_faulted p no_items = wrong_is p Shape (put_of None) refl
-put_faulted p (item a no_items) = wrong_is p Shape (put_of None) refl
 put_faulted p (item a (item b no_items)) =
     part_then p 1 (text_of a) _ (faults_by AnyText (at p 1) a) _ (text_faulted (at p 1) a) (λ (key : List ℕ).
     part_then p 2 (text_of b) (λ value. Ok (Put key value 0)) (faults_by AnyText (at p 2) b) [] (text_faulted (at p 2) b) (λ value. refl))
-put_faulted p (item a (item b (item c ds))) = wrong_is p Shape (put_of None) refl
+put_faulted p _ = wrong_is {A = Change} p Shape (bad Shape) refl
 
 del_faulted : (p : List ℕ) (ds : Items) → first_of (sorted_faults p (Some del_sorts) ds) ≡ fault_of p (del_of (one_of ds))
-del_faulted p no_items = wrong_is p Shape (del_of None) refl
 del_faulted p (item a no_items) =
     part_then p 1 (text_of a) (λ key. Ok (Del key)) (faults_by AnyText (at p 1) a) [] (text_faulted (at p 1) a) (λ key. refl)
-del_faulted p (item a (item b ds)) = wrong_is p Shape (del_of None) refl
+del_faulted p _ = wrong_is {A = Change} p Shape (bad Shape) refl
 
 write_tested : (p : List ℕ) (ds : Items) (puts dels : Bool)
     → first_of (sorted_faults p (cond puts (Some put_sorts) (cond dels (Some del_sorts) None)) ds)
@@ -147,10 +137,6 @@ commit_with level revision reads writes = record { level = level; revision = rev
 
 commit_parts : (p : List ℕ) (ds : Items)
     → first_of (cond (is_count commit_sorts ds) (parts_faults p 0 commit_sorts ds) (wrong p Shape)) ≡ fault_of p (commit_by (four_of ds))
-commit_parts p no_items = wrong_is p Shape (commit_by None) refl
-commit_parts p (item a no_items) = wrong_is p Shape (commit_by None) refl
-commit_parts p (item a (item b no_items)) = wrong_is p Shape (commit_by None) refl
-commit_parts p (item a (item b (item c no_items))) = wrong_is p Shape (commit_by None) refl
 commit_parts p (item a (item b (item c (item d no_items)))) =
     part_then p 0 (level_of a) _ (faults_by (WordOf level_words) (at p 0) a) _ (level_faulted (at p 0) a) (λ (level : Level).
     part_then p 1 (number_in 1 HIGHEST_REVISION b) _ (faults_by (NumberIn 1 HIGHEST_REVISION) (at p 1) b) _
@@ -159,7 +145,7 @@ commit_parts p (item a (item b (item c (item d no_items)))) =
     (λ (reads : List CommittedRead).
     part_then p 3 (listed write_of d) (λ writes. Ok (commit_with level revision reads writes)) (list_faults write_table (at p 3) d) []
     (list_faulted write_table write_of write_reported (at p 3) d) (λ writes. refl))))
-commit_parts p (item a (item b (item c (item d (item e ds))))) = wrong_is p Shape (commit_by None) refl
+commit_parts p _ = wrong_is {A = Commit} p Shape (bad Shape) refl
 
 commit_faulted : (p : List ℕ) (d : Data) → first_of (commit_faults p d) ≡ fault_of p (commit_of d)
 unfolding commit_of
@@ -174,16 +160,14 @@ key_sorts = AnyText ∷ AnyText ∷ NumberIn 1 HIGHEST_REVISION ∷ []
 abbrev entry : List ℕ → List ℕ → ℕ → List ℕ × KeyState
 entry key value revision = (key, stood value revision)
 
-key_parts : (p : List ℕ) (ds : Items) → first_of (cond (is_count key_sorts ds) (parts_faults p 0 key_sorts ds) (wrong p Shape)) ≡ fault_of p (key_by (three_of ds))
-key_parts p no_items = wrong_is p Shape (key_by None) refl
-key_parts p (item a no_items) = wrong_is p Shape (key_by None) refl
-key_parts p (item a (item b no_items)) = wrong_is p Shape (key_by None) refl
+key_parts : (p : List ℕ) (ds : Items)
+    → first_of (cond (is_count key_sorts ds) (parts_faults p 0 key_sorts ds) (wrong p Shape)) ≡ fault_of p (key_by (three_of ds))
 key_parts p (item a (item b (item c no_items))) =
     part_then p 0 (text_of a) _ (faults_by AnyText (at p 0) a) _ (text_faulted (at p 0) a) (λ (key : List ℕ).
     part_then p 1 (text_of b) _ (faults_by AnyText (at p 1) b) _ (text_faulted (at p 1) b) (λ (value : List ℕ).
     part_then p 2 (number_in 1 HIGHEST_REVISION c) (λ revision. Ok (entry key value revision)) (faults_by (NumberIn 1 HIGHEST_REVISION) (at p 2) c) []
     (number_faulted (at p 2) 1 HIGHEST_REVISION c (omega arith)) (λ revision. refl)))
-key_parts p (item a (item b (item c (item d ds)))) = wrong_is p Shape (key_by None) refl
+key_parts p _ = wrong_is {A = List ℕ × KeyState} p Shape (bad Shape) refl
 
 key_faulted : (p : List ℕ) (d : Data) → first_of (key_faults p d) ≡ fault_of p (key_of d)
 unfolding key_of
@@ -194,14 +178,12 @@ abbrev beginning_sorts : List Sort
 beginning_sorts = NumberIn 1 HIGHEST_REVISION ∷ By (all_faults key_faults) ∷ []
 
 beginning_faulted : (p : List ℕ) (ds : Items) → first_of (sorted_faults p (Some beginning_sorts) ds) ≡ fault_of p (beginning_of ds)
-beginning_faulted p no_items = wrong_is p Shape (beginning_by None) refl
-beginning_faulted p (item a no_items) = wrong_is p Shape (beginning_by None) refl
 beginning_faulted p (item a (item b no_items)) =
     part_then p 1 (number_in 1 HIGHEST_REVISION a) _ (faults_by (NumberIn 1 HIGHEST_REVISION) (at p 1) a) _
     (number_faulted (at p 1) 1 HIGHEST_REVISION a (omega arith)) (λ (revision : ℕ).
     part_then p 2 (listed key_of b) (λ states. Ok (began revision states)) (all_faults key_faults (at p 2) b) []
     (all_faulted key_faults key_of key_faulted (at p 2) b) (λ (states : States). refl))
-beginning_faulted p (item a (item b (item c ds))) = wrong_is p Shape (beginning_by None) refl
+beginning_faulted p _ = wrong_is {A = Checkpoint} p Shape (bad Shape) refl
 
 -- ---- traces
 

@@ -53,8 +53,8 @@ of_read h number anomaly is_broken a =
     record { commit = number; anomaly = anomaly; is_broken = is_broken; key = a.key; seen = a.mod_rev; held = mod_of (key_now h a.key) }
 
 -- the first read that says what was not so: no level allows it
-abbrev pub untrue_in : History → ℕ → Commit → Option Finding
-untrue_in h number t = option_map (of_read h number DirtyRead true) (find (is_untrue h) t.reads)
+abbrev pub untrue_in : History → ℕ → ℕ → Commit → Option Finding
+untrue_in h known number t = option_map (of_read h number DirtyRead true) (find (is_untrue h known) t.reads)
 
 -- a read whose key has been changed since: a level that compares the keys read promises that there is none
 abbrev pub of_stale : History → List Commit → ℕ → Commit → CommittedRead → Finding
@@ -90,5 +90,5 @@ overwritten_in h number t =
     else None
 
 -- what is wrong with a commit, if anything is
-abbrev pub found_in : History → List Commit → ℕ → Commit → Option Finding
-found_in h made number t = option_or (untrue_in h number t) (option_or (stale_in h made number t) (overwritten_in h number t))
+abbrev pub found_in : History → ℕ → List Commit → ℕ → Commit → Option Finding
+found_in h known made number t = option_or (untrue_in h known number t) (option_or (stale_in h made number t) (overwritten_in h number t))

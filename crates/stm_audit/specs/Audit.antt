@@ -2,7 +2,8 @@
 --
 -- etcd's API reference, "Revisions": a transaction that changes something gets the next revision, and another one has that of the store. So a trace
 -- that has every commit since its first one has their revisions without a gap.
-use Rattle.std.specs.Prelude.{ℕ, suc, ◌-◌, Bool, true, false, nat_eq, nat_lt, if◌then◌else◌, List, [], ◌∷◌, ◌++◌, Option, Some, None, option_map, Result, Ok, Err, min, max}
+use Rattle.std.specs.Prelude.{ℕ, suc, ◌-◌, Bool, true, false, nat_eq, nat_lt, if◌then◌else◌, List, [], ◌∷◌, ◌++◌}
+use Rattle.std.specs.Prelude.{Option, Some, None, option_map, Result, Ok, Err, min, max}
 use Rattle.std.specs.List.{list_any}
 use Rattle.stm_history.specs.declared.revisions.TheConstants.{HIGHEST_REVISION}
 use Rattle.stm_history.specs.History.{now}
@@ -51,12 +52,12 @@ abbrev pub more : Option Finding → Audited → Audited
 more found a = record { findings = with_found found a.findings; off = a.off }
 
 -- a commit whose revision is not the store's ends the audit: what the store was is not known from there on
-abbrev pub audit_from : Standing → List Commit → ℕ → List Commit → Audited
-audit_from s made number [] = record { findings = []; off = None }
-audit_from s made number (t ∷ ts) =
+abbrev pub audit_from : ℕ → Standing → List Commit → ℕ → List Commit → Audited
+audit_from known s made number [] = record { findings = []; off = None }
+audit_from known s made number (t ∷ ts) =
     if is_reached t.revision (revision_of (after s t.writes))
-    then more (found_in s.history made number t)
-    (audit_from (left_by s (after s t.writes)) (with_maker (nat_lt (now s.history) t.revision) made t) (suc number) ts)
+    then more (found_in s.history known made number t)
+    (audit_from known (left_by s (after s t.writes)) (with_maker (nat_lt (now s.history) t.revision) made t) (suc number) ts)
     else record { findings = []; off = Some number }
 
 -- ---- where a trace begins
@@ -83,6 +84,11 @@ abbrev pub beginning : Option Checkpoint → List Commit → Option Standing
 beginning None commits = Some (opening (at_revision (opened commits)))
 beginning (Some c) commits = restoring c
 
+-- the revision from which on it is known what each key was: a trace that says what it begins with does not say what was before
+abbrev pub known_from : Option Checkpoint → ℕ
+known_from None = 0
+known_from (Some c) = c.revision
+
 -- the audit of a trace over that store, and none where there is no such store
 abbrev pub audited : Trace → Option Audited
-audited t = option_map (λ s. audit_from s [] 1 t.commits) (beginning t.opening t.commits)
+audited t = option_map (λ s. audit_from (known_from t.opening) s [] 1 t.commits) (beginning t.opening t.commits)

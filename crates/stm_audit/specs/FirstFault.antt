@@ -9,7 +9,8 @@ use Rattle.stm_json.specs.declared.limits.TheConstants.{MOST_BYTES}
 use Rattle.stm_json.specs.declared.read_error.BadInput.{BadInput}
 use Rattle.stm_json.specs.Bytes.{data_of}
 use Rattle.stm_json.specs.Outcome.{step}
-use Rattle.stm_json.specs.Faults.{Faults, first_of, wrong, at, Sort, AnyText, WordOf, NumberIn, By, Table, text_faults, is_count, parts_faults, sorted_faults, list_faults, any_number}
+use Rattle.stm_json.specs.Faults.{Faults, first_of, wrong, at, Sort, AnyText, WordOf, NumberIn, By, Table}
+use Rattle.stm_json.specs.Faults.{text_faults, is_count, parts_faults, sorted_faults, list_faults, any_number}
 use Rattle.stm_texts.specs.FirstFault.{level_words, is_opening}
 
 -- ---- arrays

@@ -11,12 +11,13 @@ use Rattle.stm_audit.specs.Reads.{is_so}
 
 -- A commit is what its level promises, on the history that is before it: each read says what was so; at a level that compares the keys read, each of these
 -- is as it was read; and at one that compares the keys written, none of these was put after the first read.
-pub record IsKept (h : History) (t : Commit) : Type 0 where
-  pub so : All (λ (a : CommittedRead). is_so h a ≡ true) t.reads
+pub record IsKept (h : History) (known : ℕ) (t : Commit) : Type 0 where
+  pub so : All (λ (a : CommittedRead). is_so h known a ≡ true) t.reads
   pub unchanged : is_comparing t.level ≡ true → All (λ (a : CommittedRead). a.mod_rev ≡ mod_of (key_now h a.key)) t.reads
   pub unwritten : compares_writes t.level ≡ true → All (λ (w : Change). mod_of (key_now h (key_of w)) ≤ first_read t.reads) t.writes
 
 -- a commit of which nothing is found, or nothing that its level promises not to come, is what its level promises
 abbrev pub KeptWhereNothingIsBroken : Type 0
 KeptWhereNothingIsBroken =
-    (h : History) (made : List Commit) (number : ℕ) (t : Commit) → IfSome (found_in h made number t) (λ (f : Finding). f.is_broken ≡ false) → IsKept h t
+    (h : History) (known : ℕ) (made : List Commit) (number : ℕ) (t : Commit)
+    → IfSome (found_in h known made number t) (λ (f : Finding). f.is_broken ≡ false) → IsKept h known t

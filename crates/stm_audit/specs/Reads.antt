@@ -16,29 +16,21 @@ is_value None (Some s) = false
 is_value (Some v) None = false
 is_value (Some v) (Some s) = bytes_eq v s.value
 
--- it shows this state, or that the key is absent
-abbrev pub shows : CommittedRead → Option KeyState → Bool
-shows a state = is_value a.value state && nat_eq a.mod_rev (mod_of state)
-
--- a key that was absent at a later revision, or put since this one, may have been otherwise before
+-- a key that was absent at a later revision, or was put since this one, may have been otherwise here
 abbrev pub is_lost : ℕ → Option KeyState → Bool
 is_lost revision None = true
 is_lost revision (Some s) = nat_lt revision s.mod_rev
 
--- What a read of a revision below the opening says is judged by the key at the opening, where that has not changed since; else it may say anything but that
--- the key was put later.
-abbrev pub fits_before : CommittedRead → Option KeyState → Bool
-fits_before a opened = if is_lost a.of_rev opened then nat_le a.mod_rev a.of_rev else shows a opened
-
--- the read says what its key was at the revision that it is of, which the store had reached
-abbrev pub is_so : History → CommittedRead → Bool
-is_so h a =
+-- The read says what its key was at the revision that it is of, which the store had reached. What a key was is known from a revision on, and before that where
+-- it has not changed since; elsewhere a read may say anything but that the key was put later.
+abbrev pub is_so : History → ℕ → CommittedRead → Bool
+is_so h known a =
     if nat_lt (now h) a.of_rev then false
-    else (if nat_lt a.of_rev h.opening.number then fits_before a (key_at h a.key a.of_rev)
-    else shows a (key_at h a.key a.of_rev))
+    else (if nat_lt a.of_rev known && is_lost a.of_rev (key_at h a.key a.of_rev) then nat_le a.mod_rev a.of_rev
+    else (is_value a.value (key_at h a.key a.of_rev) && nat_eq a.mod_rev (mod_of (key_at h a.key a.of_rev))))
 
-abbrev pub is_untrue : History → CommittedRead → Bool
-is_untrue h a = not (is_so h a)
+abbrev pub is_untrue : History → ℕ → CommittedRead → Bool
+is_untrue h known a = not (is_so h known a)
 
 -- its key is not as it was read
 abbrev pub is_stale : History → CommittedRead → Bool

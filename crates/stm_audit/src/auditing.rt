@@ -4,7 +4,7 @@ ghost use Rattle.std.specs.List.{list_any};
 ghost use Rattle.stm_history.specs.History.{now};
 ghost use Rattle.stm_audit.specs.Anomalies.{found_in};
 ghost use Rattle.stm_audit.specs.Audit.{after, left_by, revision_of, is_reached, with_found, with_maker, is_put, before_first, opened};
-ghost use Rattle.stm_audit.specs.Audit.{restoring, beginning, audit_from, audited};
+ghost use Rattle.stm_audit.specs.Audit.{restoring, beginning, known_from, audit_from, audited};
 
 use crate::commit::Commit;
 use crate::finding::Finding;
@@ -54,6 +54,7 @@ fn add_maker<'a>(
 fn take<'a>(
     alloc: Global,
     store: &mut Store,
+    known: u64,
     made: &mut Vec<&'a Commit>,
     findings: &mut Vec<Finding>,
     number: u64,
@@ -64,10 +65,10 @@ fn take<'a>(
     ensures made { IfOk result (λ b. b ≡ true → map (λ c. c.now) made.new.items
         ≡ with_maker (nat_lt (now store.old.standing.history) commit.now.revision) (map (λ c. c.now) made.old.items) commit.now) }
     ensures found { IfOk result (λ b. b ≡ true → findings.new.items
-        ≡ findings.old.items ++ with_found (found_in store.old.standing.history (map (λ c. c.now) made.old.items) number commit.now) []) }
+        ≡ findings.old.items ++ with_found (found_in store.old.standing.history known (map (λ c. c.now) made.old.items) number commit.now) []) }
     ensures off { IfOk result (λ b. b ≡ false → findings.new.items ≡ findings.old.items) }
 {
-    let found = found_in(alloc, store.keys(), made.as_slice(), number, commit)?;
+    let found = found_in(alloc, store.keys(), known, made.as_slice(), number, commit)?;
     let before = store.keys().revision();
     if !comes_to(alloc, store, commit.writes.as_slice(), commit.revision)? {
         return Ok(false);
@@ -77,15 +78,28 @@ fn take<'a>(
     Ok(true)
 }
 
-/// Takes these commits, one after another, over a store.
-fn audit_each(alloc: Global, store: &mut Store, commits: &[Commit]) -> Result<Audited, AllocError>
-    ensures { IfOk result (λ a. a ≡ audit_from store.old.standing [] 1 commits.now) }
+/// Takes these commits, one after another, over a store of which it is known from a revision on what each key was.
+fn audit_each(
+    alloc: Global,
+    store: &mut Store,
+    known: u64,
+    commits: &[Commit],
+) -> Result<Audited, AllocError>
+    ensures { IfOk result (λ a. a ≡ audit_from known store.old.standing [] 1 commits.now) }
 {
     let mut made = Vec::new(alloc);
     let mut findings = Vec::new(alloc);
     for (index, commit) in commits.iter().enumerate() {
         let number = index as u64 + 1;
-        let fits = take(alloc, store, &mut made, &mut findings, number, commit)?;
+        let fits = take(
+            alloc,
+            store,
+            known,
+            &mut made,
+            &mut findings,
+            number,
+            commit,
+        )?;
         if !fits {
             return Ok(Audited {
                 findings: Sequence::of(findings),
@@ -165,6 +179,16 @@ fn beginning(alloc: Global, trace: &Trace) -> Result<Option<Store>, AllocError>
     }
 }
 
+/// The revision from which on it is known what each key was.
+fn known_from(opening: &Option<Checkpoint>) -> u64
+    ensures { result ≡ known_from opening.now }
+{
+    match opening {
+        None => 0,
+        Some(checkpoint) => checkpoint.revision,
+    }
+}
+
 /// Audits a trace; none where no store can be as it says that its own was (`can_restore`): its keys do not ascend, or a revision is above the store's.
 ///
 /// A read has to say what its key was at the revision that it is of. At a level that compares the keys read, each of
@@ -178,7 +202,8 @@ pub fn audit(alloc: Global, trace: &Trace) -> Result<Option<Audited>, AllocError
     let Some(mut store) = beginning(alloc, trace)? else {
         return Ok(None);
     };
-    let audited = audit_each(alloc, &mut store, trace.commits.as_slice());
+    let known = known_from(&trace.opening);
+    let audited = audit_each(alloc, &mut store, known, trace.commits.as_slice());
     drop(store);
     Ok(Some(audited?))
 }

@@ -2,7 +2,7 @@
 ghost use Rattle.std.specs.Prelude.{◌≡◌, ◌↔◌, ◌≤◌, IsTrue, not, find, bytes_eq, option_copied, option_map};
 ghost use Rattle.std.specs.List.{list_any};
 ghost use Rattle.stm_history.specs.History.{key_now, mod_of, key_of};
-ghost use Rattle.stm_audit.specs.Reads.{is_value, shows, is_lost, fits_before, is_so, is_untrue, is_stale, changed_at, is_at_most, shows_from, is_among};
+ghost use Rattle.stm_audit.specs.Reads.{is_value, is_lost, is_so, is_untrue, is_stale, changed_at, is_at_most, shows_from, is_among};
 
 use stm_events::{CommittedRead, KeyState, Text};
 use stm_history::found_mod_rev;
@@ -22,14 +22,7 @@ fn is_value(value: &Option<Text>, state: Option<&KeyState>) -> bool
     }
 }
 
-/// Whether a read shows this state, or that its key is absent.
-fn shows(read: &CommittedRead, state: Option<&KeyState>) -> bool
-    ensures { result ≡ shows read.now (option_copied state.entry) }
-{
-    is_value(&read.value, state) && read.mod_rev == found_mod_rev(state)
-}
-
-/// Whether a key that is in this state may have been otherwise at an earlier revision.
+/// Whether a key that was in this state later may have been otherwise at a revision.
 fn is_lost(revision: u64, state: Option<&KeyState>) -> bool
     ensures { result ≡ is_lost revision (option_copied state.entry) }
 {
@@ -39,44 +32,37 @@ fn is_lost(revision: u64, state: Option<&KeyState>) -> bool
     }
 }
 
-/// Whether a read of a revision below the opening can be so, by its key at the opening.
-fn fits_before(read: &CommittedRead, opened: Option<&KeyState>) -> bool
-    ensures { result ≡ fits_before read.now (option_copied opened.entry) }
-{
-    if is_lost(read.of_rev, opened) {
-        read.mod_rev <= read.of_rev
-    } else {
-        shows(read, opened)
-    }
-}
-
-/// Whether a read says what its key was.
-fn is_so(keys: &Keys, read: &CommittedRead) -> bool
-    ensures { result ≡ is_so keys.now.history read.now }
+/// Whether a read says what its key was, where that is known from a revision on.
+fn is_so(keys: &Keys, known: u64, read: &CommittedRead) -> bool
+    ensures { result ≡ is_so keys.now.history known read.now }
 {
     if keys.revision() < read.of_rev {
         return false;
     }
     let state = keys.look_back(read.key.as_str(), read.of_rev);
-    if read.of_rev < keys.below() {
-        fits_before(read, state)
+    if read.of_rev < known && is_lost(read.of_rev, state) {
+        read.mod_rev <= read.of_rev
     } else {
-        shows(read, state)
+        is_value(&read.value, state) && read.mod_rev == found_mod_rev(state)
     }
 }
 
 /// Whether a read says what its key was not.
-fn is_untrue(keys: &Keys, read: &CommittedRead) -> bool
-    ensures { result ≡ is_untrue keys.now.history read.now }
+fn is_untrue(keys: &Keys, known: u64, read: &CommittedRead) -> bool
+    ensures { result ≡ is_untrue keys.now.history known read.now }
 {
-    !is_so(keys, read)
+    !is_so(keys, known, read)
 }
 
 /// The first of these reads that says what was not so.
-pub(crate) fn find_untrue<'a>(keys: &Keys, reads: &'a [CommittedRead]) -> Option<&'a CommittedRead>
-    ensures { option_copied result ≡ find (is_untrue keys.now.history) reads.now }
+pub(crate) fn find_untrue<'a>(
+    keys: &Keys,
+    known: u64,
+    reads: &'a [CommittedRead],
+) -> Option<&'a CommittedRead>
+    ensures { option_copied result ≡ find (is_untrue keys.now.history known) reads.now }
 {
-    reads.iter().find(|read| is_untrue(keys, read))
+    reads.iter().find(|read| is_untrue(keys, known, read))
 }
 
 /// The modification revision of a key, 0 where it is absent.

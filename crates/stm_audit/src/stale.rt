@@ -104,10 +104,15 @@ fn of_read(
 }
 
 /// The first read of a commit that says what was not so.
-fn untrue_in(keys: &Keys, number: u64, commit: &Commit) -> Result<Option<Finding>, AllocError>
-    ensures { IfOk result (λ found. found ≡ untrue_in keys.now.history number commit.now) }
+fn untrue_in(
+    keys: &Keys,
+    known: u64,
+    number: u64,
+    commit: &Commit,
+) -> Result<Option<Finding>, AllocError>
+    ensures { IfOk result (λ found. found ≡ untrue_in keys.now.history known number commit.now) }
 {
-    match find_untrue(keys, commit.reads.as_slice()) {
+    match find_untrue(keys, known, commit.reads.as_slice()) {
         None => Ok(None),
         Some(read) => {
             let found = of_read(keys, number, Anomaly::DirtyRead, true, read)?;
@@ -217,17 +222,18 @@ fn overwritten_in(
     }
 }
 
-/// What is wrong with a commit, if anything is.
+/// What is wrong with a commit, if anything is, where it is known from a revision on what each key was.
 pub(crate) fn found_in(
     alloc: Global,
     keys: &Keys,
+    known: u64,
     made: &[&Commit],
     number: u64,
     commit: &Commit,
 ) -> Result<Option<Finding>, AllocError>
-    ensures { IfOk result (λ found. found ≡ found_in keys.now.history (map (λ c. c.now) made.now) number commit.now) }
+    ensures { IfOk result (λ found. found ≡ found_in keys.now.history known (map (λ c. c.now) made.now) number commit.now) }
 {
-    if let Some(found) = untrue_in(keys, number, commit)? {
+    if let Some(found) = untrue_in(keys, known, number, commit)? {
         return Ok(Some(found));
     }
     if let Some(found) = stale_in(keys, made, number, commit)? {

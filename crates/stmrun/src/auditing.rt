@@ -6,15 +6,26 @@ use crate::noting::Noting;
 use crate::wording::{Lines, TEXT, held, print_words};
 use std::io::Write;
 use stm_arguments::AuditWords;
-use stm_audit::{audit_to, explain_trace};
+use stm_audit::{audit_to, explain_older, explain_trace};
 use stm_commands::Std;
+
+/// The status where a promise is broken, or commits are missing.
+const BROKEN: u8 = 1;
 
 /// The status of a trace that is none.
 const BAD: u8 = 2;
 
-/// Says why the bytes of the file of a name are no trace; nothing, where memory runs out.
-fn say_bad(rt: &HostRuntime, name: &str, bytes: &[u8]) {
-    if let Ok(said) = explain_trace(rt.alloc(), name, bytes) {
+/// Says why the bytes of the file of a name are no trace, or what to do where one seems to be younger than its store, by the status of its audit; nothing, where
+/// memory runs out.
+fn say_why(rt: &HostRuntime, name: &str, bytes: &[u8], explain: bool, status: u8) {
+    let said = if status == BROKEN {
+        explain_older(rt.alloc(), bytes)
+    } else if status == BAD && explain {
+        explain_trace(rt.alloc(), name, bytes)
+    } else {
+        return;
+    };
+    if let Ok(said) = said {
         let _ = rt.eprint(said.as_str());
     }
 }
@@ -31,10 +42,10 @@ fn audit_on<W: Write + Drop>(
     let mut input = kept(rt, words.trace.unwrap_or("-"));
     let mut err = Std::new(rt.stderr());
     let status = audit_to(rt.alloc(), &mut input, out, &mut err);
+    if !input.is_cut {
+        say_why(rt, input.name, input.bytes.as_slice(), explain, status);
+    }
     if explain {
-        if status == BAD && !input.is_cut {
-            say_bad(rt, input.name, input.bytes.as_slice());
-        }
         say_unwritten(rt, out.device.failure.take());
     }
     say_unread(rt, input.name, input.source.device.failure);

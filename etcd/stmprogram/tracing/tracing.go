@@ -1,4 +1,4 @@
-// Package tracing logs the commits of etcd's transactional memory, in the form that stmrun audit reads.
+// Package tracing logs the commits of etcd's transactional memory, in the form that stmrun audit reads, behind what the store had before the first of them.
 //
 // NewSTM in it does what concurrency.NewSTM does, by that. What was read is taken from etcd's own answers, since the memory tells neither the modification revision
 // of all that it read nor the revision that an answer is of.
@@ -7,10 +7,10 @@ package tracing
 import (
 	"context"
 	"encoding/json"
-	"fmt"
 	"io"
 	"sort"
 	"sync"
+	"unicode/utf8"
 
 	"go.etcd.io/etcd/clientv3"
 	"go.etcd.io/etcd/clientv3/concurrency"
@@ -19,7 +19,11 @@ import (
 
 // Log keeps the commits of the transactions that were run with it, of any number of clients.
 type Log struct {
+	// Prefix is what all keys begin with that the transactions may read. Where it is said, the trace begins with these keys alone: a user of etcd
+	// may have no right to read others, or there may be too many.
+	Prefix  string
 	mutex   sync.Mutex
+	begin   []interface{} // the store before the first of them: the first line of a trace
 	commits []commit
 }
 
@@ -32,8 +36,11 @@ type commit struct {
 	writes   []interface{}
 }
 
-// NewSTM does what concurrency.NewSTM does at a level, and logs the commit.
+// NewSTM does what concurrency.NewSTM does at a level, and logs the commit. Before its first one a log fetches what the store has.
 func (l *Log) NewSTM(ctx context.Context, client *clientv3.Client, level concurrency.Isolation, apply func(concurrency.STM) error) (*clientv3.TxnResponse, error) {
+	if err := l.open(ctx, client); err != nil {
+		return nil, err
+	}
 	over := clientv3.NewCtxClient(ctx)
 	answers := &answers{KV: client.KV, shown: map[string]interface{}{}}
 	over.KV = answers
@@ -48,13 +55,34 @@ func (l *Log) NewSTM(ctx context.Context, client *clientv3.Client, level concurr
 	return response, err
 }
 
+// open fetches what the store has, unless that was done.
+func (l *Log) open(ctx context.Context, client *clientv3.Client) error {
+	l.mutex.Lock()
+	defer l.mutex.Unlock()
+	if l.begin != nil {
+		return nil
+	}
+	answer, err := client.Get(ctx, l.Prefix, clientv3.WithPrefix())
+	if err != nil {
+		return err
+	}
+	keys := []interface{}{}
+	for _, one := range answer.Kvs {
+		if utf8.Valid(one.Key) { // JSON has no other texts
+			keys = append(keys, []interface{}{string(one.Key), string(one.Value), one.ModRevision})
+		}
+	}
+	l.begin = []interface{}{"begin", answer.Header.Revision, keys}
+	return nil
+}
+
 func (l *Log) add(one commit) {
 	l.mutex.Lock()
 	defer l.mutex.Unlock()
 	l.commits = append(l.commits, one)
 }
 
-// WriteTo writes the trace: a commit a line, in the order of their revisions, each behind the one that made its revision.
+// WriteTo writes the trace: what the store had before, and then a commit a line, in the order of their revisions, each behind the one that made its revision.
 func (l *Log) WriteTo(w io.Writer) (int64, error) {
 	l.mutex.Lock()
 	defer l.mutex.Unlock()
@@ -62,25 +90,26 @@ func (l *Log) WriteTo(w io.Writer) (int64, error) {
 		a, b := l.commits[i], l.commits[j]
 		return a.revision < b.revision || a.revision == b.revision && a.changed && !b.changed
 	})
-	sum, begin := int64(0), "["
+	lines := []interface{}{}
+	if l.begin != nil {
+		lines = append(lines, l.begin)
+	}
 	for _, one := range l.commits {
-		line, err := json.Marshal([]interface{}{one.level, one.revision, one.reads, one.writes})
+		lines = append(lines, []interface{}{one.level, one.revision, one.reads, one.writes})
+	}
+	text := []byte("[")
+	for i, line := range lines {
+		written, err := json.Marshal(line)
 		if err != nil {
-			return sum, err
+			return 0, err
 		}
-		count, err := fmt.Fprintf(w, "%s%s", begin, line)
-		if sum += int64(count); err != nil {
-			return sum, err
+		if i > 0 {
+			text = append(text, ",\n"...)
 		}
-		begin = ",\n"
+		text = append(text, written...)
 	}
-	if len(l.commits) == 0 {
-		begin = "["
-	} else {
-		begin = ""
-	}
-	count, err := fmt.Fprintf(w, "%s]\n", begin)
-	return sum + int64(count), err
+	count, err := w.Write(append(text, "]\n"...))
+	return int64(count), err
 }
 
 func name(level concurrency.Isolation) string {

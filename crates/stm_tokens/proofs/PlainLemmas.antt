@@ -1,5 +1,5 @@
 -- Texts without escapes: their bytes stand for themselves.
-use Rattle.std.proofs.Common.{◌≡◌, ◌<◌, ◌+◌, ◌++◌, ℕ, suc, List, ◌∷◌, length, take, get_or, Bool, true, false, not, ◌&&◌, Option, Some, option_and_then, refl, sym, ap, ◌∙◌, subst, arith, IsUtf8}
+use Rattle.std.proofs.Common.{◌≡◌, ◌<◌, ◌+◌, ◌++◌, ℕ, suc, List, [], ◌∷◌, length, take, get_or, Bool, true, false, not, ◌&&◌, Option, Some, option_and_then, refl, sym, ap, ◌∙◌, subst, arith, IsUtf8}
 use Rattle.std.proofs.Math.Seq.{take-suc}
 use Rattle.std.proofs.lemmas.Bool.Decides.{nat_tests}
 use Rattle.std.proofs.lemmas.List.{length-take-le}

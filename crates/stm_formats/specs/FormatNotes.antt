@@ -44,10 +44,12 @@ abbrev pub noted_above : ℕ → ℕ → List (Result Reply Denied) → ℕ
 noted_above count since replies = if nat_le count MOST_KEY_NOTES then 0 else set_up since since replies
 
 -- how many keys are left out
+abbrev pub left_out_note : ℕ → ℕ → List ℕ
+left_out_note above count =
+    joined (codes "keys left out, unchanged since @" ∷ decimal above ∷ codes ": " ∷ decimal count ∷ codes " (script --format lines has all)" ∷ [])
+
 abbrev pub left_out_notes : ℕ → ℕ → List (List ℕ)
-left_out_notes above count =
-    if nat_eq count 0 then []
-    else joined (codes "keys left out, unchanged since @" ∷ decimal above ∷ codes ": " ∷ decimal count ∷ codes " (script --format lines has all)" ∷ []) ∷ []
+left_out_notes above count = if nat_eq count 0 then [] else left_out_note above count ∷ []
 
 abbrev pub noted_keys_above : ℕ → ℕ → History → List (List ℕ) → List (List ℕ)
 noted_keys_above most above h keys = key_notes most above h keys ++ left_out_notes above (length keys - length (key_notes most above h keys))

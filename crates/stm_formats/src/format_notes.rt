@@ -1,7 +1,7 @@
 //! What comes after the rows of a report.
 ghost use Rattle.std.specs.Prelude.{◌≡◌, ◌++◌, ◌-◌, [], ◌∷◌, true, map, length, slice_set, string_bytes, IfOk, OnOk};
 ghost use Rattle.stm_history.specs.History.{key_now};
-ghost use Rattle.stm_formats.specs.FormatNotes.{key_note, notes_of_key, key_notes, is_start, set_up, noted_above, left_out_notes, noted_keys_above, noted_keys, ended_by, ended_after, unfinished_notes};
+ghost use Rattle.stm_formats.specs.FormatNotes.{key_note, notes_of_key, key_notes, is_start, set_up, noted_above, left_out_note, left_out_notes, noted_keys_above, noted_keys, ended_by, ended_after, unfinished_notes};
 ghost use Rattle.stm_formats.specs.FormatNotes.{end_note, notes_of};
 
 use crate::format_label::{RunnerLabel, runner_words};
@@ -109,7 +109,21 @@ fn noted_above(count: usize, since: u64, replies: &[Result<Reply, Denied>]) -> u
     }
 }
 
-/// Adds the note that so many keys are left out, if there are any.
+/// The note of so many keys that are left out.
+fn left_out_note(alloc: Global, above: u64, count: u64) -> Result<Sequence<u8>, AllocError>
+    ensures { IfOk result (λ note. note ≡ left_out_note above count) }
+{
+    let pieces = [
+        Piece::Say("keys left out, unchanged since @"),
+        Piece::Number(above),
+        Piece::Say(": "),
+        Piece::Number(count),
+        Piece::Say(" (script --format lines has all)"),
+    ];
+    said(alloc, &pieces)
+}
+
+/// Adds the note of keys that are left out, if there are any.
 fn push_left_out(
     alloc: Global,
     notes: &mut Vec<Sequence<u8>>,
@@ -121,14 +135,7 @@ fn push_left_out(
     if count == 0 {
         return Ok(());
     }
-    let pieces = [
-        Piece::Say("keys left out, unchanged since @"),
-        Piece::Number(above),
-        Piece::Say(": "),
-        Piece::Number(count),
-        Piece::Say(" (script --format lines has all)"),
-    ];
-    notes.push(said(alloc, &pieces)?)?;
+    notes.push(left_out_note(alloc, above, count)?)?;
     Ok(())
 }
 

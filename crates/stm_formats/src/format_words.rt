@@ -3,6 +3,7 @@ ghost use Rattle.std.specs.Prelude.{◌≡◌, ◌++◌, [], ◌∷◌, codes, o
 ghost use Rattle.stm_texts.specs.Grammar.{level_text};
 ghost use Rattle.stm_formats.specs.FormatWords.{named_words, reported_words, changed_words, called_words, start_words, link, seen_words, as_of, fetched_words, counted_read};
 ghost use Rattle.stm_formats.specs.FormatWords.{reads_after, listed_words, attempt_words, commit_words, compared_words, compared_by, failed_word, at_words, txn_words, revoked_words};
+ghost use Rattle.stm_formats.specs.FormatKeys.{key_words};
 ghost use Rattle.stm_formats.specs.FormatPieces.{joined};
 ghost use Rattle.stm_formats.specs.FormatWords.{advanced_words, from_words, watched_words, watch_words, events_word, batch_words, lost_words, reply_words, asked_word, refused_words, told_words, words_of};
 

@@ -17,6 +17,6 @@ compare_in_either-answer-requires g c = c.in_ok-small.ensures
 pub returns : goal.returns
 returns g c =
     subst (λ (w : World). IsSerialAnswer (record { world = w; others = c.args.others.now }) (after_replies (replies_to c.args.setup.now c.args.world.now) [])
-    c.in_ok-answer-2.answer) c.in_ok-ends.ensures.world
-    (subst (λ (e : Ends). IsSerialAnswer (record { world = c.run_setup.new.world; others = c.args.others.now }) e c.in_ok-answer-2.answer)
-    (c.as_slice.ensures.value ∙ c.in_ok-ends.ensures.ends) c.compare_in_either-answer.ensures)
+    c.in_ok-answer.answer) c.in_ok-ends.ensures.world
+    (subst (λ (e : Ends). IsSerialAnswer (record { world = c.run_setup.new.world; others = c.args.others.now }) e c.in_ok-answer.answer)
+    (c.as_slice.ensures.value ∙ c.in_ok-ends.ensures.ends) c.in_ok-answer.ensures)

@@ -79,7 +79,6 @@ pub fn worlds_are_sound()
 {}
 
 /// A world opens sound, too, where its store opens with keys and leases: the entries that it begins with are the grants of its leases.
-#[tactic(auto, using(crate::proofs::Restored::restored_is_sound))]
 pub fn restored_worlds_are_sound()
     ensures { RestoredWorldsAreSound }
 {}

@@ -8,7 +8,6 @@
 
 mod copies;
 mod gather;
-mod groups;
 mod index;
 mod page;
 mod pending_revision;

@@ -1,4 +1,4 @@
-//! Sources, scenarios as people write them: how they are read.
+//! Sources: scenarios as people write them, and how they are read.
 //!
 //! `specs/Sources.antt` says what bytes spell, or which fault comes first; it stands on `Statements.antt`, `Programs.antt`, `Definitions.antt`,
 //! `Rules.antt`, `Txns.antt` and `Events.antt`, each of which says what is read of tokens, and these on the values and conditions of `stm_terms`.

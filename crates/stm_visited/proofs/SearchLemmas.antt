@@ -348,6 +348,14 @@ pub record HasGoneOn (P M O : Type 0) (s : ℕ → Steps P M O) (layer left next
   pub stand : (rule : ℕ) → StandFor P M O (s rule) next (moved_from_each (s rule) before)
   pub made : (rule : ℕ) → old ≤ now + count_among (s rule) 1 before
 
+pub gone_first : {P M O : Type 0} (s : ℕ → Steps P M O) (layer : List (Reached P M)) (old : ℕ) → HasGoneOn P M O s layer layer [] old old
+gone_first s layer old = record {
+  before = [];
+  split = refl;
+  stand = λ rule. (layers_go_on (s rule) (λ p q. p ≡ q) (alike_to_itself (s rule))).stands [];
+  made = λ rule. omega arith;
+}
+
 pub gone_next : {P M O : Type 0} (s : ℕ → Steps P M O) (layer left next more : List (Reached P M)) (r : Reached P M) (old now then : ℕ) → HasGoneOn P M O s layer (r ∷ left) next old now →
     ((rule : ℕ) (others : List (Reached P M)) → StandFor P M O (s rule) next others → StandFor P M O (s rule) more (others ++ moved_from (s rule) r)) →
     ((rule : ℕ) → now ≤ then + count_among (s rule) 1 (r ∷ [])) → HasGoneOn P M O s layer left more old then

@@ -17,6 +17,7 @@ same_notes most above h number reached (key ∷ keys) =
 
 pub same_noted : (most since : ℕ) (replies : List (Result Reply Denied)) (h : History) (number : ℕ) → number ≤ now h → (keys : List (List ℕ))
     → noted_keys most since replies (cut number h) keys ≡ noted_keys most since replies h keys
+unfolding noted_keys
 same_noted most since replies h number reached keys =
     let above : ℕ = noted_above (length keys) since replies in
     ap (λ (notes : List (List ℕ)). notes ++ left_out_notes above (length keys - length notes)) (same_notes most above h number reached keys)

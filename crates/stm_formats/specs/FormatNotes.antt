@@ -55,7 +55,7 @@ abbrev pub noted_keys_above : ℕ → ℕ → History → List (List ℕ) → Li
 noted_keys_above most above h keys = key_notes most above h keys ++ left_out_notes above (length keys - length (key_notes most above h keys))
 
 -- of keys that are present, where the store was at a revision before these replies
-abbrev pub noted_keys : ℕ → ℕ → List (Result Reply Denied) → History → List (List ℕ) → List (List ℕ)
+unfoldable pub noted_keys : ℕ → ℕ → List (Result Reply Denied) → History → List (List ℕ) → List (List ℕ)
 noted_keys most since replies h keys = noted_keys_above most (noted_above (length keys) since replies) h keys
 
 -- ---- the runners that are unfinished

@@ -157,6 +157,7 @@ fn noted_keys_above(
 }
 
 /// The notes of keys that are present after these replies, before which the store was at a revision.
+#[tactic(auto, unfolding(crate::specs::FormatNotes::noted_keys))]
 fn noted_keys(
     alloc: Global,
     most: u32,

@@ -1,4 +1,4 @@
-//! The hall: a journal that many callers commit to, one call after another.
+//! The hall: a journal that many callers commit to, one call after another, such as threads by turns.
 //!
 //! A hall is what a run on several threads keeps under its one lock. A caller evaluates its program by itself; it
 //! comes to the hall for the answer to a fetch, and with an attempt that is ready to commit. The hall keeps what

@@ -1,5 +1,5 @@
 -- From the comparison of two texts to the judgement on one, and from what was read of the sources to what they have.
-use Rattle.std.proofs.Common.{◌≡◌, ℕ, ◌≤◌, ◌<◌, List, length, take, Bool, true, false, nat_lt, Option, Some, None, Result, Ok, Err, IfSome}
+use Rattle.std.proofs.Common.{◌≡◌, ℕ, ◌≤◌, ◌<◌, List, [], ◌++◌, length, take, Bool, true, false, nat_lt, Option, Some, None, Result, Ok, Err, IfSome}
 use Rattle.std.proofs.Common.{refl, sym, ap, subst, ◌∙◌, arith, take_all, true≢false}
 use Rattle.std.proofs.lemmas.Bool.{ltb-true, ltb-false}
 use Rattle.std.proofs.lemmas.Bool.Decides.{nat_tests}
@@ -8,8 +8,10 @@ use Rattle.stm_json.specs.declared.cause.Cause.TheVariants.{TooLong}
 use Rattle.stm_json.specs.declared.limits.TheConstants.{MOST_BYTES}
 use Rattle.stm_json.specs.Outcome.{Outcome, bad}
 use Rattle.stm_devices.specs.declared.transfer.TheConstants.{MOST_READ}
+use Rattle.stm_texts.specs.Reading.{scenario_in}
 use Rattle.stm_events.specs.declared.line.Report.{Report}
 use Rattle.stm_report_lines.specs.Reading.{report_in}
+use Rattle.stm_report.specs.Script.{IsReportOf}
 use Rattle.stm_check.specs.declared.sources.CheckFault.{CheckFault}
 use Rattle.stm_check.specs.declared.sources.CheckFault.TheVariants.{OutOfMemory, BadScenario, BadReport, Device}
 use Rattle.stm_check.specs.Sources.{Sources, NoneFailed}
@@ -63,6 +65,12 @@ form_judged expected given checked (Err (BadReport fault)) is other form = (form
 form_judged expected given checked (Err Device) is other form = form
 
 -- ---- the report of one source
+
+-- what a script wrote to memory is the report
+pub written : (known : Option (List ℕ)) (held : List ℕ) → IfSome known (λ all. (text : List ℕ) × IsReportOf (scenario_in all) text × (held ≡ [] ++ text))
+    → IfSome known (λ all. IsReportOf (scenario_in all) held)
+written None held wrote = tt
+written (Some all) held (text, is, same) = subst (λ (t : List ℕ). IsReportOf (scenario_in all) t) (sym same) is
 
 -- ---- two sources
 

@@ -2,7 +2,6 @@
 ghost use Rattle.stm_report_laws.specs.FormatLaws.{OneRowAnEvent, OneObjectAnEvent, OneLineARow, KeysApart, NothingUnescaped};
 
 /// A run has one row for each event, in text and in the picture, numbered in their order from 1.
-#[tactic(auto, using(crate::proofs::FormatOneRow::one_row_an_event))]
 pub fn one_row_an_event()
     ensures { OneRowAnEvent }
 {}

@@ -9,7 +9,6 @@ pub fn alike_is_equal()
 
 /// A check of a whole report that comes to an answer says yes exactly where the text is the report that `script` writes for the
 /// scenario, for texts of at most 16777216 bytes.
-#[tactic(auto, using(crate::proofs::WholeReportLaws::yes_is_the_report))]
 pub fn yes_is_the_report()
     ensures { YesIsTheReport }
 {}

@@ -10,7 +10,6 @@ pub fn replies_tell_revisions()
 
 /// Each cause that is told of a key is the first change of it since the revision as of which it was seen, and the event that is named has made it, by the
 /// store's revision before the first event and after each. Where the key has not changed since then, none is told.
-#[tactic(auto, using(crate::proofs::Making::causes_are_first_changes))]
 pub fn causes_are_first_changes()
     ensures { CausesAreFirstChanges }
 {}

@@ -4,7 +4,6 @@ ghost use Rattle.stm_world_laws.specs.Readers.{HoldersAreRead};
 ghost use Rattle.stm_world_laws.specs.WrongEntries.{WrongReservations};
 
 /// A reservation at a level that compares commits only where the slot is free, and then the slot is its holder's, on its lease.
-#[tactic(auto, using(crate::proofs::SlotLemmas::reservations_take_free_slots))]
 pub fn reservations_take_free_slots()
     ensures { ReservationsTakeFreeSlots }
 {}

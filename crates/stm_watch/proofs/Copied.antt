@@ -1,10 +1,13 @@
 -- What copies of the tables and of the pages keep.
-use Rattle.std.proofs.Common.{◌≡◌, ℕ, cond, List, [], ◌∷◌, Some, String, refl, sym, ap, subst, ◌∙◌, inl, inr}
+use Rattle.std.proofs.Common.{◌≡◌, ℕ, zero, suc, cond, List, Option, [], ◌∷◌, Some, String, refl, sym, ap, subst, ◌∙◌, inl, inr}
 use Rattle.std.specs.Prelude.{bytes_eq, string_bytes}
 use Rattle.std.specs.List.{AllZip}
 use Rattle.std.specs.Map.{lookup}
 use Rattle.stm_watch.specs.declared.page.Page.{Page}
-use Rattle.stm_watch.specs.Pages.{IsOneOf, Keeps}
+use Rattle.stm_watch.specs.declared.page.RangeEntry.{RangeEntry}
+use Rattle.stm_watch.specs.declared.ranges.Ranges.{Ranges}
+use Rattle.stm_watch.specs.declared.watched.Watcher.{Watcher}
+use Rattle.stm_watch.specs.Pages.{HasEntry, IsOneOf, Keeps, pages_at}
 use Rattle.stm_watch.proofs.Entered.{unsettled}
 
 -- copies of texts and numbers are found like their originals
@@ -31,3 +34,11 @@ keeps_copied (page ∷ pages) (copy ∷ copies) p ws e has =
       | inl here ↦ inl (unsettled ws e copy p.0.0 (subst (IsOneOf e) (sym p.0.1) here.there))
       | inr there ↦ inr (keeps_copied pages copies p.1 ws e there)
     ]
+
+pub groups_copied : (groups copies : List Ranges) → AllZip (λ group copy. Keeps group.pages.items copy.pages.items) groups copies
+    → (ws : List (Option Watcher)) (g : ℕ) (e : RangeEntry) → HasEntry ws (pages_at groups g) e → HasEntry ws (pages_at copies g) e
+groups_copied [] [] p ws g e has = has
+groups_copied [] (copy ∷ copies) p ws g e has = absurd p
+groups_copied (group ∷ groups) [] p ws g e has = absurd p
+groups_copied (group ∷ groups) (copy ∷ copies) p ws zero e has = p.0 ws e has
+groups_copied (group ∷ groups) (copy ∷ copies) p ws (suc g) e has = groups_copied groups copies p.1 ws g e has

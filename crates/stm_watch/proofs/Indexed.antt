@@ -1,18 +1,15 @@
 -- The index of watchers after each change.
-use Rattle.std.proofs.Common.{◌≡◌, ◌≢◌, ◌⊎◌, ℕ, ◌<◌, ◌+◌, ◌-◌, nat_eq, ne_eqb, arith, Bool, true, false, cond, List, [], ◌∷◌, ◌++◌, length, Option, Some}
+use Rattle.std.proofs.Common.{◌≡◌, ℕ, ◌<◌, ◌+◌, ◌-◌, nat_eq, ne_eqb, arith, Bool, true, false, cond, List, [], ◌∷◌, ◌++◌, length, Option, Some}
 use Rattle.std.proofs.Common.{None, IsSome, is_some, unwrap_or, slice_index_or, slice_set, refl, sym, ap, subst, ◌∙◌, inl, inr, length-append}
 use Rattle.std.proofs.lemmas.Bool.{cases_Bool, cases_eq}
 use Rattle.std.proofs.lemmas.List.{get_or-set_same, get_or-set_other, get_or_append_left, length-set}
 use Rattle.std.proofs.lemmas.Option.{same_Some}
-use Rattle.std.proofs.lemmas.Slice.Eq.{bytes_eq-Decides}
 use Rattle.std.proofs.Math.Seq.{get_or-append_seam}
-use Rattle.std.specs.Str.{bytes_eq}
-use Rattle.stm_lists.specs.Lists.{Lists, Place, list_at, entries_at, HasList, HasNode, StandsAt, Updates, first_node}
-use Rattle.stm_watch.specs.declared.watched.Watched.{Watched}
-use Rattle.stm_watch.specs.declared.watched.Watched.TheVariants.{Key, Range}
+use Rattle.stm_lists.specs.Lists.{Lists, Place, entries_at, HasList, HasNode, StandsAt, Updates, first_node}
+use Rattle.stm_watch.specs.declared.watched.Watched.TheVariants.{Key}
 use Rattle.stm_watch.specs.declared.watched.Watcher.{Watcher}
 use Rattle.stm_watch.specs.Calls.{is_ready, IsNextReady}
-use Rattle.stm_watch.specs.Kept.{Holds, AreListed, AreCovered, list_in, list_among}
+use Rattle.stm_watch.specs.Kept.{Holds, AreListed, AreCovered, list_among}
 use Rattle.stm_watch.proofs.At.{within, read_at, slot_of_more, set_twice}
 use Rattle.stm_watch.proofs.Linked.{place_on, front_on, no_front, more_new, more_kept, more_from, more_there, less_kept, less_from, less_there}
 
@@ -23,19 +20,17 @@ some_is (Some x) some = (x, refl)
 -- ---- the lists of watchers
 
 -- nothing but room changed
-listed_same : (old new : Lists ℕ) (lists_of new_lists_of : Watcher → Option ℕ) (nodes new_nodes : List (Option ℕ)) (ws : List (Option Watcher))
-    → new.lists ≡ old.lists → ((w : Watcher) → new_lists_of w ≡ lists_of w) → new_nodes ≡ nodes → AreListed old lists_of nodes ws
-    → AreListed new new_lists_of new_nodes ws
-listed_same old new lists_of new_lists_of nodes new_nodes ws same_lists same_for same_nodes listed =
+listed_same : (old new : Lists ℕ) (lists_of : Watcher → Option ℕ) (nodes new_nodes : List (Option ℕ)) (ws : List (Option Watcher))
+    → new.lists ≡ old.lists → new_nodes ≡ nodes → AreListed old lists_of nodes ws → AreListed new lists_of new_nodes ws
+listed_same old new lists_of nodes new_nodes ws same_lists same_nodes listed =
     record {
       long = ap length same_nodes ∙ listed.long;
-      there = λ w l is. subst (λ ls. IsSome (slice_index_or ls l None)) (sym same_lists) (listed.there w l (sym (same_for w) ∙ is));
+      there = λ w l is. subst (λ ls. IsSome (slice_index_or ls l None)) (sym same_lists) (listed.there w l is);
       stands = λ i w at.
           let had = listed.stands i w at in (
             had.0,
             had.1,
-            same_for w
-                ∙ had.2,
+            had.2,
             ap (λ ns. slice_index_or ns i None) same_nodes
                 ∙ had.3,
             subst (λ ls. Holds (unwrap_or (slice_index_or ls had.0 None) []) had.1 i) (sym same_lists) had.4,
@@ -46,48 +41,9 @@ listed_same old new lists_of new_lists_of nodes new_nodes ws same_lists same_for
                 ∙ had.0,
             had.1,
             had.2,
-            same_for had.1
-                ∙ had.3,
+            had.3,
           );
     }
-
--- there is one list more
-listed_new : (old new : Lists ℕ) (lists_of new_lists_of : Watcher → Option ℕ) (nodes : List (Option ℕ)) (ws : List (Option Watcher)) (list : ℕ)
-    → list_at old list ≡ None → Updates old new list (Some [])
-    → ((w : Watcher) (l : ℕ) → lists_of w ≡ Some l → new_lists_of w ≡ Some l)
-    → ((w : Watcher) (l : ℕ) → new_lists_of w ≡ Some l → (l ≡ list) ⊎ (lists_of w ≡ Some l))
-    → AreListed old lists_of nodes ws → AreListed new new_lists_of nodes ws
-listed_new old new lists_of new_lists_of nodes ws list fresh updates to from listed =
-    record {
-      long = listed.long;
-      there = λ w l is. elim (from w l is) [
-        | inl same ↦ subst (HasList new) (sym same) (subst IsSome (sym updates.changed) refl)
-        | inr before ↦ still l (listed.there w l before)
-      ];
-      stands = λ i w at.
-          let had = listed.stands i w at in
-          (had.0, had.1, to w had.0 had.2, had.3, kept had.0 had.1 i had.4);
-      only = λ l n i h. elim (cases_eq l list) [
-        | inl same ↦ absurd (subst (λ (xs : List (ℕ × ℕ)). Holds xs n i) (ap (λ o. unwrap_or o []) updates.changed)
-            (subst (λ (k : ℕ). Holds (entries_at new k) n i) same h))
-        | inr differs ↦
-            let had = listed.only l n i (subst (λ (xs : List (ℕ × ℕ)). Holds xs n i) (ap (λ o. unwrap_or o []) (updates.others l differs)) h) in
-            (had.0, had.1, had.2, to had.1 l had.3)
-      ];
-    }
-  where
-    still : (l : ℕ) → HasList old l → HasList new l
-    still l has = elim (cases_eq l list) [
-      | inl same ↦ subst (HasList new) (sym same) (subst IsSome (sym updates.changed) refl)
-      | inr differs ↦ subst IsSome (sym (updates.others l differs)) has
-    ]
-
-    kept : (l n i : ℕ) → Holds (entries_at old l) n i → Holds (entries_at new l) n i
-    kept l n i h = elim (cases_eq l list) [
-      | inl same ↦ absurd (subst (λ (xs : List (ℕ × ℕ)). Holds xs n i) (ap (λ o. unwrap_or o []) fresh)
-          (subst (λ (k : ℕ). Holds (entries_at old k) n i) same h))
-      | inr differs ↦ subst (λ (xs : List (ℕ × ℕ)). Holds xs n i) (sym (ap (λ o. unwrap_or o []) (updates.others l differs))) h
-    ]
 
 -- one watcher more
 listed_more : (old new : Lists ℕ) (lists_of : Watcher → Option ℕ) (nodes : List (Option ℕ)) (ws : List (Option Watcher)) (list node : ℕ) (w : Watcher)
@@ -261,209 +217,67 @@ listed_again old new lists_of nodes ws list node i w listed below none is update
     set_here : slice_index_or (slice_set ws i (Some w)) i None ≡ Some w
     set_here = get_or-set_same ws i (Some w) None (subst (λ (n : ℕ). i < n) listed.long below)
 
--- ---- the lists of keys
-
--- which lists there are after a key got one
-lists_to : (of_key new_of_key : List ℕ → Option ℕ) (ranges list : ℕ) (key : List ℕ) → of_key key ≡ None
-    → ((q : List ℕ) → new_of_key q ≡ cond (bytes_eq key q) (Some list) (of_key q))
-    → (watched : Watched) (l : ℕ) → list_in of_key ranges watched ≡ Some l → list_in new_of_key ranges watched ≡ Some l
-lists_to of_key new_of_key ranges list key none keys (Range first end) l is = is
-lists_to of_key new_of_key ranges list key none keys (Key q) l is = elim (cases_Bool (bytes_eq key q)) [
-  | inl same ↦ let never = ap of_key (sym ((bytes_eq-Decides key q).0 same)) ∙ none in absurd (cc)
-  | inr differs ↦ keys q ∙ ap (λ b. cond b (Some list) (of_key q)) differs ∙ is
-]
-
-lists_from : (of_key new_of_key : List ℕ → Option ℕ) (ranges list : ℕ) (key : List ℕ)
-    → ((q : List ℕ) → new_of_key q ≡ cond (bytes_eq key q) (Some list) (of_key q))
-    → (watched : Watched) (l : ℕ) → list_in new_of_key ranges watched ≡ Some l → (l ≡ list) ⊎ (list_in of_key ranges watched ≡ Some l)
-lists_from of_key new_of_key ranges list key keys (Range first end) l is = inr is
-lists_from of_key new_of_key ranges list key keys (Key q) l is = elim (cases_Bool (bytes_eq key q)) [
-  | inl same ↦ inl (sym (same_Some list l (sym (ap (λ b. cond b (Some list) (of_key q)) same) ∙ sym (keys q) ∙ is)))
-  | inr differs ↦ inr (sym (ap (λ b. cond b (Some list) (of_key q)) differs) ∙ sym (keys q) ∙ is)
-]
-
-lists_same : (of_key new_of_key : List ℕ → Option ℕ) (ranges : ℕ) → ((q : List ℕ) → new_of_key q ≡ of_key q)
-    → (watched : Watched) → list_in new_of_key ranges watched ≡ list_in of_key ranges watched
-lists_same of_key new_of_key ranges same (Key q) = same q
-lists_same of_key new_of_key ranges same (Range first end) = refl
-
--- the same of the lists on which watchers stand
-among_to : (ready l : ℕ) (idle new_idle : Option ℕ) (b : Bool) → (idle ≡ Some l → new_idle ≡ Some l) → cond b (Some ready) idle ≡ Some l
-    → cond b (Some ready) new_idle ≡ Some l
-among_to ready l idle new_idle true to is = is
-among_to ready l idle new_idle false to is = to is
-
-among_from : (ready list l : ℕ) (idle new_idle : Option ℕ) (b : Bool) → (new_idle ≡ Some l → (l ≡ list) ⊎ (idle ≡ Some l))
-    → cond b (Some ready) new_idle ≡ Some l → (l ≡ list) ⊎ (cond b (Some ready) idle ≡ Some l)
-among_from ready list l idle new_idle true from is = inr is
-among_from ready list l idle new_idle false from is = from is
-
--- a list that is looked for with success is there
-some_to : (o p : Option ℕ) → ((l : ℕ) → o ≡ Some l → p ≡ Some l) → IsSome o → IsSome p
-some_to o p to some = let is = some_is o some in subst IsSome (sym (to is.0 is.1)) refl
-
 -- ---- all watchers
 
--- no watchers
-pub covered_none : (none one two : Lists ℕ) (of_key : List ℕ → Option ℕ) (ranges ready : ℕ) → none.lists ≡ [] → Updates none one ranges (Some [])
-    → list_at one ready ≡ None → Updates one two ready (Some []) → ((q : List ℕ) → of_key q ≡ None) → AreCovered two of_key ranges ready [] []
-covered_none none one two of_key ranges ready empty first fresh second keys = record {
-  listed = record {
-    long = refl;
-    there = λ w l is. there_by l (is_some w.first) w.watched is;
-    stands = λ i w at. absurd (cc);
-    only = λ l n i h. absurd (subst (λ (xs : List (ℕ × ℕ)). Holds xs n i) (entries l) h);
-  };
-  waiting = λ i w at. absurd (cc);
-  apart = apart_by;
-}
-  where
-    differs : ranges ≢ ready
-    differs same =
-        let some : IsSome (list_at one ready) = subst (HasList one) same (subst IsSome (sym first.changed) refl) in
-        let never : IsSome {T = List (ℕ × ℕ)} None = subst IsSome fresh some in
-        absurd (cc)
-
-    ranges_there : list_at two ranges ≡ Some []
-    ranges_there = second.others ranges differs ∙ first.changed
-
-    entries : (l : ℕ) → entries_at two l ≡ []
-    entries l = elim (cases_eq l ready) [
-      | inl same ↦ ap (λ (k : ℕ). entries_at two k) same ∙ ap (λ o. unwrap_or o []) second.changed
-      | inr other ↦ elim (cases_eq l ranges) [
-        | inl same ↦ ap (λ (k : ℕ). entries_at two k) same ∙ ap (λ o. unwrap_or o []) ranges_there
-        | inr apart ↦
-            ap (λ o. unwrap_or o []) (second.others l other ∙ first.others l apart) ∙ ap (λ ls. unwrap_or (slice_index_or ls l None) []) empty
-      ]
-    ]
-
-    there_by : (l : ℕ) (b : Bool) (watched : Watched) → cond b (Some ready) (list_in of_key ranges watched) ≡ Some l → HasList two l
-    there_by l true watched is = subst (HasList two) (same_Some ready l is) (subst IsSome (sym second.changed) refl)
-    there_by l false (Key key) is = let never : None ≡ Some l = sym (keys key) ∙ is in absurd (cc)
-    there_by l false (Range low high) is = subst (HasList two) (same_Some ranges l is) (subst IsSome (sym ranges_there) refl)
-
-    apart_by : (watched : Watched) → list_in of_key ranges watched ≢ Some ready
-    apart_by (Key key) is = let never : None ≡ Some ready = sym (keys key) ∙ is in absurd (cc)
-    apart_by (Range low high) is = differs (same_Some ranges ready is)
-
-module _ (of_key : List ℕ → Option ℕ) (ranges ready : ℕ) where
-  -- the lists of ready and of idle watchers are there
-  pub ready_there : (lists : Lists ℕ) (nodes : List (Option ℕ)) (ws : List (Option Watcher)) → AreCovered lists of_key ranges ready nodes ws → HasList lists ready
+module _ (idle ready : ℕ) where
+  -- the list of the ready watchers is there
+  pub ready_there : (lists : Lists ℕ) (nodes : List (Option ℕ)) (ws : List (Option Watcher)) → AreCovered lists idle ready nodes ws → HasList lists ready
   ready_there lists nodes ws covered = covered.listed.there (record { watched = Key []; seen = 0; first = Some 0 }) ready refl
 
-  pub idle_there : (lists : Lists ℕ) (nodes : List (Option ℕ)) (ws : List (Option Watcher)) (watched : Watched) (list : ℕ) → AreCovered lists of_key ranges ready nodes ws
-      → list_in of_key ranges watched ≡ Some list → HasList lists list
-  idle_there lists nodes ws watched list covered is = covered.listed.there (record { watched = watched; seen = 0; first = None }) list is
-
-  pub covered_same : (old new : Lists ℕ) (new_of_key : List ℕ → Option ℕ) (nodes new_nodes : List (Option ℕ)) (ws : List (Option Watcher))
-      → new.lists ≡ old.lists → ((q : List ℕ) → new_of_key q ≡ of_key q) → new_nodes ≡ nodes
-      → AreCovered old of_key ranges ready nodes ws → AreCovered new new_of_key ranges ready new_nodes ws
-  covered_same old new new_of_key nodes new_nodes ws same_lists same_keys same_nodes covered = record {
-    listed = listed_same old new (list_among of_key ranges ready) (list_among new_of_key ranges ready) nodes new_nodes ws same_lists
-        (λ w. ap (cond (is_some w.first) (Some ready)) (lists_same of_key new_of_key ranges same_keys w.watched)) same_nodes covered.listed;
-    waiting = λ i w at. subst IsSome (sym (lists_same of_key new_of_key ranges same_keys w.watched)) (covered.waiting i w at);
-    apart = λ watched is. covered.apart watched (sym (lists_same of_key new_of_key ranges same_keys watched) ∙ is);
-  }
-
-  -- a key gets a list
-  pub covered_new : (old new : Lists ℕ) (new_of_key : List ℕ → Option ℕ) (nodes : List (Option ℕ)) (ws : List (Option Watcher)) (list : ℕ) (key : List ℕ)
-      → of_key key ≡ None → ((q : List ℕ) → new_of_key q ≡ cond (bytes_eq key q) (Some list) (of_key q))
-      → list_at old list ≡ None → Updates old new list (Some [])
-      → AreCovered old of_key ranges ready nodes ws → AreCovered new new_of_key ranges ready nodes ws
-  covered_new old new new_of_key nodes ws list key none keys fresh updates covered = record {
-    listed = listed_new old new (list_among of_key ranges ready) (list_among new_of_key ranges ready) nodes ws list fresh updates
-        (λ w l. among_to ready l (list_in of_key ranges w.watched) (list_in new_of_key ranges w.watched) (is_some w.first)
-        (lists_to of_key new_of_key ranges list key none keys w.watched l))
-        (λ w l. among_from ready list l (list_in of_key ranges w.watched) (list_in new_of_key ranges w.watched) (is_some w.first)
-        (lists_from of_key new_of_key ranges list key keys w.watched l))
-        covered.listed;
-    waiting = λ i w at. some_to (list_in of_key ranges w.watched) (list_in new_of_key ranges w.watched)
-        (lists_to of_key new_of_key ranges list key none keys w.watched) (covered.waiting i w at);
-    apart = λ watched is. elim (lists_from of_key new_of_key ranges list key keys watched ready is) [
-      | inl same ↦
-          let there : IsSome (list_at old list) = subst (HasList old) same (ready_there old nodes ws covered) in
-          let never : IsSome {T = List (ℕ × ℕ)} None = subst IsSome fresh there in
-          absurd (cc)
-      | inr before ↦ covered.apart watched before
-    ];
+  pub covered_same : (old new : Lists ℕ) (nodes new_nodes : List (Option ℕ)) (ws : List (Option Watcher)) → new.lists ≡ old.lists → new_nodes ≡ nodes
+      → AreCovered old idle ready nodes ws → AreCovered new idle ready new_nodes ws
+  covered_same old new nodes new_nodes ws same_lists same_nodes covered = record {
+    listed = listed_same old new (list_among idle ready) nodes new_nodes ws same_lists same_nodes covered.listed;
+    apart = covered.apart;
   }
 
   -- one watcher more
   pub covered_more : (old new : Lists ℕ) (nodes : List (Option ℕ)) (ws : List (Option Watcher)) (list node : ℕ) (w : Watcher)
-      → AreCovered old of_key ranges ready nodes ws → list_among of_key ranges ready w ≡ Some list → IsSome (list_in of_key ranges w.watched)
+      → AreCovered old idle ready nodes ws → list_among idle ready w ≡ Some list
       → Updates old new list (Some (entries_at old list ++ (node, length nodes) ∷ []))
-      → AreCovered new of_key ranges ready (nodes ++ Some node ∷ []) (ws ++ Some w ∷ [])
-  covered_more old new nodes ws list node w covered is waits updates = record {
-    listed = listed_more old new (list_among of_key ranges ready) nodes ws list node w covered.listed is updates;
-    waiting = λ i v at. elim (slot_of_more ws w v i at) [
-      | inl before ↦ covered.waiting i v before
-      | inr here ↦ subst (λ (x : Watcher). IsSome (list_in of_key ranges x.watched)) here.1 waits
-    ];
+      → AreCovered new idle ready (nodes ++ Some node ∷ []) (ws ++ Some w ∷ [])
+  covered_more old new nodes ws list node w covered is updates = record {
+    listed = listed_more old new (list_among idle ready) nodes ws list node w covered.listed is updates;
     apart = covered.apart;
   }
 
   pub covered_node : (lists : Lists ℕ) (nodes : List (Option ℕ)) (ws : List (Option Watcher)) (i node : ℕ) (o : Option ℕ)
-      → AreCovered lists of_key ranges ready nodes ws → IsSome (slice_index_or ws i None) → o ≡ slice_index_or nodes i o → o ≡ Some node
+      → AreCovered lists idle ready nodes ws → IsSome (slice_index_or ws i None) → o ≡ slice_index_or nodes i o → o ≡ Some node
       → (list : ℕ) × (slice_index_or nodes i None ≡ Some node) × Holds (entries_at lists list) node i
-  covered_node lists nodes ws i node o covered some at is = listed_node lists (list_among of_key ranges ready) nodes ws i node o covered.listed some at is
+  covered_node lists nodes ws i node o covered some at is = listed_node lists (list_among idle ready) nodes ws i node o covered.listed some at is
 
   -- one watcher less
   pub covered_less : (old new : Lists ℕ) (nodes : List (Option ℕ)) (ws : List (Option Watcher)) (i node list : ℕ)
-      → AreCovered old of_key ranges ready nodes ws → slice_index_or nodes i None ≡ Some node → Holds (entries_at old list) node i
+      → AreCovered old idle ready nodes ws → slice_index_or nodes i None ≡ Some node → Holds (entries_at old list) node i
       → ((place : Place ℕ) → StandsAt old node place → Updates old new place.list (Some (place.before ++ place.after)))
-      → (HasNode new node → ⊥) → i < length ws → AreCovered new of_key ranges ready (slice_set nodes i None) (slice_set ws i None)
+      → (HasNode new node → ⊥) → i < length ws → AreCovered new idle ready (slice_set nodes i None) (slice_set ws i None)
   covered_less old new nodes ws i node list covered at holds unlinked gone below = record {
-    listed = listed_less old new (list_among of_key ranges ready) nodes ws i node list covered.listed at holds unlinked gone below;
-    waiting = λ j v is. elim (cases_eq j i) [
-      | inl same ↦
-          let none : slice_index_or (slice_set ws i None) i None ≡ None = get_or-set_same ws i None None below in
-          let some : slice_index_or (slice_set ws i None) i None ≡ Some v = subst (λ (n : ℕ). slice_index_or (slice_set ws i None) n None ≡ Some v) same is in
-          absurd (cc)
-      | inr differs ↦ covered.waiting j v (sym (get_or-set_other ws i j None None differs) ∙ is)
-    ];
+    listed = listed_less old new (list_among idle ready) nodes ws i node list covered.listed at holds unlinked gone below;
     apart = covered.apart;
   }
 
   -- a watcher at a place where none is
   pub covered_again : (old new : Lists ℕ) (nodes : List (Option ℕ)) (ws : List (Option Watcher)) (list node i : ℕ) (w : Watcher)
-      → AreCovered old of_key ranges ready (slice_set nodes i None) (slice_set ws i None) → i < length nodes → i < length ws
-      → list_among of_key ranges ready w ≡ Some list → IsSome (list_in of_key ranges w.watched)
+      → AreCovered old idle ready (slice_set nodes i None) (slice_set ws i None) → i < length nodes → list_among idle ready w ≡ Some list
       → Updates old new list (Some (entries_at old list ++ (node, i) ∷ []))
-      → AreCovered new of_key ranges ready (slice_set nodes i (Some node)) (slice_set ws i (Some w))
-  covered_again old new nodes ws list node i w covered below there is waits updates =
-      subst (λ ns. AreCovered new of_key ranges ready ns (slice_set ws i (Some w))) (set_twice nodes i None (Some node))
-      (subst (AreCovered new of_key ranges ready (slice_set (slice_set nodes i None) i (Some node))) (set_twice ws i None (Some w))
+      → AreCovered new idle ready (slice_set nodes i (Some node)) (slice_set ws i (Some w))
+  covered_again old new nodes ws list node i w covered below is updates =
+      subst (λ ns. AreCovered new idle ready ns (slice_set ws i (Some w))) (set_twice nodes i None (Some node))
+      (subst (AreCovered new idle ready (slice_set (slice_set nodes i None) i (Some node))) (set_twice ws i None (Some w))
       (record {
-        listed = listed_again old new (list_among of_key ranges ready) (slice_set nodes i None) (slice_set ws i None) list node i w covered.listed
+        listed = listed_again old new (list_among idle ready) (slice_set nodes i None) (slice_set ws i None) list node i w covered.listed
             (subst (λ (n : ℕ). i < n) (sym (length-set nodes i None)) below) (get_or-set_same nodes i None None below) is updates;
-        waiting = λ j v at. elim (cases_eq j i) [
-          | inl same ↦
-              let here : w ≡ v = same_Some w v (sym (get_or-set_same (slice_set ws i None) i (Some w) None
-              (subst (λ (n : ℕ). i < n) (sym (length-set ws i None)) there))
-              ∙ subst (λ (k : ℕ). slice_index_or (slice_set (slice_set ws i None) i (Some w)) k None ≡ Some v) same at) in
-              subst (λ (x : Watcher). IsSome (list_in of_key ranges x.watched)) here waits
-          | inr differs ↦ covered.waiting j v (sym (get_or-set_other (slice_set ws i None) i j (Some w) None differs) ∙ at)
-        ];
         apart = covered.apart;
       }))
 
   -- ---- one that is ready
 
-  module _ (lists : Lists ℕ) (nodes : List (Option ℕ)) (ws : List (Option Watcher)) (covered : AreCovered lists of_key ranges ready nodes ws) where
-    -- a watcher on an idle list is idle, and one on the list of the ready ones is ready
-    pub is_idle : (w : Watcher) (watched : Watched) (list : ℕ) → list_in of_key ranges watched ≡ Some list → list_among of_key ranges ready w ≡ Some list
-        → is_some w.first ≡ false
-    is_idle w watched list idle is = elim (cases_Bool (is_some w.first)) [
-      | inl some ↦
-          let same : ready ≡ list = same_Some ready list (sym (ap (λ b. cond b (Some ready) (list_in of_key ranges w.watched)) some) ∙ is) in
-          absurd (covered.apart watched (idle ∙ ap Some (sym same)))
-      | inr none ↦ none
-    ]
-
-    on_ready : (w : Watcher) → list_among of_key ranges ready w ≡ Some ready → is_some w.first ≡ true
+  module _ (lists : Lists ℕ) (nodes : List (Option ℕ)) (ws : List (Option Watcher)) (covered : AreCovered lists idle ready nodes ws) where
+    -- a watcher on the list of the ready ones is ready
+    on_ready : (w : Watcher) → list_among idle ready w ≡ Some ready → is_some w.first ≡ true
     on_ready w is = elim (cases_Bool (is_some w.first)) [
       | inl some ↦ some
-      | inr none ↦ absurd (covered.apart w.watched (sym (ap (λ b. cond b (Some ready) (list_in of_key ranges w.watched)) none) ∙ is))
+      | inr none ↦ absurd (covered.apart (same_Some idle ready (sym (ap (λ b. cond b (Some ready) (Some idle)) none) ∙ is)))
     ]
 
     none_ready : first_node (entries_at lists ready) ≡ None → (i : ℕ) → is_ready (slice_index_or ws i None) ≡ false
@@ -475,7 +289,7 @@ module _ (of_key : List ℕ → Option ℕ) (ranges ready : ℕ) where
           | inl some ↦
               let had = covered.listed.stands i w is in
               let same : ready ≡ had.0 =
-              same_Some ready had.0 (sym (ap (λ b. cond b (Some ready) (list_in of_key ranges w.watched)) some) ∙ had.2) in
+              same_Some ready had.0 (sym (ap (λ b. cond b (Some ready) (Some idle)) some) ∙ had.2) in
               absurd (no_front lists ready had.1 i none (subst (λ (l : ℕ). Holds (entries_at lists l) had.1 i) (sym same) had.4))
           | inr idle ↦ ap is_ready is ∙ idle
         ]

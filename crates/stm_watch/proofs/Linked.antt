@@ -73,11 +73,6 @@ place_on s list node i h =
       number = refl;
     }
 
-pub holds_at : (s : Lists ℕ) (node : ℕ) (place : Place ℕ) → StandsAt s node place → Holds (entries_at s place.list) node place.value
-holds_at s node place stands =
-    subst (λ xs. Holds xs node place.value) (sym (ap (λ o. unwrap_or o []) stands.stands))
-    (holds-right node place.value place.before ((node, place.value) ∷ place.after) (inl (refl, refl)))
-
 pub node_on : (s : Lists ℕ) (list node i : ℕ) → Holds (entries_at s list) node i → HasNode s node
 node_on s list node i h = let on = place_on s list node i h in (on.place, on.stands)
 

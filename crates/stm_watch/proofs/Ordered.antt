@@ -1,20 +1,22 @@
 -- Keys in the order of their bytes, and the bounds of ranges.
-use Rattle.std.proofs.Common.{◌≡◌, ◌⊎◌, ◌<◌, ℕ, Bool, true, false, ◌&&◌, ◌||◌, List, refl, sym, ap, ◌∙◌, inl, inr}
+use Rattle.std.proofs.Common.{◌≡◌, ◌⊎◌, ◌<◌, ℕ, Bool, true, false, ◌&&◌, ◌||◌, List, [], ◌∷◌, ◌++◌, refl, sym, ap, subst, ◌∙◌, inl, inr}
 use Rattle.std.specs.Prelude.{nat_lt}
 use Rattle.std.proofs.Math.Bool.{or-true}
 use Rattle.std.proofs.lemmas.Bool.{lt-ltb}
-use Rattle.std.proofs.lemmas.Cmp.{nat_list_cmp_total}
+use Rattle.std.proofs.lemmas.Cmp.{nat_list_cmp_total, nat_cmp_total}
+use Rattle.std.proofs.lemmas.Slice.Eq.{bytes_eq-Decides}
 use Rattle.std.specs.Cmp.{upto, tied_itself, alike_right}
 use Rattle.std.specs.Cmp.Lexicographic.{slice_cmp}
 use Rattle.std.specs.declared.cmp.Ordering.{Ordering}
 use Rattle.std.specs.declared.cmp.Ordering.TheVariants.{Less, Equal, Greater}
-use Rattle.std.specs.Ordering.{nat_cmp, is_lt, is_le, is_gt, ordering_reverse}
+use Rattle.std.specs.Ordering.{nat_cmp, is_lt, is_le, is_gt, ordering_reverse, ordering_then}
 use Rattle.stm_watch.specs.declared.page.Bounds.{Bounds}
 use Rattle.stm_watch.specs.declared.page.RangeEntry.{RangeEntry}
 use Rattle.stm_watch.specs.declared.page.Reach.{Reach}
-use Rattle.stm_watch.specs.declared.watched.Watched.TheVariants.{Range}
-use Rattle.stm_watch.specs.Keys.{is_watched}
-use Rattle.stm_watch.specs.Pages.{IsWithin}
+use Rattle.stm_watch.specs.declared.watched.Watched.{Watched}
+use Rattle.stm_watch.specs.declared.watched.Watched.TheVariants.{Key, Range}
+use Rattle.stm_watch.specs.Keys.{is_watched, first_key}
+use Rattle.stm_watch.specs.Pages.{IsWithin, HasAll, end_of}
 
 -- ---- one comparison
 
@@ -97,3 +99,20 @@ is_concerned e reach revision key has looked =
       | inl past ↦ ap (λ b. b || is_watched (Range reach.bounds.low reach.bounds.high) key) (lt-ltb reach.until revision past)
       | inr within ↦ ap (λ b. nat_lt reach.until revision || b) (in_bounds e reach.bounds key within has) ∙ or-true (nat_lt reach.until revision)
     ]
+
+-- ---- a range of one key
+
+then_less : (x : ℕ) (r : Ordering) → is_lt r ≡ true → is_lt (ordering_then (nat_cmp x x) r) ≡ true
+then_less x r lt = ap (λ o. is_lt (ordering_then o r)) (tied_itself nat_cmp_total x) ∙ lt
+
+below_longer : (key : List ℕ) (last : ℕ) → is_lt (slice_cmp nat_cmp key (key ++ last ∷ [])) ≡ true
+below_longer [] last = refl
+below_longer (x ∷ key) last = then_less x (slice_cmp nat_cmp key (key ++ last ∷ [])) (below_longer key last)
+
+-- a range has all keys that it is made for
+pub has_its_own : (watched : Watched) (place : ℕ)
+    → HasAll (let e : RangeEntry = record { first = first_key watched; end = end_of watched; place = place } in e) watched
+has_its_own (Range first end) place key is = is
+has_its_own (Key k) place key is =
+    subst (λ (l : List ℕ). is_watched (Range k (k ++ 0 ∷ [])) l ≡ true) ((bytes_eq-Decides k key).0 is)
+    (ap (λ b. b && is_lt (slice_cmp nat_cmp k (k ++ 0 ∷ []))) (le_itself k) ∙ below_longer k 0)

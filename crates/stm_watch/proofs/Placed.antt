@@ -1,5 +1,5 @@
 -- What a poll makes of the watchers at all places.
-use Rattle.std.proofs.Common.{◌≡◌, ℕ, ◌-◌, Bool, true, false, cond, List, Option, Some, None, IsSome, IfSome, IsOk, option_map, slice_index_or, slice_set}
+use Rattle.std.proofs.Common.{◌≡◌, ℕ, ◌-◌, Bool, true, false, cond, List, Option, Some, None, IsSome, IfSome, option_map, slice_index_or, slice_set}
 use Rattle.std.proofs.Common.{Result, Ok, Err, OnErr, refl, sym, ap, subst, ◌∙◌, nat_eq}
 use Rattle.std.specs.declared.alloc.AllocError.{AllocError}
 use Rattle.std.proofs.lemmas.List.{set-get_or, get_or-set_same}
@@ -137,9 +137,6 @@ module _ (h : History) (floor id most : ℕ) (old : List (Option Watcher)) (plac
 
     pub is_followed : IsFollowed h w
     is_followed = subst (Stands h floor) at (stands_at h floor old place stand) not
-
-    pub can_be_polled : IsOk (poll h id most (seen_at floor old))
-    can_be_polled = subst IsOk (sym polled_is) refl
 
     lost_same : is_lost floor (first_pending h (after_poll most h (followed w))) ≡ is_lost floor w.first
     lost_same = polled_not_lost floor most h (followed w) (ap (is_lost floor) (sym is_followed) ∙ not) ∙ sym not

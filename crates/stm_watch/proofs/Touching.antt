@@ -1,26 +1,26 @@
 -- What a new revision makes of the watchers, key by key.
-use Rattle.std.proofs.Common.{◌≡◌, ◌⊎◌, ℕ, zero, suc, ◌<◌, ◌≤◌, ◌+◌, Bool, true, false, ◌||◌, ◌&&◌}
-use Rattle.std.proofs.Common.{List, [], ◌∷◌, ◌++◌, length, map, Option, Some, None, IsSome, is_some, cond, unwrap_or, option_map, slice_index_or, slice_set}
-use Rattle.std.proofs.Common.{refl, sym, ap, subst, ◌∙◌, inl, inr, arith, length-append, append_assoc}
+use Rattle.std.proofs.Common.{◌≡◌, ◌⊎◌, ℕ, zero, suc, ◌<◌, ◌≤◌, Bool, true, false, ◌||◌, ◌&&◌}
+use Rattle.std.proofs.Common.{List, [], ◌∷◌, ◌++◌, length, map, Option, Some, None, is_some, option_map, slice_index_or, slice_set}
+use Rattle.std.proofs.Common.{refl, sym, ap, subst, ◌∙◌, inl, inr, arith}
 use Rattle.std.specs.Prelude.{nat_lt}
 use Rattle.std.proofs.lemmas.Bool.{cases_Bool, cases_eq, ltb-true}
 use Rattle.std.proofs.lemmas.List.{get_or-set_other, length-set, length-map, map-append, same_lists}
 use Rattle.std.proofs.lemmas.List.Folds.{list_any-append}
 use Rattle.std.proofs.lemmas.Option.{same_Some}
 use Rattle.std.proofs.lemmas.Slice.Eq.{bytes_eq-Decides}
+use Rattle.indexmap.specs.IndexMap.{get_by_text}
 use Rattle.stm_history.specs.History.{key_of}
 use Rattle.stm_keys.specs.declared.event.Event.{Event}
 use Rattle.stm_keys.specs.declared.event.Event.TheVariants.{Put, Delete}
 use Rattle.stm_keys.specs.Events.{change_of_event, key_of_event}
-use Rattle.stm_lists.specs.Lists.{Lists, Place, list_at, entries_at, HasList, HasNode, StandsAt, first_node}
 use Rattle.stm_watch.specs.declared.watched.Watched.{Watched}
 use Rattle.stm_watch.specs.declared.watched.Watched.TheVariants.{Key, Range}
 use Rattle.stm_watch.specs.declared.watched.Watcher.{Watcher}
 use Rattle.stm_watch.specs.Keys.{is_watched, is_any_watched}
 use Rattle.stm_watch.specs.declared.page.Page.{Page}
-use Rattle.stm_watch.specs.Kept.{Holds, AreCovered, list_in, places_on, places_at}
+use Rattle.stm_watch.specs.declared.groups.Groups.{Groups}
 use Rattle.stm_watch.specs.declared.page.RangeEntry.{RangeEntry}
-use Rattle.stm_watch.specs.Pages.{IsAny, IsOneOf, StandsOn, ReachesOn, IsTouched, IsEntered, AreEntered, entry_of}
+use Rattle.stm_watch.specs.Pages.{IsAny, IsOneOf, StandsOn, HasEntry, ReachesOn, IsTouched, IsEntryOf, IsGrouped, AreEntered, pages_at, pages_in}
 use Rattle.stm_watch.specs.Touch.{touch, touch_key, touch_at, touch_each, first_with, wants}
 use Rattle.stm_watch.proofs.Entered.{any-left, any-right, any-parts, any-map}
 use Rattle.stm_watch.proofs.At.{not_some, read_at, slot_of_map}
@@ -70,11 +70,6 @@ module _ (revision : ℕ) (key : List ℕ) where
   length_each [] ws = refl
   length_each (i ∷ is) ws =
       length_each is (touch_at revision key i ws) ∙ length-set ws i (option_map (touch_key revision key) (slice_index_or ws i None))
-
-  each_more : (is : List ℕ) (i : ℕ) (ws : List (Option Watcher)) →
-      touch_each revision key (is ++ i ∷ []) ws ≡ touch_at revision key i (touch_each revision key is ws)
-  each_more [] i ws = refl
-  each_more (j ∷ is) i ws = each_more is i (touch_at revision key j ws)
 
   -- what stands at the place that was touched
   touched_here : (i : ℕ) (ws : List (Option Watcher)) →
@@ -140,10 +135,6 @@ module _ (revision : ℕ) (key : List ℕ) where
         ∙ again (slice_index_or (touch_at revision key i ws) j None) (slice_index_or ws j None) (at_either i j ws)
   ]
 
-  holds_one : (es : List (ℕ × ℕ)) (node j : ℕ) → Holds es node j → IsOneOf j (map (λ e. e.1) es)
-  holds_one [] node j h = absurd h
-  holds_one (e ∷ es) node j h = elim h [ inl here ↦ inl here.1 | inr there ↦ inr (holds_one es node j there) ]
-
   -- ---- places that are reached
 
   pub touched_none : (at : ℕ → Type 0) (ws : List (Option Watcher)) → ((i : ℕ) → at i → ⊥) → IsTouched revision key at ws ws
@@ -170,99 +161,6 @@ module _ (revision : ℕ) (key : List ℕ) where
       → IsTouched revision key so old new
   touched_as at so old new to touched = record { places = touched.places; done = touched.done; all = λ i reached. touched.all i (to i reached) }
 
-  -- ---- a walk along a list, from which some go
-
-  pub record IsWalked (first now : Lists ℕ) (list count : ℕ) (next : Option ℕ) (old ws : List (Option Watcher)) : Type 0 where
-    pub passed : List (ℕ × ℕ)
-    pub kept : List (ℕ × ℕ)
-    pub rest : List (ℕ × ℕ)
-    pub split : entries_at first list ≡ passed ++ rest
-    pub here : list_at now list ≡ Some (kept ++ rest)
-    pub counted : length passed ≡ count
-    pub next_is : next ≡ first_node rest
-    pub done : ws ≡ touch_each revision key (map (λ e. e.1) passed) old
-
-  there : (o : Option (List (ℕ × ℕ))) → IsSome o → o ≡ Some (unwrap_or o [])
-  there None some = absurd (cc)
-  there (Some xs) some = refl
-
-  pub walk_begins : (lists : Lists ℕ) (list : ℕ) (next : Option ℕ) (old : List (Option Watcher)) → HasList lists list → next ≡ first_node (entries_at lists list)
-      → IsWalked lists lists list 0 next old old
-  walk_begins lists list next old has is = record {
-    passed = [];
-    kept = [];
-    rest = entries_at lists list;
-    split = refl;
-    here = there (list_at lists list) has;
-    counted = refl;
-    next_is = is;
-    done = refl;
-  }
-
-  -- where the next node stands
-  pub record IsNextPlace (first now : Lists ℕ) (list count node : ℕ) (old ws : List (Option Watcher)) : Type 0 where
-    pub passed : List (ℕ × ℕ)
-    pub kept : List (ℕ × ℕ)
-    pub value : ℕ
-    pub after : List (ℕ × ℕ)
-    pub split : entries_at first list ≡ passed ++ (node, value) ∷ after
-    pub stands : StandsAt now node (record { list = list; before = kept; value = value; after = after })
-    pub counted : length passed ≡ count
-    pub done : ws ≡ touch_each revision key (map (λ e. e.1) passed) old
-
-  walk_place : (first now : Lists ℕ) (list count : ℕ) (next : Option ℕ) (node : ℕ) (old ws : List (Option Watcher))
-      → IsWalked first now list count next old ws → next ≡ Some node → IsNextPlace first now list count node old ws
-  walk_place first now list count next node old ws walked is = by_rest walked.rest walked.split walked.here (sym walked.next_is ∙ is)
-    where
-      by_rest : (rest : List (ℕ × ℕ)) → entries_at first list ≡ walked.passed ++ rest → list_at now list ≡ Some (walked.kept ++ rest)
-          → first_node rest ≡ Some node → IsNextPlace first now list count node old ws
-      by_rest [] split here front = absurd (cc)
-      by_rest (entry ∷ rest) split here front =
-          let same : entry.0 ≡ node = same_Some entry.0 node front in
-          record {
-            passed = walked.passed;
-            kept = walked.kept;
-            value = entry.1;
-            after = rest;
-            split = split ∙ ap (λ (n : ℕ). walked.passed ++ (n, entry.1) ∷ rest) same;
-            stands = record { stands = here ∙ ap (λ (n : ℕ). Some (walked.kept ++ (n, entry.1) ∷ rest)) same };
-            counted = walked.counted;
-            done = walked.done;
-          }
-
-  pub walk_node : (first now : Lists ℕ) (list count : ℕ) (next : Option ℕ) (node : ℕ) (old ws : List (Option Watcher))
-      → IsWalked first now list count next old ws → next ≡ Some node → HasNode now node
-  walk_node first now list count next node old ws walked is =
-      let found = walk_place first now list count next node old ws walked is in
-      (record { list = list; before = found.kept; value = found.value; after = found.after }, found.stands)
-
-  pub walk_more : (first now then : Lists ℕ) (list count : ℕ) (next : Option ℕ) (node i : ℕ) (after : Option ℕ) (old ws new : List (Option Watcher))
-      → IsWalked first now list count next old ws → next ≡ Some node
-      → ((place : Place ℕ) → StandsAt now node place → i ≡ place.value)
-      → ((place : Place ℕ) → StandsAt now node place → after ≡ first_node place.after)
-      → ((place : Place ℕ) → StandsAt now node place → place.value ≡ i → place.list ≡ list
-      → (still : List (ℕ × ℕ)) × (list_at then place.list ≡ Some (place.before ++ (still ++ place.after))))
-      → new ≡ touch_at revision key i ws → IsWalked first then list (count + 1) after old new
-  walk_more first now then list count next node i after old ws new walked is got follows left touched =
-      let found = walk_place first now list count next node old ws walked is in
-      let place : Place ℕ = record { list = list; before = found.kept; value = found.value; after = found.after } in
-      let value : i ≡ found.value = got place found.stands in
-      let stays = left place found.stands (sym value) refl in
-      record {
-        passed = found.passed ++ (node, found.value) ∷ [];
-        kept = found.kept ++ stays.0;
-        rest = found.after;
-        split = found.split ∙ sym (append_assoc found.passed ((node, found.value) ∷ []) found.after);
-        here = stays.1 ∙ ap Some (sym (append_assoc found.kept stays.0 found.after));
-        counted = length-append found.passed ((node, found.value) ∷ []) ∙ ap (λ (n : ℕ). n + 1) found.counted;
-        next_is = follows place found.stands;
-        done = touched
-            ∙ ap (λ (k : ℕ). touch_at revision key k ws) value
-            ∙ ap (touch_at revision key found.value) found.done
-            ∙ sym (each_more (map (λ e. e.1) found.passed) found.value old)
-            ∙ ap (λ is. touch_each revision key is old) (sym (map-append (λ e. e.1) found.passed ((node, found.value) ∷ [])));
-      }
-
   -- ---- all that a key concerns
 
   -- a ready watcher stays as it is
@@ -273,75 +171,84 @@ module _ (revision : ℕ) (key : List ℕ) where
       by_first None b some = absurd (cc)
       by_first (Some n) b some = refl
 
-  module _ (lists : Lists ℕ) (of_key : List ℕ → Option ℕ) (ranges ready : ℕ) (nodes : List (Option ℕ)) (pages : List Page) (ws new : List (Option Watcher))
-      (covered : AreCovered lists of_key ranges ready nodes ws) (entered : AreEntered pages ws)
-      (touched : IsTouched revision key (λ i. IsAny (ReachesOn revision key i) pages) (touch_each revision key (places_at lists (of_key key)) ws) new) where
-    abbrev own : List (Option Watcher)
-    own = touch_each revision key (places_at lists (of_key key)) ws
+  -- The watchers of the key are in a group of their own, and those of ranges in another. Once those of both groups that are due were touched, all are.
+  module _ (groups : Groups) (rest : List Page) (ws mid new : List (Option Watcher)) (entered : AreEntered groups ws)
+      (own : IsTouched revision key (λ i. IsAny (ReachesOn revision key i) (pages_in groups.groups.items (get_by_text groups.keys key))) ws mid)
+      (kept : (e : RangeEntry) → HasEntry ws (pages_at groups.groups.items 0) e → HasEntry ws rest e)
+      (ranges : IsTouched revision key (λ i. IsAny (ReachesOn revision key i) rest) mid new) where
+    abbrev after : List (Option Watcher)
+    after = touch_each revision key ranges.places (touch_each revision key own.places ws)
 
-    -- an idle watcher of the key is on the key's list, and one of a range that has the key on a page
-    reached : (w : Watcher) (j : ℕ) (watched : Watched) → slice_index_or ws j None ≡ Some w → is_some w.first ≡ false → w.watched ≡ watched
-        → nat_lt w.seen revision ≡ true → is_watched watched key ≡ true
-        → slice_index_or (touch_each revision key touched.places own) j None ≡ option_map (touch_key revision key) (slice_index_or ws j None)
-    reached w j (Key k) is idle what begun matches =
-        let had = covered.listed.stands j w is in
-        let same : k ≡ key = (bytes_eq-Decides k key).0 matches in
-        let on : of_key k ≡ Some had.0 =
-        ap (list_in of_key ranges) (sym what)
-        ∙ sym (ap (λ b. cond b (Some ready) (list_in of_key ranges w.watched)) idle)
-        ∙ had.2 in
-        let at : of_key key ≡ Some had.0 = ap of_key (sym same) ∙ on in
-        each_after touched.places j own (slice_index_or ws j None)
-        (ap (λ o. slice_index_or (touch_each revision key (places_at lists o) ws) j None) at
-        ∙ each_among (places_on lists had.0) j ws (holds_one (entries_at lists had.0) had.1 j had.4))
-    reached w j (Range first end) is idle what begun matches =
-        let e : RangeEntry = entry_of first end j in
-        let after = ltb-true w.seen revision begun in
-        let on = any-map (StandsOn ws e) (ReachesOn revision key j)
+    -- an idle watcher that is due is reached on the page of its entry
+    on_page : (w : Watcher) (j : ℕ) (watched : Watched) (pages : List Page) → slice_index_or ws j None ≡ Some w → is_some w.first ≡ false
+        → nat_lt w.seen revision ≡ true → is_watched watched key ≡ true → (e : RangeEntry) → IsEntryOf watched j e → HasEntry ws pages e
+        → IsAny (ReachesOn revision key j) pages
+    on_page w j watched pages is idle begun matches e its has =
+        let past = ltb-true w.seen revision begun in
+        any-map (StandsOn ws e) (ReachesOn revision key j)
         (λ page stands. (
           e,
           stands.there,
-          (refl, matches),
-          elim (stands.met w is (not_some w.first idle)) [ inl le ↦ inl (omega (arith, le, after)) | inr inside ↦ inr inside ],
+          (its.stands, its.all key matches),
+          elim (stands.met w (subst (λ (k : ℕ). slice_index_or ws k None ≡ Some w) (sym its.stands) is) (not_some w.first idle)) [
+            | inl le ↦ inl (omega (arith, le, past))
+            | inr inside ↦ inr inside
+          ],
         ))
-        pages (subst (λ (x : Watched). IsEntered x j ws pages) what (entered j w is)) in
-        each_among touched.places j own (touched.all j on)
-        ∙ again (slice_index_or own j None) (slice_index_or ws j None) (each_either (places_at lists (of_key key)) j ws)
+        pages has
+
+    reached : (w : Watcher) (j : ℕ) (watched : Watched) → slice_index_or ws j None ≡ Some w → is_some w.first ≡ false → IsGrouped groups watched j ws
+        → nat_lt w.seen revision ≡ true → is_watched watched key ≡ true
+        → slice_index_or after j None ≡ option_map (touch_key revision key) (slice_index_or ws j None)
+    reached w j (Key k) is idle has begun matches =
+        let same : k ≡ key = (bytes_eq-Decides k key).0 matches in
+        let here : pages_at groups.groups.items has.group ≡ pages_in groups.groups.items (get_by_text groups.keys key) =
+        sym (ap (pages_in groups.groups.items) (ap (get_by_text groups.keys) (sym same) ∙ has.its)) in
+        each_after ranges.places j (touch_each revision key own.places ws) (slice_index_or ws j None)
+        (each_among own.places j ws (own.all j
+        (on_page w j (Key k) (pages_in groups.groups.items (get_by_text groups.keys key)) is idle begun matches has.entered.entry has.entered.its
+        (subst (λ pages. HasEntry ws pages has.entered.entry) here has.entered.here))))
+    reached w j (Range first end) is idle has begun matches =
+        let first_is : 0 ≡ has.group = same_Some 0 has.group has.its in
+        let on = on_page w j (Range first end) rest is idle begun matches has.entered.entry has.entered.its
+        (kept has.entered.entry (subst (λ (g : ℕ). HasEntry ws (pages_at groups.groups.items g) has.entered.entry) (sym first_is) has.entered.here)) in
+        each_among ranges.places j (touch_each revision key own.places ws) (ranges.all j on)
+        ∙ again (slice_index_or (touch_each revision key own.places ws) j None) (slice_index_or ws j None) (each_either own.places j ws)
 
     -- where touching makes no difference
     either_same : (j : ℕ) → option_map (touch_key revision key) (slice_index_or ws j None) ≡ slice_index_or ws j None
-        → slice_index_or (touch_each revision key touched.places own) j None ≡ option_map (touch_key revision key) (slice_index_or ws j None)
-    either_same j same = each_after touched.places j own (slice_index_or ws j None) (elim (each_either (places_at lists (of_key key)) j ws) [
+        → slice_index_or after j None ≡ option_map (touch_key revision key) (slice_index_or ws j None)
+    either_same j same = each_after ranges.places j (touch_each revision key own.places ws) (slice_index_or ws j None) (elim (each_either own.places j ws) [
       | inl kept ↦ kept ∙ sym same
       | inr touched ↦ touched
     ])
 
-    slot_touched : (j : ℕ) → slice_index_or (touch_each revision key touched.places own) j None ≡ option_map (touch_key revision key) (slice_index_or ws j None)
+    slot_touched : (j : ℕ) → slice_index_or after j None ≡ option_map (touch_key revision key) (slice_index_or ws j None)
     slot_touched j = by_slot (slice_index_or ws j None) refl
       where
         by_slot : (o : Option Watcher) → slice_index_or ws j None ≡ o
-            → slice_index_or (touch_each revision key touched.places own) j None ≡ option_map (touch_key revision key) (slice_index_or ws j None)
+            → slice_index_or after j None ≡ option_map (touch_key revision key) (slice_index_or ws j None)
         by_slot None is = either_same j (ap (option_map (touch_key revision key)) is ∙ sym is)
         by_slot (Some w) is = elim (cases_Bool (is_some w.first)) [
           | inl some ↦ either_same j (ap (option_map (touch_key revision key)) is ∙ ap Some (stays w some) ∙ sym is)
           | inr idle ↦ elim (cases_Bool (nat_lt w.seen revision && is_watched w.watched key)) [
-            | inl wants ↦ let parts = both (nat_lt w.seen revision) (is_watched w.watched key) wants in reached w j w.watched is idle refl parts.0 parts.1
+            | inl wants ↦ let parts = both (nat_lt w.seen revision) (is_watched w.watched key) wants in reached w j w.watched is idle (entered j w is) parts.0 parts.1
             | inr other ↦ either_same j (ap (option_map (touch_key revision key)) is ∙ ap Some (untouched revision key w other) ∙ sym is)
           ]
         ]
 
     pub all_touched : new ≡ map (option_map (touch_key revision key)) ws
-    all_touched = touched.done ∙ same_lists (touch_each revision key touched.places own) (map (option_map (touch_key revision key)) ws)
+    all_touched = ranges.done ∙ ap (touch_each revision key ranges.places) own.done ∙ same_lists after (map (option_map (touch_key revision key)) ws)
         (long ∙ sym (length-map ws (option_map (touch_key revision key))))
         (λ k d below.
         let under : k < length ws = omega (arith, below, long) in
         let mapped : k < length (map (option_map (touch_key revision key)) ws) = omega
         (arith, under, length-map ws (option_map (touch_key revision key))) in
-        read_at (touch_each revision key touched.places own) k d below ∙ slot_touched k ∙ sym (slot_of_map (touch_key revision key) ws k)
+        read_at after k d below ∙ slot_touched k ∙ sym (slot_of_map (touch_key revision key) ws k)
         ∙ sym (read_at (map (option_map (touch_key revision key)) ws) k d mapped))
       where
-        long : length (touch_each revision key touched.places own) ≡ length ws
-        long = length_each touched.places own ∙ length_each (places_at lists (of_key key)) ws
+        long : length after ≡ length ws
+        long = length_each ranges.places (touch_each revision key own.places ws) ∙ length_each own.places ws
 
 -- ---- one event after the other
 

@@ -1,7 +1,9 @@
 -- The pages of watchers of ranges, and what a change of a key makes of the watchers at some places. No public clause cites this module.
-use Rattle.std.specs.Prelude.{◌≡◌, ◌≢◌, ◌⊎◌, ◌≤◌, ◌<◌, ℕ, true, List, [], ◌∷◌, Option, Some, None, slice_index_or}
+use Rattle.std.specs.Prelude.{◌≡◌, ◌≢◌, ◌⊎◌, ◌≤◌, ◌<◌, ℕ, zero, suc, true, List, [], ◌∷◌, ◌++◌, Option, Some, None, slice_index_or}
 use Rattle.std.specs.Ordering.{nat_cmp, is_le}
 use Rattle.std.specs.Cmp.Lexicographic.{slice_cmp}
+use Rattle.indexmap.specs.IndexMap.{get_by_text}
+use Rattle.stm_watch.specs.declared.groups.Groups.{Groups}
 use Rattle.stm_watch.specs.declared.index.Index.{Index}
 use Rattle.stm_watch.specs.declared.page.RangeEntry.{RangeEntry}
 use Rattle.stm_watch.specs.declared.page.Bounds.{Bounds}
@@ -25,8 +27,19 @@ IsOneOf x xs = IsAny (λ y. y ≡ x) xs
 
 -- ---- entries on pages
 
-abbrev pub entry_of : List ℕ → List ℕ → ℕ → RangeEntry
-entry_of first end place = record { first = first; end = end; place = place }
+-- the range of the entry has all keys that are watched
+abbrev pub HasAll : RangeEntry → Watched → Type 0
+HasAll e watched = (key : List ℕ) → is_watched watched key ≡ true → is_watched (Range e.first e.end) key ≡ true
+
+-- where the range ends that has just these keys
+abbrev pub end_of : Watched → List ℕ
+end_of (Key key) = key ++ 0 ∷ []
+end_of (Range first end) = end
+
+-- the entry is for the watcher at a place
+pub record IsEntryOf (watched : Watched) (place : ℕ) (e : RangeEntry) : Type 0 where
+  pub stands : e.place ≡ place
+  pub all : HasAll e watched
 
 -- the range is within bounds
 pub record IsWithin (e : RangeEntry) (bounds : Bounds) : Type 0 where
@@ -59,19 +72,49 @@ Keeps old new = (ws : List (Option Watcher)) (e : RangeEntry) → HasEntry ws ol
 abbrev pub KeepsOthers : ℕ → List Page → List Page → Type 0
 KeepsOthers place old new = (ws : List (Option Watcher)) (e : RangeEntry) → e.place ≢ place → HasEntry ws old e → HasEntry ws new e
 
--- the watcher at a place has its entry, if it watches a range
-abbrev pub IsEntered : Watched → ℕ → List (Option Watcher) → List Page → Type 0
-IsEntered (Key key) place ws pages = Unit {0}
-IsEntered (Range first end) place ws pages = HasEntry ws pages (entry_of first end place)
+-- the watcher at a place has its entry on these pages
+pub record IsEntered (watched : Watched) (place : ℕ) (ws : List (Option Watcher)) (pages : List Page) : Type 0 where
+  pub entry : RangeEntry
+  pub its : IsEntryOf watched place entry
+  pub here : HasEntry ws pages entry
 
--- each watcher of a range has its entry
-abbrev pub AreEntered : List Page → List (Option Watcher) → Type 0
-AreEntered pages ws = (i : ℕ) (w : Watcher) → slice_index_or ws i None ≡ Some w → IsEntered w.watched i ws pages
+-- ---- groups
+
+-- the pages of a group, none where there is no such group
+abbrev pub pages_at : List Ranges → ℕ → List Page
+pages_at [] group = []
+pages_at (r ∷ rs) zero = r.pages.items
+pages_at (r ∷ rs) (suc group) = pages_at rs group
+
+abbrev pub pages_in : List Ranges → Option ℕ → List Page
+pages_in groups None = []
+pages_in groups (Some group) = pages_at groups group
+
+-- the group in which watchers of this are: that of the key, or that of ranges
+abbrev pub group_of : (List ℕ → Option ℕ) → Watched → Option ℕ
+group_of of_key (Key key) = of_key key
+group_of of_key (Range first end) = Some 0
+
+-- no key loses its group, and no group an entry
+pub record GroupsKeep (old new : Groups) : Type 0 where
+  pub keys : (key : List ℕ) (group : ℕ) → get_by_text old.keys key ≡ Some group → get_by_text new.keys key ≡ Some group
+  pub entries : (ws : List (Option Watcher)) (group : ℕ) (e : RangeEntry) → HasEntry ws (pages_at old.groups.items group) e
+      → HasEntry ws (pages_at new.groups.items group) e
+
+-- the watcher at a place has its entry in its group
+pub record IsGrouped (groups : Groups) (watched : Watched) (place : ℕ) (ws : List (Option Watcher)) : Type 0 where
+  pub group : ℕ
+  pub its : group_of (get_by_text groups.keys) watched ≡ Some group
+  pub entered : IsEntered watched place ws (pages_at groups.groups.items group)
+
+-- each watcher has
+abbrev pub AreEntered : Groups → List (Option Watcher) → Type 0
+AreEntered groups ws = (i : ℕ) (w : Watcher) → slice_index_or ws i None ≡ Some w → IsGrouped groups w.watched i ws
 
 -- all watchers are found
-pub record AreFound (index : Index) (ranges : Ranges) (ws : List (Option Watcher)) : Type 0 where
+pub record AreFound (index : Index) (groups : Groups) (ws : List (Option Watcher)) : Type 0 where
   pub covers : Covers index ws
-  pub entered : AreEntered ranges.pages.items ws
+  pub entered : AreEntered groups ws
 
 -- ---- who is touched
 

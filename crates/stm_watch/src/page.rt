@@ -1,5 +1,5 @@
-//! A page: watchers of ranges that begin near each other, and the bounds of those that a change may concern.
-ghost use Rattle.std.specs.Prelude.{◌≡◌, ◌≢◌, ◌⊎◌, ◌≤◌, ◌+◌, ◌++◌, ◌||◌, List, Option, true, nat_eq, nat_lt, IfOk, OnOk, OnErr};
+//! A page: watchers of ranges that begin near each other, or of one key, and the bounds of those that a change may concern.
+ghost use Rattle.std.specs.Prelude.{◌≡◌, ◌≢◌, ◌⊎◌, ◌≤◌, ◌+◌, ◌++◌, ◌∷◌, [], ◌||◌, List, Option, true, nat_eq, nat_lt, IfOk, OnOk, OnErr};
 ghost use Rattle.std.specs.Ordering.{nat_cmp, is_le, ordering_then};
 ghost use Rattle.std.specs.Cmp.Lexicographic.{slice_cmp};
 ghost use Rattle.std.specs.Vec.{vec_len, vec_capacity};
@@ -7,17 +7,18 @@ ghost use Rattle.stm_watch.specs.declared.page.RangeEntry.{RangeEntry as Entry};
 ghost use Rattle.stm_watch.specs.declared.watched.Watched.TheVariants.{Range};
 ghost use Rattle.stm_watch.specs.declared.watched.Watcher.{Watcher as Kept};
 ghost use Rattle.stm_watch.specs.Keys.{is_watched};
-ghost use Rattle.stm_watch.specs.Pages.{IsOneOf, IsWithin, IsMet, IsSeenAt, StandsOn, entry_of};
+ghost use Rattle.stm_watch.specs.Pages.{IsAny, IsOneOf, IsWithin, IsMet, IsSeenAt, StandsOn, IsEntryOf, HasAll, end_of};
 
 use crate::copies::copy_entries;
 use crate::slots::Slots;
+use crate::watched::Watched;
 use std::alloc::{AllocError, Global};
 use stm_history::Text;
 
 /// How many entries a page has at most. It is split before it gets one more.
 const MOST_ENTRIES: usize = 128;
 
-/// What an index has of a watcher of a range: the keys from `first` on that are below `end`, and the watcher's place.
+/// What a page has of a watcher: the keys from `first` on that are below `end`, and the watcher's place.
 #[derive(Drop, Clone)]
 pub(crate) struct RangeEntry {
     pub first: Text,
@@ -26,22 +27,34 @@ pub(crate) struct RangeEntry {
 }
 
 impl RangeEntry {
-    /// The entry of the watcher at a place.
-    pub(crate) fn of(first: &Text, end: &Text, place: usize) -> Result<RangeEntry, AllocError>
-        ensures { IfOk result (λ entry. entry ≡ entry_of first.now end.now place) }
+    /// The entry of the watcher at a place. One of a key has the range of that key alone.
+    pub(crate) fn of(
+        alloc: Global,
+        watched: &Watched,
+        place: usize,
+    ) -> Result<RangeEntry, AllocError>
+        ensures { IfOk result (λ entry. IsEntryOf watched.now place entry) }
     {
-        Ok(RangeEntry {
-            first: first.clone()?,
-            end: end.clone()?,
-            place,
-        })
+        let first = watched.first_key().clone()?;
+        let end = end_of(alloc, watched)?;
+        Ok(RangeEntry { first, end, place })
     }
 
-    /// Whether the entry is that of the watcher of this range at a place.
-    pub(crate) fn is(&self, first: &Text, end: &Text, place: usize) -> bool
-        ensures { result ≡ true → self.now ≡ entry_of first.now end.now place }
+    /// Whether the range of the entry has all keys that are watched.
+    fn has_all(&self, watched: &Watched) -> bool
+        ensures { result ≡ true → HasAll self.now watched.now }
     {
-        self.place == place && self.first == *first && self.end == *end
+        match watched {
+            Watched::Key(key) => self.first.cmp(key).is_le() && key.cmp(&self.end).is_lt(),
+            Watched::Range { first, end } => self.first == *first && self.end == *end,
+        }
+    }
+
+    /// Whether the entry may be that of the watcher at a place.
+    pub(crate) fn is_of(&self, watched: &Watched, place: usize) -> bool
+        ensures { result ≡ true → IsEntryOf watched.now place self.now }
+    {
+        self.place == place && self.has_all(watched)
     }
 
     /// Whether the entry is the one with this first key and place, or stands before it. Entries stand in the order of
@@ -50,6 +63,25 @@ impl RangeEntry {
         ensures { result ≡ is_le (ordering_then (slice_cmp nat_cmp self.now.first first.now) (nat_cmp self.now.place place)) }
     {
         self.first.cmp(first).then(self.place.cmp(&place)).is_le()
+    }
+}
+
+/// The first text behind another.
+fn text_after(alloc: Global, text: &Text) -> Result<Text, AllocError>
+    ensures { IfOk result (λ after. after ≡ text.now ++ 0 ∷ []) }
+{
+    let mut after = String::from_str(alloc, text.as_str())?;
+    after.push('\0')?;
+    Ok(Text::new(after))
+}
+
+/// The end of a range that has just these keys.
+fn end_of(alloc: Global, watched: &Watched) -> Result<Text, AllocError>
+    ensures { IfOk result (λ end. end ≡ end_of watched.now) }
+{
+    match watched {
+        Watched::Key(key) => text_after(alloc, key),
+        Watched::Range { end, .. } => end.clone(),
     }
 }
 
@@ -183,7 +215,7 @@ fn move_half(entries: &mut Vec<RangeEntry>, upper: &mut Vec<RangeEntry>)
     }
 }
 
-/// Watchers of ranges, and whom of them a change may concern.
+/// Watchers, and whom of them a change may concern.
 #[derive(Drop)]
 pub(crate) struct Page {
     pub reach: Reach,
@@ -218,7 +250,7 @@ impl Page {
         ensures { IfOk result (λ page. (ws : List (Option Kept)) → StandsOn ws entry page) }
     {
         let bounds = Bounds::from(&entry)?;
-        let mut entries = Vec::new(alloc);
+        let mut entries = Vec::with_capacity(alloc, 1)?;
         entries.push(entry)?;
         Ok(Page::unsettled(bounds, entries))
     }
@@ -252,15 +284,15 @@ impl Page {
             .partition_point(|entry| entry.is_up_to(first, place))
     }
 
-    /// Whether the entry of the watcher of this range at a place was found on the page.
-    pub(crate) fn has(&self, first: &Text, end: &Text, place: usize) -> bool
-        ensures { result ≡ true → IsOneOf (entry_of first.now end.now place) self.now.entries.items }
+    /// Whether the entry of the watcher at a place was found on the page.
+    pub(crate) fn has(&self, watched: &Watched, place: usize) -> bool
+        ensures { result ≡ true → IsAny (IsEntryOf watched.now place) self.now.entries.items }
     {
-        let count = self.count_up_to(first, place);
+        let count = self.count_up_to(watched.first_key(), place);
         if count == 0 {
             return false;
         }
-        self.entries[count - 1].is(first, end, place)
+        self.entries[count - 1].is_of(watched, place)
     }
 
     /// Adds an entry. A failed allocation leaves none out.

@@ -1,9 +1,9 @@
-//! The watchers of ranges, on pages.
+//! Watchers of ranges, or of one key, on pages.
 ghost use Rattle.std.specs.Prelude.{◌≡◌, ◌≤◌, ◌<◌, List, [], Option, true, OnOk, IfOk};
 ghost use Rattle.std.specs.Vec.{vec_len};
 ghost use Rattle.stm_watch.specs.declared.page.RangeEntry.{RangeEntry as Entry};
 ghost use Rattle.stm_watch.specs.declared.watched.Watcher.{Watcher as Kept};
-ghost use Rattle.stm_watch.specs.Pages.{HasEntry, IsEntered, Keeps, KeepsOthers, entry_of};
+ghost use Rattle.stm_watch.specs.Pages.{HasEntry, IsEntered, Keeps, KeepsOthers};
 
 use crate::page::{Page, RangeEntry};
 use crate::slots::Slots;
@@ -11,7 +11,7 @@ use crate::watched::Watched;
 use std::alloc::{AllocError, Global};
 use stm_history::Text;
 
-/// Finds the watchers of the ranges that have a key. They are named by their places, as in an `Index`.
+/// Finds those of some watchers that watch a key. They are named by their places, as in an `Index`.
 ///
 /// Pages stand in the order of the ranges' first keys, as the entries on each do. No contract says so: the order lets
 /// ranges that are near each other stand on one page, so that a key is in the bounds of few pages.
@@ -76,12 +76,13 @@ impl Ranges {
         ensures ok { OnOk result ((ws : List (Option Kept)) → HasEntry ws self.new.pages.items entry) }
     {
         let page = Page::of(*self.pages.allocator(), entry)?;
-        self.pages.push(page)?;
+        self.pages.reserve_exact(1)?;
+        self.pages.push_reserved(page);
         Ok(())
     }
 
     /// Adds an entry. A failed allocation leaves none out.
-    fn add_entry(&mut self, entry: RangeEntry) -> Result<(), AllocError>
+    pub(crate) fn add(&mut self, entry: RangeEntry) -> Result<(), AllocError>
         ensures kept { Keeps self.old.pages.items self.new.pages.items }
         ensures ok { OnOk result ((ws : List (Option Kept)) → HasEntry ws self.new.pages.items entry) }
     {
@@ -90,17 +91,6 @@ impl Ranges {
         }
         let at = self.make_room(&entry.first, entry.place)?;
         self.pages[at].add(entry)?;
-        Ok(())
-    }
-
-    /// Adds the watcher at a place, if it watches a range. A failed allocation leaves no watcher out.
-    pub(crate) fn add(&mut self, watched: &Watched, place: usize) -> Result<(), AllocError>
-        ensures kept { Keeps self.old.pages.items self.new.pages.items }
-        ensures ok { OnOk result ((ws : List (Option Kept)) → IsEntered watched.now place ws self.new.pages.items) }
-    {
-        if let Watched::Range { first, end } = watched {
-            self.add_entry(RangeEntry::of(first, end, place)?)?;
-        }
         Ok(())
     }
 
@@ -115,13 +105,10 @@ impl Ranges {
         }
     }
 
-    /// Takes the watcher at a place out, if it watches a range. It takes no memory.
-    pub(crate) fn remove(&mut self, watched: &Watched, place: usize)
+    /// Takes the entry with this first key and place out. It takes no memory.
+    pub(crate) fn remove(&mut self, first: &Text, place: usize)
         ensures { KeepsOthers place self.old.pages.items self.new.pages.items }
     {
-        let Watched::Range { first, .. } = watched else {
-            return;
-        };
         if self.pages.is_empty() {
             return;
         }
@@ -129,16 +116,16 @@ impl Ranges {
         self.remove_from(at, first, place);
     }
 
-    /// Has it found out anew whom a change may concern on the page on which this entry stands, where it is found there.
-    fn wake_on_page(&mut self, first: &Text, end: &Text, place: usize) -> bool
+    /// Has it found out anew whom a change may concern on the page on which this watcher stands, where it is found there.
+    fn wake_on_page(&mut self, watched: &Watched, place: usize) -> bool
         ensures kept { Keeps self.old.pages.items self.new.pages.items }
-        ensures woken { result ≡ true → (ws : List (Option Kept)) → HasEntry ws self.new.pages.items (entry_of first.now end.now place) }
+        ensures woken { result ≡ true → (ws : List (Option Kept)) → IsEntered watched.now place ws self.new.pages.items }
     {
         if self.pages.is_empty() {
             return false;
         }
-        let at = self.page_of(first, place);
-        if !self.pages[at].has(first, end, place) {
+        let at = self.page_of(watched.first_key(), place);
+        if !self.pages[at].has(watched, place) {
             return false;
         }
         self.pages[at].reach.until = 0;
@@ -161,10 +148,7 @@ impl Ranges {
         ensures woken { (old new : List (Option Kept)) → IsEntered watched.now place old self.old.pages.items
             → IsEntered watched.now place new self.new.pages.items }
     {
-        let Watched::Range { first, end } = watched else {
-            return;
-        };
-        if !self.wake_on_page(first, end, place) {
+        if !self.wake_on_page(watched, place) {
             self.wake_each();
         }
     }
@@ -190,10 +174,19 @@ impl Ranges {
 
 impl Ranges {
     /// A copy, on which no entry is missing.
-    pub(crate) fn copy(&self) -> Result<Ranges, AllocError>
+    fn copy(&self) -> Result<Ranges, AllocError>
         ensures { IfOk result (λ copy. Keeps self.now.pages.items copy.pages.items) }
     {
         let pages = self.pages.clone()?;
         Ok(Ranges { pages })
+    }
+}
+
+/// On the copy no entry is missing.
+impl Clone for Ranges {
+    ghost is_clone = { λ ranges copy. Keeps ranges.pages.items copy.pages.items };
+
+    fn clone(&self) -> Result<Ranges, AllocError> {
+        self.copy()
     }
 }

@@ -6,7 +6,7 @@ ghost use Rattle.stm_source.specs.Definitions as spec;
 use std::alloc::Global;
 use stm_history::Sequence;
 use stm_terms::{
-    Constants, Given, SourceError, after_symbol, expect_symbol, literal_argument, unexpected,
+    Constants, Given, Read, after_symbol, expect_symbol, literal_argument, unexpected,
 };
 use stm_tokens::{Symbol, Token};
 
@@ -15,7 +15,7 @@ fn some_arguments<'a>(
     alloc: Global,
     constants: &Constants,
     tokens: &'a [Token],
-) -> Result<(Sequence<Given>, &'a [Token]), SourceError>
+) -> Read<'a, Sequence<Given>>
     ensures { Returns (λ x. (x.0, x.1.now)) result (spec.arguments_from constants.now (length tokens.now) [] tokens.now) }
 {
     let mut given = Sequence::new(alloc);
@@ -37,7 +37,7 @@ pub(crate) fn arguments<'a>(
     alloc: Global,
     constants: &Constants,
     tokens: &'a [Token],
-) -> Result<(Sequence<Given>, &'a [Token]), SourceError>
+) -> Read<'a, Sequence<Given>>
     ensures { Returns (λ x. (x.0, x.1.now)) result (spec.arguments_at constants.now tokens.now) }
 {
     let inner = expect_symbol(tokens, Symbol::LeftParenthesis)?;

@@ -14,7 +14,7 @@ use std::mem;
 use stm_history::Sequence;
 use stm_program::{Expr, ExprNode};
 use stm_terms::{
-    Argument, Constant, Constants, Defined, Kind, MOST_BRACKETS, MOST_KEPT, Scope, Shared,
+    Argument, Constant, Constants, Defined, Kind, MOST_BRACKETS, MOST_KEPT, Read, Scope, Shared,
     SourceCause, SourceError, Valued, after_symbol, expect_symbol, fault, has_room, list_of_items,
     next_name, place, unexpected, value,
 };
@@ -43,11 +43,7 @@ fn outside(alloc: Global, constants: &Shared<Constants>, at: usize) -> Result<Sc
 }
 
 /// A parameter of a definition: one more variable of what is in sight in it.
-fn parameter<'a>(
-    alloc: Global,
-    scope: Scope,
-    tokens: &'a [Token],
-) -> Result<(Scope, &'a [Token]), SourceError>
+fn parameter<'a>(alloc: Global, scope: Scope, tokens: &'a [Token]) -> Read<'a, Scope>
     ensures { Returns (λ x. (x.0, x.1.now)) result (spec.parameter_at scope tokens.now) }
 {
     let Some((name, rest)) = next_name(tokens) else {
@@ -65,11 +61,7 @@ fn parameter<'a>(
 }
 
 /// Parameters up to the bracket that closes them, one at least.
-fn some_parameters<'a>(
-    alloc: Global,
-    scope: Scope,
-    tokens: &'a [Token],
-) -> Result<(Scope, &'a [Token]), SourceError>
+fn some_parameters<'a>(alloc: Global, scope: Scope, tokens: &'a [Token]) -> Read<'a, Scope>
     ensures { Returns (λ x. (x.0, x.1.now)) result (spec.parameters_from (length tokens.now) scope tokens.now) }
 {
     let mut outer = scope;
@@ -88,11 +80,7 @@ fn some_parameters<'a>(
 }
 
 /// The parameters of a definition, in their brackets: none, where no bracket opens.
-fn parameters<'a>(
-    alloc: Global,
-    scope: Scope,
-    tokens: &'a [Token],
-) -> Result<(Scope, &'a [Token]), SourceError>
+fn parameters<'a>(alloc: Global, scope: Scope, tokens: &'a [Token]) -> Read<'a, Scope>
     ensures { Returns (λ x. (x.0, x.1.now)) result (spec.parameters_by scope tokens.now (cursor.after_symbol LeftParenthesis tokens.now)) }
 {
     match after_symbol(tokens, Symbol::LeftParenthesis) {
@@ -147,7 +135,7 @@ fn list<'a>(
     value: Valued,
     tokens: &'a [Token],
     comma: &'a [Token],
-) -> Result<(Constant, &'a [Token]), SourceError>
+) -> Read<'a, Constant>
     ensures { Returns (λ x. (x.0, x.1.now)) result (spec.list_at scope.now value tokens.now comma.now) }
 {
     let first = alone(&value.expression)?;
@@ -160,11 +148,7 @@ fn list<'a>(
 }
 
 /// What is defined behind its `=`.
-fn defined<'a>(
-    alloc: Global,
-    scope: &Scope,
-    tokens: &'a [Token],
-) -> Result<(Constant, &'a [Token]), SourceError>
+fn defined<'a>(alloc: Global, scope: &Scope, tokens: &'a [Token]) -> Read<'a, Constant>
     ensures { Returns (λ x. (x.0, x.1.now)) result (spec.defined_at scope.now tokens.now) }
 {
     let (value, rest) = value(alloc, scope, MOST_BRACKETS, tokens)?;

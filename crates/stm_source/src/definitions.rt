@@ -12,7 +12,7 @@ use std::alloc::{AllocError, Global};
 use stm_history::Sequence;
 use stm_program::Program;
 use stm_terms::{
-    Argument, Arguments, Constants, Given, Item, Names, Shared, SourceCause, SourceError,
+    Argument, Arguments, Constants, Given, Item, Names, Read, Shared, SourceCause, SourceError,
     after_symbol, expect_symbol, fault, next_name, numbered_variable, place, unexpected,
 };
 use stm_tokens::{Symbol, Token};
@@ -84,7 +84,7 @@ pub(crate) fn free_name<'a>(
     names: &Names,
     constants: &Constants,
     tokens: &'a [Token],
-) -> Result<(&'a str, &'a [Token]), SourceError>
+) -> Read<'a, &'a str>
     ensures is { Returns (λ x. (x.0.now, x.1.now)) result (spec.free_name_at names.now constants.now tokens.now) }
     ensures new { IfOk result (λ x. list_any (bytes_eq x.0.now) names.now ≡ false) }
     ensures undefined { IfOk result (λ x. list_any (bytes_eq x.0.now) constants.now.names ≡ false) }
@@ -198,7 +198,7 @@ pub(crate) fn program_in_place<'a>(
     alloc: Global,
     look: Look,
     tokens: &'a [Token],
-) -> Result<(Program, &'a [Token]), SourceError>
+) -> Read<'a, Program>
     ensures { Returns (λ x. (x.0, x.1.now)) result (program_at look spec.no_arguments tokens.now) }
 {
     let none = no_arguments(alloc)?;
@@ -238,7 +238,7 @@ fn defined<'a>(
     parameters: Names,
     takes_list: bool,
     body: &'a [Token],
-) -> Result<(Definition, &'a [Token]), SourceError>
+) -> Read<'a, Definition>
     ensures { Returns (λ x. (x.0, x.1.now)) result (spec.definition_at constants.now at parameters takes_list body.now) }
 {
     let parameters = Shared::new(alloc, parameters)?;

@@ -11,8 +11,8 @@ use std::alloc::Global;
 use stm_events::WorldEvent;
 use stm_history::Text;
 use stm_terms::{
-    Constants, SourceCause, SourceError, after_name, after_symbol, expect_name, fault, next_number,
-    place, unexpected,
+    Constants, Read, SourceCause, SourceError, after_name, after_symbol, expect_name, fault,
+    next_number, place, unexpected,
 };
 use stm_tokens::{Symbol, Token};
 
@@ -31,10 +31,7 @@ pub(crate) fn plain_number(most: u64, tokens: &[Token]) -> Result<(u64, &[Token]
     }
 }
 
-fn grant<'a>(
-    constants: &Constants,
-    tokens: &'a [Token],
-) -> Result<(WorldEvent, &'a [Token]), SourceError>
+fn grant<'a>(constants: &Constants, tokens: &'a [Token]) -> Read<'a, WorldEvent>
     ensures { Returns (λ x. (x.0, x.1.now)) result (spec.grant_at constants.now tokens.now) }
 {
     let (id, rest) = number(constants, tokens)?;
@@ -43,30 +40,21 @@ fn grant<'a>(
     Ok((WorldEvent::Grant { id, ttl }, rest))
 }
 
-fn keep<'a>(
-    constants: &Constants,
-    tokens: &'a [Token],
-) -> Result<(WorldEvent, &'a [Token]), SourceError>
+fn keep<'a>(constants: &Constants, tokens: &'a [Token]) -> Read<'a, WorldEvent>
     ensures { Returns (λ x. (x.0, x.1.now)) result (spec.keep_at constants.now tokens.now) }
 {
     let (id, rest) = number(constants, tokens)?;
     Ok((WorldEvent::Keep { id }, rest))
 }
 
-fn revoke<'a>(
-    constants: &Constants,
-    tokens: &'a [Token],
-) -> Result<(WorldEvent, &'a [Token]), SourceError>
+fn revoke<'a>(constants: &Constants, tokens: &'a [Token]) -> Read<'a, WorldEvent>
     ensures { Returns (λ x. (x.0, x.1.now)) result (spec.revoke_at constants.now tokens.now) }
 {
     let (id, rest) = number(constants, tokens)?;
     Ok((WorldEvent::Revoke { id }, rest))
 }
 
-fn advance<'a>(
-    constants: &Constants,
-    tokens: &'a [Token],
-) -> Result<(WorldEvent, &'a [Token]), SourceError>
+fn advance<'a>(constants: &Constants, tokens: &'a [Token]) -> Read<'a, WorldEvent>
     ensures { Returns (λ x. (x.0, x.1.now)) result (spec.advance_at constants.now tokens.now) }
 {
     let rest = expect_name(tokens, "to")?;
@@ -75,7 +63,7 @@ fn advance<'a>(
 }
 
 /// The revision that a watcher begins at: 0 where it is not said.
-fn from<'a>(constants: &Constants, tokens: &'a [Token]) -> Result<(u64, &'a [Token]), SourceError>
+fn from<'a>(constants: &Constants, tokens: &'a [Token]) -> Read<'a, u64>
     ensures { Returns (λ x. (x.0, x.1.now)) result (spec.from_at constants.now tokens.now) }
 {
     match after_name(tokens, "from") {
@@ -85,11 +73,7 @@ fn from<'a>(constants: &Constants, tokens: &'a [Token]) -> Result<(u64, &'a [Tok
 }
 
 /// A watcher of what begins with a key.
-fn watch_behind<'a>(
-    constants: &Constants,
-    first: Text,
-    tokens: &'a [Token],
-) -> Result<(WorldEvent, &'a [Token]), SourceError>
+fn watch_behind<'a>(constants: &Constants, first: Text, tokens: &'a [Token]) -> Read<'a, WorldEvent>
     ensures { Returns (λ x. (x.0, x.1.now)) result (spec.watch_by constants.now first tokens.now (cursor.after_symbol Dots tokens.now)) }
 {
     let Some(rest) = after_symbol(tokens, Symbol::Dots) else {
@@ -101,20 +85,14 @@ fn watch_behind<'a>(
     Ok((WorldEvent::WatchRange { first, end, from }, rest))
 }
 
-fn watch<'a>(
-    constants: &Constants,
-    tokens: &'a [Token],
-) -> Result<(WorldEvent, &'a [Token]), SourceError>
+fn watch<'a>(constants: &Constants, tokens: &'a [Token]) -> Read<'a, WorldEvent>
     ensures { Returns (λ x. (x.0, x.1.now)) result (spec.watch_at constants.now tokens.now) }
 {
     let (first, rest) = text(constants, tokens)?;
     watch_behind(constants, first, rest)
 }
 
-fn poll<'a>(
-    constants: &Constants,
-    tokens: &'a [Token],
-) -> Result<(WorldEvent, &'a [Token]), SourceError>
+fn poll<'a>(constants: &Constants, tokens: &'a [Token]) -> Read<'a, WorldEvent>
     ensures { Returns (λ x. (x.0, x.1.now)) result (spec.poll_at constants.now tokens.now) }
 {
     let (watcher, rest) = number(constants, tokens)?;
@@ -123,31 +101,21 @@ fn poll<'a>(
     Ok((WorldEvent::Poll { watcher, most }, rest))
 }
 
-fn cancel<'a>(
-    constants: &Constants,
-    tokens: &'a [Token],
-) -> Result<(WorldEvent, &'a [Token]), SourceError>
+fn cancel<'a>(constants: &Constants, tokens: &'a [Token]) -> Read<'a, WorldEvent>
     ensures { Returns (λ x. (x.0, x.1.now)) result (spec.cancel_at constants.now tokens.now) }
 {
     let (watcher, rest) = number(constants, tokens)?;
     Ok((WorldEvent::Cancel { watcher }, rest))
 }
 
-fn compact<'a>(
-    constants: &Constants,
-    tokens: &'a [Token],
-) -> Result<(WorldEvent, &'a [Token]), SourceError>
+fn compact<'a>(constants: &Constants, tokens: &'a [Token]) -> Read<'a, WorldEvent>
     ensures { Returns (λ x. (x.0, x.1.now)) result (spec.compact_at constants.now tokens.now) }
 {
     let (revision, rest) = number(constants, tokens)?;
     Ok((WorldEvent::Compact { revision }, rest))
 }
 
-fn txn_event<'a>(
-    alloc: Global,
-    constants: &Constants,
-    tokens: &'a [Token],
-) -> Result<(WorldEvent, &'a [Token]), SourceError>
+fn txn_event<'a>(alloc: Global, constants: &Constants, tokens: &'a [Token]) -> Read<'a, WorldEvent>
     ensures { Returns (λ x. (x.0, x.1.now)) result (spec.txn_event_at constants.now tokens.now) }
 {
     let (txn, rest) = txn(alloc, constants, tokens)?;
@@ -160,7 +128,7 @@ pub(crate) fn store_event<'a>(
     constants: &Constants,
     word: EventWord,
     tokens: &'a [Token],
-) -> Result<(WorldEvent, &'a [Token]), SourceError>
+) -> Read<'a, WorldEvent>
     ensures { Returns (λ x. (x.0, x.1.now)) result (spec.store_event_at constants.now word tokens.now) }
 {
     match word {

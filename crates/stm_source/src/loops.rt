@@ -9,7 +9,7 @@ use std::alloc::{AllocError, Global};
 use stm_history::{Sequence, Text};
 use stm_program::{Expr, ExprNode, MAX_TURNS, Operator, Variable};
 use stm_terms::{
-    Argument, Item, Kind, Scope, Shared, SharedText, SourceCause, SourceError, after_name,
+    Argument, Item, Kind, Read, Scope, Shared, SharedText, SourceCause, SourceError, after_name,
     after_symbol, argument_number, fault, list_of_items, next_name, next_number, next_text,
     numbered_variable, place, unexpected,
 };
@@ -47,11 +47,7 @@ pub(crate) fn counted(
 }
 
 /// The limit of a loop whose count says none: a count that is a number is its own.
-fn own_limit<'a>(
-    count: &Expr,
-    at: usize,
-    rest: &'a [Token],
-) -> Result<(u64, &'a [Token]), SourceError>
+fn own_limit<'a>(count: &Expr, at: usize, rest: &'a [Token]) -> Read<'a, u64>
     ensures { Returns (λ x. (x.0, x.1.now)) result (spec.own_limit count.now at rest.now) }
 {
     match &count.node {
@@ -85,7 +81,7 @@ fn name_limit<'a>(
     at: usize,
     name: &str,
     rest: &'a [Token],
-) -> Result<(u64, &'a [Token]), SourceError>
+) -> Read<'a, u64>
     ensures { Returns (λ x. (x.0, x.1.now)) result
         (spec.argument_limit count.now at (blame scope.now name.now at) rest.now (argument_named scope.now name.now)) }
 {
@@ -101,7 +97,7 @@ fn count_limit<'a>(
     count: &Expr,
     tokens: &[Token],
     rest: &'a [Token],
-) -> Result<(u64, &'a [Token]), SourceError>
+) -> Read<'a, u64>
     ensures { Returns (λ x. (x.0, x.1.now)) result
         (spec.count_limit scope.now count.now (cursor.place tokens.now) rest.now (spec.sole_name scope.now tokens.now rest.now)) }
 {
@@ -117,7 +113,7 @@ pub(crate) fn limit<'a>(
     count: &Expr,
     tokens: &[Token],
     rest: &'a [Token],
-) -> Result<(u64, &'a [Token]), SourceError>
+) -> Read<'a, u64>
     ensures { Returns (λ x. (x.0, x.1.now)) result (spec.limit_at scope.now count.now tokens.now rest.now) }
 {
     match after_name(rest, "max") {
@@ -153,7 +149,7 @@ pub(crate) fn items<'a>(
     at: usize,
     name: &str,
     tokens: &'a [Token],
-) -> Result<(Sequence<Item>, &'a [Token]), SourceError>
+) -> Read<'a, Sequence<Item>>
     ensures { Returns (λ x. (x.0, x.1.now)) result (spec.items_of scope.now at name.now tokens.now) }
 {
     if numbered_variable(name).is_some() && begins_item(tokens) {

@@ -16,8 +16,8 @@ use stm_program::{
     MAX_DEPTH, MAX_NODES, MAX_PREFETCH, MAX_TEXT, Program, Stmt, is_listed, list_fits,
 };
 use stm_terms::{
-    Arguments, Constants, GivenText, MOST_BRACKETS, MOST_KEPT, Runners, Scope, Shared, SourceCause,
-    SourceError, after_symbol, after_word, are_numbered, expect_symbol, fault, place,
+    Arguments, Constants, GivenText, MOST_BRACKETS, MOST_KEPT, Read, Runners, Scope, Shared,
+    SourceCause, SourceError, after_symbol, after_word, are_numbered, expect_symbol, fault, place,
     skip_semicolon, statements_room, unexpected,
 };
 use stm_tokens::{Symbol, Token, Word};
@@ -63,11 +63,7 @@ fn new_key(keys: &[String], key: &GivenText) -> Result<(), SourceError>
 }
 
 /// A key of a list, that comes after these: none where a parameter stands that is not known yet.
-fn key<'a>(
-    scope: &Scope,
-    keys: &[String],
-    tokens: &'a [Token],
-) -> Result<(Option<Text>, &'a [Token]), SourceError>
+fn key<'a>(scope: &Scope, keys: &[String], tokens: &'a [Token]) -> Read<'a, Option<Text>>
     ensures { Returns (λ x. (x.0, x.1.now)) result (spec.key_at scope.now (map string_bytes keys.now) tokens.now) }
 {
     let (key, rest) = scope.text(tokens)?;
@@ -99,11 +95,7 @@ fn add_known_key(alloc: Global, keys: &mut Vec<String>, key: Option<Text>) -> Re
 }
 
 /// The keys of a list, behind its bracket.
-fn keys<'a>(
-    alloc: Global,
-    scope: &Scope,
-    tokens: &'a [Token],
-) -> Result<(Vec<String>, &'a [Token]), SourceError>
+fn keys<'a>(alloc: Global, scope: &Scope, tokens: &'a [Token]) -> Read<'a, Vec<String>>
     ensures { Returns (λ x. (map string_bytes x.0.items, x.1.now)) result (spec.keys_from scope.now (length tokens.now) [] tokens.now) }
 {
     let mut keys = Vec::new(alloc);
@@ -121,11 +113,7 @@ fn keys<'a>(
 }
 
 /// The keys of the list that a program may begin with.
-fn list<'a>(
-    alloc: Global,
-    scope: &Scope,
-    tokens: &'a [Token],
-) -> Result<(Vec<String>, &'a [Token]), SourceError>
+fn list<'a>(alloc: Global, scope: &Scope, tokens: &'a [Token]) -> Read<'a, Vec<String>>
     ensures { Returns (λ x. (map string_bytes x.0.items, x.1.now)) result (spec.list_at scope.now tokens.now) }
 {
     let Some(rest) = after_word(tokens, Word::Prefetch) else {
@@ -232,7 +220,7 @@ pub(crate) fn program<'a>(
     arguments: Shared<Arguments>,
     look: Look,
     tokens: &'a [Token],
-) -> Result<(Program, &'a [Token]), SourceError>
+) -> Read<'a, Program>
     ensures { Returns (λ x. (x.0, x.1.now)) result (spec.program_at look arguments tokens.now) }
 {
     let at = look.program;

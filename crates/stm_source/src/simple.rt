@@ -12,9 +12,9 @@ use stm_history::Sequence;
 use stm_leaving::{Part, PartNode};
 use stm_program::{Expr, ExprNode, MAX_LEASE, Operator, Stmt, StmtNode, Variable};
 use stm_terms::{
-    Fronted, FrontedPair, Join, Kind, Scope, SourceCause, SourceError, after_symbol, bracketed,
-    expect_symbol, fault, join_kind, join_node, next_name, open_bracket, pair_with_front, place,
-    set, unexpected, value, value_of, with_front,
+    Fronted, FrontedPair, Join, Kind, Read, Scope, SourceCause, SourceError, after_symbol,
+    bracketed, expect_symbol, fault, join_kind, join_node, next_name, open_bracket,
+    pair_with_front, place, set, unexpected, value, value_of, with_front,
 };
 use stm_tokens::{Symbol, Token, TokenKind, Word};
 
@@ -84,7 +84,7 @@ fn simple_statement<'a>(
     levels: usize,
     simple: Simple,
     tokens: &'a [Token],
-) -> Result<(Sequence<Part>, &'a [Token]), SourceError>
+) -> Read<'a, Sequence<Part>>
     ensures { Returns (λ x. (x.0, x.1.now)) result (spec.simple_at levels scope.now simple tokens.now) }
 {
     let (value, rest) = bracketed(alloc, scope, levels, simple_kind(simple), tokens)?;
@@ -110,7 +110,7 @@ fn simple_ending(simple: Simple) -> Ending
 }
 
 /// The lease of a put: 0 where it does not say one.
-fn lease<'a>(scope: &Scope, tokens: &'a [Token]) -> Result<(u64, &'a [Token]), SourceError>
+fn lease<'a>(scope: &Scope, tokens: &'a [Token]) -> Read<'a, u64>
     ensures { Returns (λ x. (x.0, x.1.now)) result (spec.lease_at scope.now tokens.now) }
 {
     match after_symbol(tokens, Symbol::Comma) {
@@ -125,7 +125,7 @@ pub(crate) fn put<'a>(
     scope: &Scope,
     levels: usize,
     tokens: &'a [Token],
-) -> Result<(Sequence<Part>, &'a [Token]), SourceError>
+) -> Read<'a, Sequence<Part>>
     ensures { Returns (λ x. (x.0, x.1.now)) result (spec.put_at levels scope.now tokens.now) }
 {
     let inner = open_bracket(levels, tokens)?;
@@ -219,7 +219,7 @@ fn set_to<'a>(
     number: u64,
     join: Option<Join>,
     rest: &'a [Token],
-) -> Result<(Sequence<Part>, &'a [Token]), SourceError>
+) -> Read<'a, Sequence<Part>>
     requires { number ≤ MAX_VARIABLE }
     ensures { Returns (λ x. (x.0, x.1.now)) result (spec.set_at levels scope.now number join rest.now) }
 {
@@ -241,7 +241,7 @@ pub(crate) fn assignment<'a>(
     name: &str,
     tokens: &'a [Token],
     behind: &'a [Token],
-) -> Result<(Sequence<Part>, &'a [Token]), SourceError>
+) -> Read<'a, Sequence<Part>>
     ensures { Returns (λ x. (x.0, x.1.now)) result (spec.assignment_at levels scope.now name.now tokens.now behind.now) }
 {
     let Some((join, rest)) = next_sign(behind) else {
@@ -285,7 +285,7 @@ fn new_variable<'a>(
     variable: Variable,
     name: &str,
     rest: &'a [Token],
-) -> Result<(Sequence<Part>, &'a [Token]), SourceError>
+) -> Read<'a, Sequence<Part>>
     ensures { Returns (λ x. (x.0, scope.new, x.1.now)) result (spec.new_variable levels scope.old variable name.now rest.now) }
 {
     let rest = expect_symbol(rest, Symbol::Assign)?;
@@ -304,7 +304,7 @@ pub(crate) fn let_statement<'a>(
     levels: usize,
     at: usize,
     tokens: &'a [Token],
-) -> Result<(Sequence<Part>, &'a [Token]), SourceError>
+) -> Read<'a, Sequence<Part>>
     ensures { Returns (λ x. (x.0, scope.new, x.1.now)) result (spec.let_at levels scope.old at tokens.now) }
 {
     let Some(variable) = scope.next_variable() else {

@@ -17,7 +17,7 @@ use stm_events::WorldEvent;
 use stm_history::Sequence;
 use stm_program::{Level, Program};
 use stm_terms::{
-    Names, SourceCause, SourceError, after_name, after_symbol, fault, next_name, next_number,
+    Names, Read, SourceCause, SourceError, after_name, after_symbol, fault, next_name, next_number,
     numbered_variable, place, unexpected,
 };
 use stm_texts::{HIGHEST_LIMIT, MOST_EVENTS};
@@ -49,7 +49,7 @@ pub(crate) struct Options {
 }
 
 /// A name of a runner that is none of these, nor that of a variable.
-fn new_name<'a>(names: &Names, tokens: &'a [Token]) -> Result<(&'a str, &'a [Token]), SourceError>
+fn new_name<'a>(names: &Names, tokens: &'a [Token]) -> Read<'a, &'a str>
     ensures is { Returns (λ x. (x.0.now, x.1.now)) result (spec.new_name_at names.now tokens.now) }
     ensures new { IfOk result (λ x. list_any (bytes_eq x.0.now) names.now ≡ false) }
 {
@@ -63,11 +63,7 @@ fn new_name<'a>(names: &Names, tokens: &'a [Token]) -> Result<(&'a str, &'a [Tok
 }
 
 /// Adds the names of a start, behind their word, and answers how many they are.
-fn new_names<'a>(
-    alloc: Global,
-    names: &mut Names,
-    tokens: &'a [Token],
-) -> Result<(usize, &'a [Token]), SourceError>
+fn new_names<'a>(alloc: Global, names: &mut Names, tokens: &'a [Token]) -> Read<'a, usize>
     ensures { Returns (λ x. (x.0, names.new, x.1.now)) result (spec.names_from (length tokens.now) 0 names.old tokens.now) }
 {
     let mut rest = tokens;
@@ -106,7 +102,7 @@ fn if_new<'a>(seen: bool, tokens: &'a [Token], word: &str) -> Option<&'a [Token]
 }
 
 /// The number of a runner that was started.
-fn started<'a>(story: &Story, tokens: &'a [Token]) -> Result<(u64, &'a [Token]), SourceError>
+fn started<'a>(story: &Story, tokens: &'a [Token]) -> Read<'a, u64>
     ensures { Returns (λ x. (x.0, x.1.now)) result (spec.started_at story.now tokens.now) }
 {
     if let Some((number, rest)) = next_number(tokens) {
@@ -119,7 +115,7 @@ fn started<'a>(story: &Story, tokens: &'a [Token]) -> Result<(u64, &'a [Token]),
 }
 
 /// Behind whose end a runner begins, behind the word.
-fn behind_end<'a>(story: &Story, tokens: &'a [Token]) -> Result<(After, &'a [Token]), SourceError>
+fn behind_end<'a>(story: &Story, tokens: &'a [Token]) -> Read<'a, After>
     ensures { Returns (λ x. (x.0, x.1.now)) result (spec.after_at story.now tokens.now) }
 {
     let (runner, rest) = started(story, tokens)?;
@@ -143,7 +139,7 @@ fn more_options<'a>(
     more: usize,
     options: Options,
     tokens: &'a [Token],
-) -> Result<(Options, &'a [Token]), SourceError>
+) -> Read<'a, Options>
     ensures { Returns (λ x. (x.0, story.new, x.1.now)) result (spec.options_from more options story.old tokens.now) }
 {
     if more == 0 {
@@ -160,7 +156,7 @@ fn next_option<'a>(
     more: usize,
     options: Options,
     tokens: &'a [Token],
-) -> Result<(Options, &'a [Token]), SourceError>
+) -> Read<'a, Options>
     ensures { Returns (λ x. (x.0, story.new, x.1.now)) result (spec.next_option (spec.options_from more) options story.old tokens.now) }
 {
     if let Some(rest) = if_new(options.named > 0, tokens, "as") {

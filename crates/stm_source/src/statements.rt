@@ -22,7 +22,7 @@ use stm_leaving::{Copies, Part, PartNode, Parts};
 use stm_marks::mark;
 use stm_program::Variable;
 use stm_terms::{
-    Fronted, Item, Kind, MOST_BRACKETS, Scope, SharedText, SourceCause, SourceError, Tested,
+    Fronted, Item, Kind, MOST_BRACKETS, Read, Scope, SharedText, SourceCause, SourceError, Tested,
     after_symbol, after_word, condition, expect_symbol, expect_word, fault, next_name, place,
     skip_semicolon, unexpected, value_of, with_front,
 };
@@ -203,7 +203,7 @@ fn counted_loop<'a>(
     variable: Variable,
     inner: &Scope,
     tokens: &'a [Token],
-) -> Result<(Sequence<Part>, &'a [Token]), SourceError>
+) -> Read<'a, Sequence<Part>>
     ensures { Returns (λ x. (x.0, x.1.now)) result (spec.counted_by (spec.block_at levels (leaving.in_turns around)) levels scope.now variable inner.now tokens.now) }
 {
     let (count, rest) = value_of(alloc, scope, levels, Kind::Number, tokens)?;
@@ -242,7 +242,7 @@ fn copy<'a>(
     name: &SharedText,
     item: &Item,
     tokens: &'a [Token],
-) -> Result<(Parts, &'a [Token]), SourceError>
+) -> Read<'a, Parts>
     ensures { Returns (λ x. (x.0, x.1.now)) result (spec.copy_at (spec.block_at levels (leaving.in_items around)) scope.now name.now room item.now tokens.now) }
 {
     let inner = in_copy(alloc, scope, room, name, item)?;
@@ -260,7 +260,7 @@ fn copies<'a>(
     name: &SharedText,
     items: &[Item],
     tokens: &'a [Token],
-) -> Result<(Vec<Parts>, &'a [Token]), SourceError>
+) -> Read<'a, Vec<Parts>>
     ensures { Returns (λ x. (x.0.items, x.1.now)) result
         (spec.copies_from (spec.copy_at (spec.block_at levels (leaving.in_items around)) scope.now name.now) tokens.now scope.now.room [] items.now tokens.now) }
 {
@@ -289,7 +289,7 @@ fn all_copies<'a>(
     name: &SharedText,
     items: &[Item],
     tokens: &'a [Token],
-) -> Result<(Sequence<Part>, &'a [Token]), SourceError>
+) -> Read<'a, Sequence<Part>>
     ensures { Returns (λ x. (x.0, x.1.now)) result (spec.copies_at (spec.block_at levels (leaving.in_items around)) scope.now name.now items.now tokens.now) }
 {
     if items.is_empty() {
@@ -315,7 +315,7 @@ fn item_loop<'a>(
     at: usize,
     name: &str,
     tokens: &'a [Token],
-) -> Result<(Sequence<Part>, &'a [Token]), SourceError>
+) -> Read<'a, Sequence<Part>>
     ensures { Returns (λ x. (x.0, x.1.now)) result (spec.item_loop (spec.block_at levels (leaving.in_items around)) levels scope.now at name.now tokens.now) }
 {
     let (items, rest) = items(alloc, scope, at, name, tokens)?;
@@ -333,7 +333,7 @@ fn count_loop<'a>(
     at: usize,
     name: &str,
     tokens: &'a [Token],
-) -> Result<(Sequence<Part>, &'a [Token]), SourceError>
+) -> Read<'a, Sequence<Part>>
     ensures { Returns (λ x. (x.0, x.1.now)) result (spec.count_loop (spec.block_at levels (leaving.in_turns around)) levels scope.now at name.now tokens.now) }
 {
     let (variable, inner) = counted(alloc, scope, name, at)?;
@@ -348,7 +348,7 @@ fn repetition<'a>(
     levels: usize,
     around: Around,
     tokens: &'a [Token],
-) -> Result<(Sequence<Part>, &'a [Token]), SourceError>
+) -> Read<'a, Sequence<Part>>
     ensures { Returns (λ x. (x.0, x.1.now)) result (spec.loop_at (spec.block_at levels) levels around scope.now tokens.now) }
 {
     let Some((name, rest)) = next_name(tokens) else {
@@ -371,7 +371,7 @@ fn repetition_behind<'a>(
     at: usize,
     name: &str,
     tokens: &'a [Token],
-) -> Result<(Sequence<Part>, &'a [Token]), SourceError>
+) -> Read<'a, Sequence<Part>>
     ensures { Returns (λ x. (x.0, x.1.now)) result (spec.loop_behind (spec.block_at levels) levels around scope.now at name.now tokens.now) }
 {
     let rest = expect_word(tokens, Word::In)?;

@@ -13,7 +13,7 @@ use stm_events::WorldEvent;
 use stm_history::{HIGHEST_NUMBER, Sequence};
 use stm_program::Operator;
 use stm_terms::{
-    SourceCause, SourceError, after_symbol, fault, next_name, next_number, place, unexpected,
+    Read, SourceCause, SourceError, after_symbol, fault, next_name, next_number, place, unexpected,
 };
 use stm_texts::MOST_EVENTS;
 use stm_tokens::{Symbol, Token};
@@ -54,10 +54,7 @@ pub(crate) fn next_runner_name(tokens: &[Token]) -> Option<(&str, &[Token])>
 }
 
 /// The number of the runner whose name is the next token.
-pub(crate) fn named_runner<'a>(
-    story: &Story,
-    tokens: &'a [Token],
-) -> Result<(u64, &'a [Token]), SourceError>
+pub(crate) fn named_runner<'a>(story: &Story, tokens: &'a [Token]) -> Read<'a, u64>
     ensures { Returns (λ x. (x.0, x.1.now)) result
         (spec.runner_by_name story.now tokens.now (spec.name_of_runner tokens.now (cursor.next_name tokens.now))) }
 {
@@ -71,7 +68,7 @@ pub(crate) fn named_runner<'a>(
 }
 
 /// The runner of a turn.
-fn runner<'a>(story: &Story, tokens: &'a [Token]) -> Result<(u64, &'a [Token]), SourceError>
+fn runner<'a>(story: &Story, tokens: &'a [Token]) -> Read<'a, u64>
     ensures { Returns (λ x. (x.0, x.1.now)) result (spec.runner_at story.now tokens.now) }
 {
     if let Some((number, rest)) = next_number(tokens) {

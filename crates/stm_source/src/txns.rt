@@ -11,16 +11,12 @@ use std::alloc::Global;
 use stm_history::{HIGHEST_NUMBER, Text};
 use stm_outcome::{Compare, Op, ShortList, Target, Txn};
 use stm_terms::{
-    Constants, SourceError, after_symbol, after_word, expect_symbol, next_name, skip_semicolon,
-    unexpected,
+    Constants, Read, after_symbol, after_word, expect_symbol, next_name, skip_semicolon, unexpected,
 };
 use stm_tokens::{Symbol, Token, Word};
 
 /// A number of a transaction or of an event.
-pub(crate) fn number<'a>(
-    constants: &Constants,
-    tokens: &'a [Token],
-) -> Result<(u64, &'a [Token]), SourceError>
+pub(crate) fn number<'a>(constants: &Constants, tokens: &'a [Token]) -> Read<'a, u64>
     ensures { Returns (λ x. (x.0, x.1.now)) result (spec.number_at constants.now tokens.now) }
 {
     let (number, rest) = constants.number_up_to(HIGHEST_NUMBER, tokens)?;
@@ -28,10 +24,7 @@ pub(crate) fn number<'a>(
 }
 
 /// A text of a transaction or of an event, of any length.
-pub(crate) fn text<'a>(
-    constants: &Constants,
-    tokens: &'a [Token],
-) -> Result<(Text, &'a [Token]), SourceError>
+pub(crate) fn text<'a>(constants: &Constants, tokens: &'a [Token]) -> Read<'a, Text>
     ensures { Returns (λ x. (x.0, x.1.now)) result (text_at constants.now tokens.now) }
 {
     let (text, rest) = constants.text(tokens)?;
@@ -39,11 +32,7 @@ pub(crate) fn text<'a>(
 }
 
 /// What a compare looks at, with the compare's side.
-fn target<'a>(
-    constants: &Constants,
-    word: TargetWord,
-    tokens: &'a [Token],
-) -> Result<(Target, &'a [Token]), SourceError>
+fn target<'a>(constants: &Constants, word: TargetWord, tokens: &'a [Token]) -> Read<'a, Target>
     ensures { Returns (λ x. (x.0, x.1.now)) result (spec.side_at constants.now word tokens.now) }
 {
     if let TargetWord::Value = word {
@@ -65,7 +54,7 @@ fn compare_behind<'a>(
     constants: &Constants,
     word: TargetWord,
     tokens: &'a [Token],
-) -> Result<(Compare, &'a [Token]), SourceError>
+) -> Read<'a, Compare>
     ensures { Returns (λ x. (x.0, x.1.now)) result (spec.compare_behind constants.now word tokens.now) }
 {
     let rest = expect_symbol(tokens, Symbol::LeftParenthesis)?;
@@ -79,10 +68,7 @@ fn compare_behind<'a>(
 }
 
 /// A compare.
-fn compare<'a>(
-    constants: &Constants,
-    tokens: &'a [Token],
-) -> Result<(Compare, &'a [Token]), SourceError>
+fn compare<'a>(constants: &Constants, tokens: &'a [Token]) -> Read<'a, Compare>
     ensures { Returns (λ x. (x.0, x.1.now)) result (spec.compare_at constants.now tokens.now) }
 {
     let Some((name, rest)) = next_name(tokens) else {
@@ -95,11 +81,7 @@ fn compare<'a>(
 }
 
 /// Compares with `&&` between them.
-fn compares<'a>(
-    alloc: Global,
-    constants: &Constants,
-    tokens: &'a [Token],
-) -> Result<(Vec<Compare>, &'a [Token]), SourceError>
+fn compares<'a>(alloc: Global, constants: &Constants, tokens: &'a [Token]) -> Read<'a, Vec<Compare>>
     ensures { Returns (λ x. (x.0.items, x.1.now)) result (spec.compares_from constants.now (length tokens.now) [] tokens.now) }
 {
     let mut compares = Vec::new(alloc);
@@ -116,10 +98,7 @@ fn compares<'a>(
 }
 
 /// The number behind a comma, 0 where there is none.
-fn number_behind_comma<'a>(
-    constants: &Constants,
-    tokens: &'a [Token],
-) -> Result<(u64, &'a [Token]), SourceError>
+fn number_behind_comma<'a>(constants: &Constants, tokens: &'a [Token]) -> Read<'a, u64>
     ensures { Returns (λ x. (x.0, x.1.now)) result (spec.number_behind constants.now tokens.now (cursor.after_symbol Comma tokens.now)) }
 {
     match after_symbol(tokens, Symbol::Comma) {
@@ -128,7 +107,7 @@ fn number_behind_comma<'a>(
     }
 }
 
-fn put<'a>(constants: &Constants, tokens: &'a [Token]) -> Result<(Op, &'a [Token]), SourceError>
+fn put<'a>(constants: &Constants, tokens: &'a [Token]) -> Read<'a, Op>
     ensures { Returns (λ x. (x.0, x.1.now)) result (spec.put_behind constants.now tokens.now) }
 {
     let rest = expect_symbol(tokens, Symbol::LeftParenthesis)?;
@@ -140,7 +119,7 @@ fn put<'a>(constants: &Constants, tokens: &'a [Token]) -> Result<(Op, &'a [Token
     Ok((Op::Put { key, value, lease }, rest))
 }
 
-fn get<'a>(constants: &Constants, tokens: &'a [Token]) -> Result<(Op, &'a [Token]), SourceError>
+fn get<'a>(constants: &Constants, tokens: &'a [Token]) -> Read<'a, Op>
     ensures { Returns (λ x. (x.0, x.1.now)) result (spec.get_behind constants.now tokens.now) }
 {
     let rest = expect_symbol(tokens, Symbol::LeftParenthesis)?;
@@ -150,7 +129,7 @@ fn get<'a>(constants: &Constants, tokens: &'a [Token]) -> Result<(Op, &'a [Token
     Ok((Op::Get { key, rev }, rest))
 }
 
-fn del<'a>(constants: &Constants, tokens: &'a [Token]) -> Result<(Op, &'a [Token]), SourceError>
+fn del<'a>(constants: &Constants, tokens: &'a [Token]) -> Read<'a, Op>
     ensures { Returns (λ x. (x.0, x.1.now)) result (spec.del_behind constants.now tokens.now) }
 {
     let rest = expect_symbol(tokens, Symbol::LeftParenthesis)?;
@@ -160,10 +139,7 @@ fn del<'a>(constants: &Constants, tokens: &'a [Token]) -> Result<(Op, &'a [Token
 }
 
 /// An operation.
-fn operation<'a>(
-    constants: &Constants,
-    tokens: &'a [Token],
-) -> Result<(Op, &'a [Token]), SourceError>
+fn operation<'a>(constants: &Constants, tokens: &'a [Token]) -> Read<'a, Op>
     ensures { Returns (λ x. (x.0, x.1.now)) result (spec.operation_at constants.now tokens.now) }
 {
     if let Some(rest) = after_word(tokens, Word::Put) {
@@ -179,11 +155,7 @@ fn operation<'a>(
 }
 
 /// The operations up to the brace that closes their list.
-fn operations<'a>(
-    alloc: Global,
-    constants: &Constants,
-    tokens: &'a [Token],
-) -> Result<(Vec<Op>, &'a [Token]), SourceError>
+fn operations<'a>(alloc: Global, constants: &Constants, tokens: &'a [Token]) -> Read<'a, Vec<Op>>
     ensures { Returns (λ x. (x.0.items, x.1.now)) result (spec.operations_from constants.now (length tokens.now) [] tokens.now) }
 {
     let mut operations = Vec::new(alloc);
@@ -200,11 +172,7 @@ fn operations<'a>(
 }
 
 /// A list of operations in braces.
-fn branch<'a>(
-    alloc: Global,
-    constants: &Constants,
-    tokens: &'a [Token],
-) -> Result<(ShortList<Op>, &'a [Token]), SourceError>
+fn branch<'a>(alloc: Global, constants: &Constants, tokens: &'a [Token]) -> Read<'a, ShortList<Op>>
     ensures { Returns (λ x. (x.0, x.1.now)) result (spec.branch_at constants.now tokens.now) }
 {
     let inner = expect_symbol(tokens, Symbol::LeftBrace)?;
@@ -217,7 +185,7 @@ fn conditions<'a>(
     alloc: Global,
     constants: &Constants,
     tokens: &'a [Token],
-) -> Result<(ShortList<Compare>, &'a [Token]), SourceError>
+) -> Read<'a, ShortList<Compare>>
     ensures { Returns (λ x. (x.0, x.1.now)) result (spec.conditions_at constants.now tokens.now) }
 {
     let Some(rest) = after_word(tokens, Word::If) else {
@@ -228,11 +196,7 @@ fn conditions<'a>(
 }
 
 /// The failure list of a transaction: empty, where no `else` stands there.
-fn failure<'a>(
-    alloc: Global,
-    constants: &Constants,
-    tokens: &'a [Token],
-) -> Result<(ShortList<Op>, &'a [Token]), SourceError>
+fn failure<'a>(alloc: Global, constants: &Constants, tokens: &'a [Token]) -> Read<'a, ShortList<Op>>
     ensures { Returns (λ x. (x.0, x.1.now)) result (spec.failure_at constants.now tokens.now) }
 {
     match after_word(tokens, Word::Else) {
@@ -242,11 +206,7 @@ fn failure<'a>(
 }
 
 /// A transaction, behind its word.
-pub(crate) fn txn<'a>(
-    alloc: Global,
-    constants: &Constants,
-    tokens: &'a [Token],
-) -> Result<(Txn, &'a [Token]), SourceError>
+pub(crate) fn txn<'a>(alloc: Global, constants: &Constants, tokens: &'a [Token]) -> Read<'a, Txn>
     ensures { Returns (λ x. (x.0, x.1.now)) result (spec.txn_at constants.now tokens.now) }
 {
     let (compares, rest) = conditions(alloc, constants, tokens)?;

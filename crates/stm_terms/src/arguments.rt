@@ -5,7 +5,7 @@ ghost use Rattle.stm_terms.specs.Arguments as spec;
 ghost use Rattle.stm_terms.specs.Outcome.{Returns};
 
 use crate::constants::Item;
-use crate::faults::{SourceCause, SourceError, fault};
+use crate::faults::{Read, SourceCause, fault};
 use crate::kinds::Kind;
 use crate::names::Names;
 use crate::shared::Shared;
@@ -86,7 +86,7 @@ pub fn argument_number<'a>(
     at: usize,
     argument: &Argument,
     rest: &'a [Token],
-) -> Result<(u64, &'a [Token]), SourceError>
+) -> Read<'a, u64>
     ensures is { Returns (λ x. (x.0, x.1.now)) result (spec.argument_number most at argument.now rest.now) }
     ensures bounded { IfOk result (λ x. x.0 ≤ most) }
 {
@@ -108,7 +108,7 @@ pub(crate) fn argument_text<'a>(
     at: usize,
     argument: &Argument,
     rest: &'a [Token],
-) -> Result<(GivenText, &'a [Token]), SourceError>
+) -> Read<'a, GivenText>
     ensures { Returns (λ x. (x.0, x.1.now)) result (spec.argument_text at argument.now rest.now) }
 {
     match argument {

@@ -9,7 +9,7 @@ ghost use Rattle.stm_terms.specs.Conditions as spec;
 
 use crate::comparisons::{Comparison, compared, next_comparison, not};
 use crate::cursor::{after_symbol, expect_symbol, place, unexpected};
-use crate::faults::{SourceCause, SourceError, fault};
+use crate::faults::{Read, SourceCause, SourceError, fault};
 use crate::kinds::Valued;
 use crate::limits::MOST_JOINS;
 use crate::look_ups::{FrontedPair, pair_with_front};
@@ -75,7 +75,7 @@ fn compared_with<'a>(
     levels: usize,
     left: Valued,
     tokens: &'a [Token],
-) -> Result<(ValueOrCondition, &'a [Token]), SourceError>
+) -> Read<'a, ValueOrCondition>
     ensures { Returns (λ x. (x.0, x.1.now)) result (spec.compared_with levels scope.now left tokens.now (comparisons.next_comparison tokens.now)) }
 {
     let Some((comparison, rest)) = next_comparison(tokens) else {
@@ -95,7 +95,7 @@ fn behind_operand<'a>(
     at: usize,
     first: Valued,
     tokens: &'a [Token],
-) -> Result<(ValueOrCondition, &'a [Token]), SourceError>
+) -> Read<'a, ValueOrCondition>
     ensures { Returns (λ x. (x.0, x.1.now)) result (spec.behind_operand levels scope.now at first tokens.now) }
 {
     let (left, rest) = value_behind(alloc, scope, levels, at, first, tokens)?;
@@ -110,7 +110,7 @@ fn behind_bracket<'a>(
     at: usize,
     found: ValueOrCondition,
     tokens: &'a [Token],
-) -> Result<(ValueOrCondition, &'a [Token]), SourceError>
+) -> Read<'a, ValueOrCondition>
     ensures { Returns (λ x. (x.0, x.1.now)) result (spec.behind_bracket levels scope.now at found tokens.now) }
 {
     match found {
@@ -268,7 +268,7 @@ fn negation<'a>(
     levels: usize,
     count: usize,
     tokens: &'a [Token],
-) -> Result<(ValueOrCondition, &'a [Token]), SourceError>
+) -> Read<'a, ValueOrCondition>
     requires { count ≤ length tokens.now }
     ensures { Returns (λ x. (x.0, x.1.now)) result (spec.negation_by (spec.condition_bracket_at levels scope.now) count tokens.now) }
 {
@@ -285,7 +285,7 @@ fn bracket_or_operand<'a>(
     scope: &Scope,
     levels: usize,
     tokens: &'a [Token],
-) -> Result<(ValueOrCondition, &'a [Token]), SourceError>
+) -> Read<'a, ValueOrCondition>
     ensures { Returns (λ x. (x.0, x.1.now)) result (spec.bracket_or_operand (spec.bracket_at levels scope.now) levels scope.now tokens.now (cursor.after_symbol LeftParenthesis tokens.now)) }
 {
     match after_symbol(tokens, Symbol::LeftParenthesis) {
@@ -307,7 +307,7 @@ fn primary<'a>(
     scope: &Scope,
     levels: usize,
     tokens: &'a [Token],
-) -> Result<(ValueOrCondition, &'a [Token]), SourceError>
+) -> Read<'a, ValueOrCondition>
     ensures { Returns (λ x. (x.0, x.1.now)) result (spec.primary_at levels scope.now tokens.now) }
 {
     let count = negations(tokens);
@@ -325,7 +325,7 @@ fn part<'a>(
     levels: usize,
     tier: usize,
     tokens: &'a [Token],
-) -> Result<(Cond, &'a [Token]), SourceError>
+) -> Read<'a, Cond>
     requires { tier ≤ 2 }
     ensures { Returns (λ x. (x.0, x.1.now)) result (spec.part_by (spec.connections_at levels scope.now tier) tokens.now) }
 {
@@ -343,7 +343,7 @@ fn connection<'a>(
     tier: usize,
     left: Cond,
     tokens: &'a [Token],
-) -> Result<(Cond, &'a [Token]), SourceError>
+) -> Read<'a, Cond>
     requires { tier ≤ 2 }
     ensures { Returns (λ x. (x.0, x.1.now)) result (spec.connection scope.now (spec.part_by (spec.connections_at levels scope.now tier)) (tier + 1) (length tokens.now) 0 left tokens.now) }
 {
@@ -369,7 +369,7 @@ fn connections<'a>(
     levels: usize,
     tier: usize,
     tokens: &'a [Token],
-) -> Result<(ValueOrCondition, &'a [Token]), SourceError>
+) -> Read<'a, ValueOrCondition>
     requires { tier ≤ 2 }
     ensures { Returns (λ x. (x.0, x.1.now)) result (spec.connections_at levels scope.now tier tokens.now) }
 {
@@ -387,7 +387,7 @@ fn next_connections<'a>(
     levels: usize,
     tier: usize,
     tokens: &'a [Token],
-) -> Result<(ValueOrCondition, &'a [Token]), SourceError>
+) -> Read<'a, ValueOrCondition>
     requires { tier ≤ 2 }
     ensures { Returns (λ x. (x.0, x.1.now)) result (spec.connections_above (without_else scope.now) (spec.connections_at levels scope.now tier) (spec.connections_at levels (without_else scope.now) tier) tier tokens.now) }
 {
@@ -404,7 +404,7 @@ fn connected<'a>(
     tier: usize,
     left: Tested,
     tokens: &'a [Token],
-) -> Result<(ValueOrCondition, &'a [Token]), SourceError>
+) -> Read<'a, ValueOrCondition>
     requires { tier ≤ 2 }
     ensures { Returns (λ x. (x.0, x.1.now)) result (spec.connections_behind (without_else scope.now) (spec.connections_at levels (without_else scope.now) tier) tier left tokens.now) }
 {
@@ -427,7 +427,7 @@ fn joined_from<'a>(
     at: usize,
     left: ValueOrCondition,
     tokens: &'a [Token],
-) -> Result<(ValueOrCondition, &'a [Token]), SourceError>
+) -> Read<'a, ValueOrCondition>
     requires { tier ≤ 2 }
     ensures { Returns (λ x. (x.0, x.1.now)) result (spec.joined_from (without_else scope.now) (spec.connections_at levels (without_else scope.now) tier) tier at left tokens.now (cursor.after_symbol (spec.tier_symbol (tier + 1)) tokens.now)) }
 {
@@ -447,7 +447,7 @@ fn found<'a>(
     scope: &Scope,
     levels: usize,
     tokens: &'a [Token],
-) -> Result<(ValueOrCondition, &'a [Token]), SourceError>
+) -> Read<'a, ValueOrCondition>
     ensures { Returns (λ x. (x.0, x.1.now)) result (spec.found_at levels scope.now tokens.now) }
 {
     connections(alloc, scope, levels, 2, tokens)
@@ -460,7 +460,7 @@ fn bracket<'a>(
     scope: &Scope,
     levels: usize,
     tokens: &'a [Token],
-) -> Result<(ValueOrCondition, &'a [Token]), SourceError>
+) -> Read<'a, ValueOrCondition>
     ensures { Returns (λ x. (x.0, x.1.now)) result (spec.bracket_at levels scope.now tokens.now) }
 {
     if levels == 0 {
@@ -476,7 +476,7 @@ fn between<'a>(
     scope: &Scope,
     levels: usize,
     tokens: &'a [Token],
-) -> Result<(ValueOrCondition, &'a [Token]), SourceError>
+) -> Read<'a, ValueOrCondition>
     ensures { Returns (λ x. (x.0, x.1.now)) result (spec.between (spec.found_at levels scope.now) tokens.now) }
 {
     let inner = expect_symbol(tokens, Symbol::LeftParenthesis)?;
@@ -492,7 +492,7 @@ fn condition_bracket<'a>(
     scope: &Scope,
     levels: usize,
     tokens: &'a [Token],
-) -> Result<(Tested, &'a [Token]), SourceError>
+) -> Read<'a, Tested>
     ensures { Returns (λ x. (x.0, x.1.now)) result (spec.condition_bracket_at levels scope.now tokens.now) }
 {
     if levels == 0 {
@@ -508,7 +508,7 @@ fn condition_between<'a>(
     scope: &Scope,
     levels: usize,
     tokens: &'a [Token],
-) -> Result<(Tested, &'a [Token]), SourceError>
+) -> Read<'a, Tested>
     ensures { Returns (λ x. (x.0, x.1.now)) result (spec.between (spec.condition_by (spec.found_at levels scope.now)) tokens.now) }
 {
     let inner = expect_symbol(tokens, Symbol::LeftParenthesis)?;
@@ -524,7 +524,7 @@ fn found_condition<'a>(
     scope: &Scope,
     levels: usize,
     tokens: &'a [Token],
-) -> Result<(Tested, &'a [Token]), SourceError>
+) -> Read<'a, Tested>
     ensures { Returns (λ x. (x.0, x.1.now)) result (spec.condition_by (spec.found_at levels scope.now) tokens.now) }
 {
     let (found, rest) = found(alloc, scope, levels, tokens)?;
@@ -541,7 +541,7 @@ pub fn condition<'a>(
     scope: &Scope,
     levels: usize,
     tokens: &'a [Token],
-) -> Result<(Tested, &'a [Token]), SourceError>
+) -> Read<'a, Tested>
     ensures { Returns (λ x. (x.0, x.1.now)) result (spec.condition_at levels scope.now tokens.now) }
 {
     found_condition(alloc, scope, levels, tokens)

@@ -7,7 +7,7 @@ ghost use Rattle.stm_terms.specs.Outcome.{Returns};
 
 use crate::arguments::{Argument, Given, argument_number};
 use crate::cursor::{next_name, next_number, next_text, place, unexpected};
-use crate::faults::{SourceCause, SourceError, fault};
+use crate::faults::{Read, SourceCause, fault};
 use crate::names::Names;
 use crate::shared::Shared;
 use crate::uses::Defined;
@@ -67,11 +67,7 @@ impl Given {
 }
 
 /// The text that a constant stands for, whose name begins at a byte.
-fn constant_text<'a>(
-    at: usize,
-    argument: &Argument,
-    rest: &'a [Token],
-) -> Result<(Text, &'a [Token]), SourceError>
+fn constant_text<'a>(at: usize, argument: &Argument, rest: &'a [Token]) -> Read<'a, Text>
     ensures { Returns (λ x. (x.0, x.1.now)) result (spec.constant_text at argument.now rest.now) }
 {
     match argument {
@@ -155,7 +151,7 @@ impl Constants {
         name: &str,
         tokens: &[Token],
         rest: &'a [Token],
-    ) -> Result<(u64, &'a [Token]), SourceError>
+    ) -> Read<'a, u64>
         ensures is { Returns (λ x. (x.0, x.1.now)) result
             (spec.number_by_name most tokens.now rest.now (spec.alone (spec.constant_named self.now name.now))) }
         ensures bounded { IfOk result (λ x. x.0 ≤ most) }
@@ -168,11 +164,7 @@ impl Constants {
 
     /// A number up to a greatest one, for which a name may stand.
     #[tactic(auto, unfolding(crate::specs::Constants::number_up_to))]
-    pub fn number_up_to<'a>(
-        &self,
-        most: u64,
-        tokens: &'a [Token],
-    ) -> Result<(u64, &'a [Token]), SourceError>
+    pub fn number_up_to<'a>(&self, most: u64, tokens: &'a [Token]) -> Read<'a, u64>
         ensures is { Returns (λ x. (x.0, x.1.now)) result (spec.number_up_to self.now most tokens.now) }
         ensures bounded { IfOk result (λ x. x.0 ≤ most) }
     {
@@ -190,12 +182,7 @@ impl Constants {
     }
 
     /// The text that a name stands for.
-    fn text_named<'a>(
-        &self,
-        name: &str,
-        tokens: &[Token],
-        rest: &'a [Token],
-    ) -> Result<(Text, &'a [Token]), SourceError>
+    fn text_named<'a>(&self, name: &str, tokens: &[Token], rest: &'a [Token]) -> Read<'a, Text>
         ensures { Returns (λ x. (x.0, x.1.now)) result
             (spec.text_by_name tokens.now rest.now (spec.alone (spec.constant_named self.now name.now))) }
     {
@@ -207,7 +194,7 @@ impl Constants {
 
     /// A text of any length, for which a name may stand.
     #[tactic(auto, unfolding(crate::specs::Constants::text_at))]
-    pub fn text<'a>(&self, tokens: &'a [Token]) -> Result<(Text, &'a [Token]), SourceError>
+    pub fn text<'a>(&self, tokens: &'a [Token]) -> Read<'a, Text>
         ensures { Returns (λ x. (x.0, x.1.now)) result (spec.text_at self.now tokens.now) }
     {
         let Some((text, rest)) = next_text(tokens) else {

@@ -8,7 +8,7 @@ ghost use Rattle.stm_terms.specs.LookUps.{look_up_as};
 ghost use Rattle.stm_terms.specs.Outcome.{Returns};
 
 use crate::cursor::{expect_symbol, next_name, next_number, open_bracket, place, unexpected};
-use crate::faults::{SourceCause, SourceError, fault};
+use crate::faults::{Read, SourceCause, SourceError, fault};
 use crate::kinds::{Kind, Valued};
 use crate::look_ups::with_look_up;
 use crate::names::Names;
@@ -85,7 +85,7 @@ fn whole(tokens: &[Token]) -> Result<(u64, &[Token]), SourceError>
 }
 
 /// A runner by its number, or by its name.
-fn runner<'a>(runners: &Runners, tokens: &'a [Token]) -> Result<(u64, &'a [Token]), SourceError>
+fn runner<'a>(runners: &Runners, tokens: &'a [Token]) -> Read<'a, u64>
     ensures { Returns (λ x. (x.0, x.1.now)) result (spec.runner_at runners.now tokens.now) }
 {
     let Some((name, rest)) = next_name(tokens) else {
@@ -105,12 +105,7 @@ fn out_key(alloc: Global, runner: u64, number: u64) -> Result<String, AllocError
 }
 
 /// The key that is looked up, behind the runner.
-fn key_of<'a>(
-    alloc: Global,
-    ending: Ending,
-    runner: u64,
-    tokens: &'a [Token],
-) -> Result<(String, &'a [Token]), SourceError>
+fn key_of<'a>(alloc: Global, ending: Ending, runner: u64, tokens: &'a [Token]) -> Read<'a, String>
     ensures { Returns (λ x. (string_bytes x.0, x.1.now)) result (spec.key_of ending runner tokens.now) }
 {
     match ending {
@@ -151,7 +146,7 @@ pub(crate) fn ending_at<'a>(
     runners: &Runners,
     ending: Ending,
     tokens: &'a [Token],
-) -> Result<(Valued, &'a [Token]), SourceError>
+) -> Read<'a, Valued>
     ensures { Returns (λ x. (x.0, x.1.now)) result (spec.ending_at levels scope.now at runners.now ending tokens.now) }
 {
     let inner = open_bracket(levels, tokens)?;

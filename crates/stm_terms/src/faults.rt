@@ -4,6 +4,7 @@ ghost use Rattle.stm_terms.specs.CauseNames.{cause_name};
 ghost use Rattle.stm_terms.specs.declared.faults.SourceError.TheVariants.{OutOfMemory, Bad};
 
 use std::alloc::{AllocError, AllocFailed};
+use stm_tokens::Token;
 
 /// What is wrong with a source.
 #[derive(Clone, Copy, Debug, PartialEq, Eq)]
@@ -79,6 +80,9 @@ pub enum SourceError {
     /// The source is bad: its first fault.
     Bad(BadSource),
 }
+
+/// What was read, and the tokens behind it.
+pub type Read<'a, T> = Result<(T, &'a [Token]), SourceError>;
 
 impl From<AllocError> for SourceError {
     ghost from_gives = { λ _ e. e ≡ OutOfMemory };

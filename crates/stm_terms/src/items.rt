@@ -8,7 +8,7 @@ ghost use Rattle.stm_terms.specs.Scope.{argument_named, blamed};
 use crate::arguments::{Argument, Given};
 use crate::constants::Item;
 use crate::cursor::{after_symbol, next_name, place, unexpected};
-use crate::faults::{SourceCause, SourceError, fault};
+use crate::faults::{Read, SourceCause, SourceError, fault};
 use crate::kinds::Kind;
 use crate::limits::MOST_KEPT;
 use crate::literals::literal_argument;
@@ -128,11 +128,7 @@ fn fits(given: &Given) -> Result<(), SourceError>
 }
 
 /// An item as it stands.
-fn literal_item<'a>(
-    alloc: Global,
-    scope: &Scope,
-    tokens: &'a [Token],
-) -> Result<(Sequence<Item>, &'a [Token]), SourceError>
+fn literal_item<'a>(alloc: Global, scope: &Scope, tokens: &'a [Token]) -> Read<'a, Sequence<Item>>
     ensures { Returns (λ x. (x.0, x.1.now)) result (spec.literal_item scope.now tokens.now) }
 {
     let (given, rest) = literal_argument(scope.constants.get(), tokens)?;
@@ -156,7 +152,7 @@ fn alone<'a>(
     at: usize,
     name: &str,
     rest: &'a [Token],
-) -> Result<(Sequence<Item>, &'a [Token]), SourceError>
+) -> Read<'a, Sequence<Item>>
     ensures { Returns (λ x. (x.0, x.1.now)) result
         (spec.alone_at at (blamed scope.now name.now) (argument_named scope.now name.now) rest.now) }
 {
@@ -177,7 +173,7 @@ fn named_items<'a>(
     at: usize,
     name: &str,
     rest: &'a [Token],
-) -> Result<(Sequence<Item>, &'a [Token]), SourceError>
+) -> Read<'a, Sequence<Item>>
     ensures { Returns (λ x. (x.0, x.1.now)) result (spec.named_items scope.now lists at name.now rest.now) }
 {
     match list_if(scope, lists, name) {
@@ -195,7 +191,7 @@ fn item<'a>(
     scope: &Scope,
     lists: bool,
     tokens: &'a [Token],
-) -> Result<(Sequence<Item>, &'a [Token]), SourceError>
+) -> Read<'a, Sequence<Item>>
     ensures { Returns (λ x. (x.0, x.1.now)) result (spec.item_at scope.now lists tokens.now) }
 {
     match next_name(tokens) {
@@ -211,7 +207,7 @@ fn more_items<'a>(
     lists: bool,
     before: Items,
     tokens: &'a [Token],
-) -> Result<(Items, &'a [Token]), SourceError>
+) -> Read<'a, Items>
     ensures { Returns (λ x. (x.0, x.1.now)) result (spec.more_items scope.now lists before tokens.now) }
 {
     let Items { items, kind } = before;
@@ -230,7 +226,7 @@ pub fn list_of_items<'a>(
     scope: &Scope,
     lists: bool,
     tokens: &'a [Token],
-) -> Result<(Sequence<Item>, &'a [Token]), SourceError>
+) -> Read<'a, Sequence<Item>>
     ensures { Returns (λ x. (x.0, x.1.now)) result (spec.items_at scope.now lists tokens.now) }
 {
     let mut before = Items {

@@ -32,7 +32,7 @@ pub use cursor::{
     next_number, next_text, open_bracket, place, skip_semicolon, unexpected,
 };
 pub use endings::{Ending, Runners};
-pub use faults::{BadSource, SourceCause, SourceError, fault};
+pub use faults::{BadSource, Read, SourceCause, SourceError, fault};
 pub use items::list_of_items;
 pub use kinds::{Kind, Valued};
 pub use limits::{MOST_BRACKETS, MOST_KEPT};

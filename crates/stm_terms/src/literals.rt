@@ -9,7 +9,7 @@ ghost use Rattle.stm_terms.specs.Scope.{argument_named, blame};
 use crate::arguments::{Argument, Given, GivenText, argument_number, argument_text};
 use crate::constants::Constants;
 use crate::cursor::{after_symbol, next_name, next_number, next_text, place, unexpected};
-use crate::faults::{SourceCause, SourceError, fault};
+use crate::faults::{Read, SourceCause, SourceError, fault};
 use crate::scope::Scope;
 use stm_program::Operator;
 use stm_tokens::{Symbol, Token};
@@ -57,12 +57,7 @@ fn negation(at: usize, tokens: &[Token]) -> Result<(Given, &[Token]), SourceErro
 }
 
 /// What a name stands for that is defined above, and begins at a byte.
-fn constant<'a>(
-    constants: &Constants,
-    at: usize,
-    name: &str,
-    rest: &'a [Token],
-) -> Result<(Given, &'a [Token]), SourceError>
+fn constant<'a>(constants: &Constants, at: usize, name: &str, rest: &'a [Token]) -> Read<'a, Given>
     ensures { Returns (λ x. (x.0, x.1.now)) result
         (spec.constant_given at (alone (constant_named constants.now name.now)) rest.now) }
 {
@@ -76,10 +71,7 @@ fn constant<'a>(
 }
 
 /// A text or a number, or a name that stands for one above.
-pub fn literal_argument<'a>(
-    constants: &Constants,
-    tokens: &'a [Token],
-) -> Result<(Given, &'a [Token]), SourceError>
+pub fn literal_argument<'a>(constants: &Constants, tokens: &'a [Token]) -> Read<'a, Given>
     ensures { Returns (λ x. (x.0, x.1.now)) result (spec.argument_at constants.now tokens.now) }
 {
     let at = place(tokens);
@@ -107,7 +99,7 @@ impl Scope {
         name: &str,
         tokens: &[Token],
         rest: &'a [Token],
-    ) -> Result<(u64, &'a [Token]), SourceError>
+    ) -> Read<'a, u64>
         ensures is { Returns (λ x. (x.0, x.1.now)) result
             (spec.number_by_name most (cursor.place tokens.now) (blame self.now name.now (cursor.place tokens.now)) rest.now (argument_named self.now name.now)) }
         ensures bounded { IfOk result (λ x. x.0 ≤ most) }
@@ -121,11 +113,7 @@ impl Scope {
 
     /// A number up to a greatest one, for which a name may stand.
     #[tactic(auto, unfolding(crate::specs::Literals::number_given))]
-    pub fn number_up_to<'a>(
-        &self,
-        most: u64,
-        tokens: &'a [Token],
-    ) -> Result<(u64, &'a [Token]), SourceError>
+    pub fn number_up_to<'a>(&self, most: u64, tokens: &'a [Token]) -> Read<'a, u64>
         ensures is { Returns (λ x. (x.0, x.1.now)) result (spec.number_given most self.now tokens.now) }
         ensures bounded { IfOk result (λ x. x.0 ≤ most) }
     {
@@ -143,12 +131,7 @@ impl Scope {
     }
 
     /// The text that a name stands for.
-    fn text_named<'a>(
-        &self,
-        name: &str,
-        tokens: &[Token],
-        rest: &'a [Token],
-    ) -> Result<(GivenText, &'a [Token]), SourceError>
+    fn text_named<'a>(&self, name: &str, tokens: &[Token], rest: &'a [Token]) -> Read<'a, GivenText>
         ensures { Returns (λ x. (x.0, x.1.now)) result
             (spec.text_by_name (cursor.place tokens.now) (blame self.now name.now (cursor.place tokens.now)) rest.now (argument_named self.now name.now)) }
     {
@@ -161,7 +144,7 @@ impl Scope {
 
     /// A text, for which a name may stand.
     #[tactic(auto, unfolding(crate::specs::Literals::text_given))]
-    pub fn text<'a>(&self, tokens: &'a [Token]) -> Result<(GivenText, &'a [Token]), SourceError>
+    pub fn text<'a>(&self, tokens: &'a [Token]) -> Read<'a, GivenText>
         ensures { Returns (λ x. (x.0, x.1.now)) result (spec.text_given self.now tokens.now) }
     {
         let Some((text, rest)) = next_text(tokens) else {

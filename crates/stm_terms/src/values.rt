@@ -15,7 +15,7 @@ ghost use Rattle.stm_terms.specs.Values as spec;
 use crate::arguments::Argument;
 use crate::cursor::{after_symbol, after_word, expect_symbol, next_number, place, unexpected};
 use crate::endings::{ending_at, ending_of};
-use crate::faults::{SourceCause, SourceError, fault};
+use crate::faults::{Read, SourceCause, fault};
 use crate::kinds::{Kind, Valued};
 use crate::limits::{MOST_BRACKETS, MOST_JOINS};
 use crate::look_ups::{LookUp, with_else, with_look_up};
@@ -36,7 +36,7 @@ fn literal<'a>(
     at: usize,
     text: &Text,
     rest: &'a [Token],
-) -> Result<(Valued, &'a [Token]), SourceError>
+) -> Read<'a, Valued>
     ensures { Returns (λ x. (x.0, x.1.now)) result (spec.literal scope.now at text.now rest.now) }
 {
     if text.as_str().len() <= MAX_TEXT {
@@ -62,7 +62,7 @@ fn positive<'a>(
     at: usize,
     number: u64,
     rest: &'a [Token],
-) -> Result<(Valued, &'a [Token]), SourceError>
+) -> Read<'a, Valued>
     ensures { Returns (λ x. (x.0, x.1.now)) result (spec.positive scope.now at number rest.now) }
 {
     if number < 1 << 63 {
@@ -79,7 +79,7 @@ fn negative<'a>(
     at: usize,
     number: u64,
     rest: &'a [Token],
-) -> Result<(Valued, &'a [Token]), SourceError>
+) -> Read<'a, Valued>
     ensures { Returns (λ x. (x.0, x.1.now)) result (spec.negative scope.now at number rest.now) }
 {
     if number < 1 << 63 {
@@ -92,11 +92,7 @@ fn negative<'a>(
 }
 
 /// What follows a minus sign: a number.
-fn negation<'a>(
-    alloc: Global,
-    scope: &Scope,
-    tokens: &'a [Token],
-) -> Result<(Valued, &'a [Token]), SourceError>
+fn negation<'a>(alloc: Global, scope: &Scope, tokens: &'a [Token]) -> Read<'a, Valued>
     ensures { Returns (λ x. (x.0, x.1.now)) result (spec.negation scope.now tokens.now (cursor.next_number tokens.now)) }
 {
     match next_number(tokens) {
@@ -121,7 +117,7 @@ fn argument_value<'a>(
     at: usize,
     argument: &Argument,
     rest: &'a [Token],
-) -> Result<(Valued, &'a [Token]), SourceError>
+) -> Read<'a, Valued>
     ensures { Returns (λ x. (x.0, x.1.now)) result (spec.argument_value scope.now at argument.now rest.now) }
 {
     match argument {
@@ -141,7 +137,7 @@ fn named<'a>(
     at: usize,
     name: &str,
     rest: &'a [Token],
-) -> Result<(Valued, &'a [Token]), SourceError>
+) -> Read<'a, Valued>
     ensures { Returns (λ x. (x.0, x.1.now)) result
         (spec.named scope.now at (variable_of scope.now name.now) (argument_named scope.now name.now) (blame scope.now name.now at) rest.now) }
 {
@@ -165,7 +161,7 @@ fn named_operand<'a>(
     at: usize,
     name: &str,
     rest: &'a [Token],
-) -> Result<(Valued, &'a [Token]), SourceError>
+) -> Read<'a, Valued>
     ensures { Returns (λ x. (x.0, x.1.now)) result
         (asked_of levels scope.now at name.now (spec.meant_at (spec.uses_at levels scope.now) scope.now at name.now rest.now) rest.now scope.now.runners) }
 {
@@ -190,7 +186,7 @@ fn meant<'a>(
     at: usize,
     name: &str,
     rest: &'a [Token],
-) -> Result<(Valued, &'a [Token]), SourceError>
+) -> Read<'a, Valued>
     ensures { Returns (λ x. (x.0, x.1.now)) result (spec.meant_at (spec.uses_at levels scope.now) scope.now at name.now rest.now) }
 {
     match scope.constants.get().value_of(name) {
@@ -208,7 +204,7 @@ fn not_defined<'a>(
     at: usize,
     name: &str,
     rest: &'a [Token],
-) -> Result<(Valued, &'a [Token]), SourceError>
+) -> Read<'a, Valued>
     ensures { Returns (λ x. (x.0, x.1.now)) result
         (spec.not_defined (spec.uses_at levels scope.now) scope.now at name.now rest.now (alone (constant_named scope.now.constants name.now))) }
 {
@@ -231,7 +227,7 @@ fn used<'a>(
     at: usize,
     defined: &Defined,
     tokens: &'a [Token],
-) -> Result<(Valued, &'a [Token]), SourceError>
+) -> Read<'a, Valued>
     ensures { Returns (λ x. (x.0, x.1.now)) result (spec.used_at (spec.uses_at levels scope.now) scope.now at defined.now tokens.now) }
 {
     may_stand(scope, at, &defined.value)?;
@@ -250,7 +246,7 @@ fn use_arguments<'a>(
     scope: &Scope,
     levels: usize,
     tokens: &'a [Token],
-) -> Result<(Sequence<Valued>, &'a [Token]), SourceError>
+) -> Read<'a, Sequence<Valued>>
     ensures { Returns (λ x. (x.0, x.1.now)) result
         (spec.arguments_by (spec.uses_at levels scope.now) tokens.now (cursor.after_symbol LeftParenthesis tokens.now)) }
 {
@@ -267,7 +263,7 @@ fn uses<'a>(
     scope: &Scope,
     levels: usize,
     tokens: &'a [Token],
-) -> Result<(Sequence<Valued>, &'a [Token]), SourceError>
+) -> Read<'a, Sequence<Valued>>
     ensures { Returns (λ x. (x.0, x.1.now)) result (spec.uses_at levels scope.now tokens.now) }
 {
     if levels == 0 {
@@ -283,7 +279,7 @@ fn uses_between<'a>(
     scope: &Scope,
     levels: usize,
     tokens: &'a [Token],
-) -> Result<(Sequence<Valued>, &'a [Token]), SourceError>
+) -> Read<'a, Sequence<Valued>>
     ensures { Returns (λ x. (x.0, x.1.now)) result (spec.uses_by scope.now (spec.tier_at levels scope.now 3) tokens.now) }
 {
     let inner = expect_symbol(tokens, Symbol::LeftParenthesis)?;
@@ -297,7 +293,7 @@ fn some_uses<'a>(
     scope: &Scope,
     levels: usize,
     tokens: &'a [Token],
-) -> Result<(Sequence<Valued>, &'a [Token]), SourceError>
+) -> Read<'a, Sequence<Valued>>
     ensures { Returns (λ x. (x.0, x.1.now)) result (spec.uses_from scope.now (spec.tier_at levels scope.now 3) (length tokens.now) [] tokens.now) }
 {
     let mut values = Sequence::new(alloc);
@@ -322,7 +318,7 @@ fn operand_within<'a>(
     levels: usize,
     more: usize,
     tokens: &'a [Token],
-) -> Result<(Valued, &'a [Token]), SourceError>
+) -> Read<'a, Valued>
     requires { more ≤ 127 }
     ensures { Returns (λ x. (x.0, x.1.now)) result (spec.operand_within levels (spec.bracketed_at levels scope.now) (spec.uses_at levels scope.now) scope.now more tokens.now) }
 {
@@ -341,7 +337,7 @@ fn operand<'a>(
     levels: usize,
     more: usize,
     tokens: &'a [Token],
-) -> Result<(Valued, &'a [Token]), SourceError>
+) -> Read<'a, Valued>
     requires { more ≤ 127 }
     ensures { Returns (λ x. (x.0, x.1.now)) result
         (spec.operand_by levels (spec.bracketed_at levels scope.now) (spec.uses_at levels scope.now) (spec.operand_within levels (spec.bracketed_at levels scope.now) (spec.uses_at levels scope.now) scope.now more) scope.now tokens.now) }
@@ -372,7 +368,7 @@ fn computed<'a>(
     word: Word,
     tokens: &'a [Token],
     rest: &'a [Token],
-) -> Result<(Valued, &'a [Token]), SourceError>
+) -> Read<'a, Valued>
     requires { more ≤ 127 }
     ensures { Returns (λ x. (x.0, x.1.now)) result
         (spec.call_by (spec.bracketed_at levels scope.now) (spec.operand_within levels (spec.bracketed_at levels scope.now) (spec.uses_at levels scope.now) scope.now more) scope.now tokens.now rest.now (spec.call_of word)) }
@@ -406,7 +402,7 @@ fn else_behind<'a>(
     look_ups: Sequence<LookUp>,
     tokens: &[Token],
     behind: &'a [Token],
-) -> Result<(Sequence<LookUp>, &'a [Token]), SourceError>
+) -> Read<'a, Sequence<LookUp>>
     requires { more ≤ 127 }
     ensures { Returns (λ x. (x.0, x.1.now)) result
         (spec.else_behind (spec.operand_within levels (spec.bracketed_at levels scope.now) (spec.uses_at levels scope.now) scope.now more) scope.now at look_ups tokens.now behind.now) }
@@ -430,7 +426,7 @@ fn get_look_ups<'a>(
     at: usize,
     look_ups: Sequence<LookUp>,
     tokens: &'a [Token],
-) -> Result<(Sequence<LookUp>, &'a [Token]), SourceError>
+) -> Read<'a, Sequence<LookUp>>
     requires { more ≤ 127 }
     ensures { Returns (λ x. (x.0, x.1.now)) result
         (spec.else_by (spec.operand_within levels (spec.bracketed_at levels scope.now) (spec.uses_at levels scope.now) scope.now more) scope.now at look_ups tokens.now (cursor.after_word Else tokens.now)) }
@@ -455,7 +451,7 @@ fn call_look_ups<'a>(
     at: usize,
     look_ups: Sequence<LookUp>,
     tokens: &'a [Token],
-) -> Result<(Sequence<LookUp>, &'a [Token]), SourceError>
+) -> Read<'a, Sequence<LookUp>>
     requires { more ≤ 127 }
     ensures { Returns (λ x. (x.0, x.1.now)) result
         (spec.call_look_ups (spec.operand_within levels (spec.bracketed_at levels scope.now) (spec.uses_at levels scope.now) scope.now more) scope.now call at look_ups tokens.now) }
@@ -479,7 +475,7 @@ fn signed<'a>(
     symbol: Symbol,
     tokens: &'a [Token],
     rest: &'a [Token],
-) -> Result<(Valued, &'a [Token]), SourceError>
+) -> Read<'a, Valued>
     ensures { Returns (λ x. (x.0, x.1.now)) result (spec.signed (spec.bracketed_at levels scope.now) scope.now symbol tokens.now rest.now) }
 {
     if symbol.is(Symbol::LeftParenthesis) {
@@ -505,7 +501,7 @@ fn joined_right<'a>(
     join: Join,
     left: Valued,
     tokens: &'a [Token],
-) -> Result<(Valued, &'a [Token]), SourceError>
+) -> Read<'a, Valued>
     requires { tier ≤ 3 }
     ensures { Returns (λ x. (x.0, x.1.now)) result (spec.joined_right scope.now at (spec.tier_at levels scope.now tier) done join left tokens.now) }
 {
@@ -528,7 +524,7 @@ fn chain<'a>(
     at: usize,
     left: Valued,
     tokens: &'a [Token],
-) -> Result<(Valued, &'a [Token]), SourceError>
+) -> Read<'a, Valued>
     requires { tier ≤ 3 }
     ensures { Returns (λ x. (x.0, x.1.now)) result (spec.chain (spec.joined_right scope.now at (spec.tier_at levels scope.now tier)) (tier + 1) (length tokens.now) 0 left tokens.now) }
 {
@@ -555,7 +551,7 @@ fn operands<'a>(
     levels: usize,
     tier: usize,
     tokens: &'a [Token],
-) -> Result<(Valued, &'a [Token]), SourceError>
+) -> Read<'a, Valued>
     requires { tier ≤ 3 }
     ensures { Returns (λ x. (x.0, x.1.now)) result (spec.tier_at levels scope.now tier tokens.now) }
 {
@@ -573,7 +569,7 @@ fn joined_behind<'a>(
     at: usize,
     first: Valued,
     tokens: &'a [Token],
-) -> Result<(Valued, &'a [Token]), SourceError>
+) -> Read<'a, Valued>
     requires { tier ≤ 3 }
     ensures { Returns (λ x. (x.0, x.1.now)) result (spec.behind_by (spec.operand_at levels scope.now) scope.now tier at first tokens.now) }
 {
@@ -593,7 +589,7 @@ fn next_tier<'a>(
     at: usize,
     first: Valued,
     tokens: &'a [Token],
-) -> Result<(Valued, &'a [Token]), SourceError>
+) -> Read<'a, Valued>
     requires { tier ≤ 3 }
     ensures { Returns (λ x. (x.0, x.1.now)) result (spec.tier_behind (spec.operand_at levels scope.now) scope.now tier at first tokens.now) }
 {
@@ -612,7 +608,7 @@ pub fn bracketed<'a>(
     levels: usize,
     wanted: Kind,
     tokens: &'a [Token],
-) -> Result<(Valued, &'a [Token]), SourceError>
+) -> Read<'a, Valued>
     ensures { Returns (λ x. (x.0, x.1.now)) result (spec.bracketed_at levels scope.now wanted tokens.now) }
 {
     if levels == 0 {
@@ -629,7 +625,7 @@ fn value_between<'a>(
     levels: usize,
     wanted: Kind,
     tokens: &'a [Token],
-) -> Result<(Valued, &'a [Token]), SourceError>
+) -> Read<'a, Valued>
     ensures { Returns (λ x. (x.0, x.1.now)) result (spec.bracketed_by scope.now (spec.tier_at levels scope.now 3) wanted tokens.now) }
 {
     let inner = expect_symbol(tokens, Symbol::LeftParenthesis)?;
@@ -649,7 +645,7 @@ pub fn value<'a>(
     scope: &Scope,
     levels: usize,
     tokens: &'a [Token],
-) -> Result<(Valued, &'a [Token]), SourceError>
+) -> Read<'a, Valued>
     ensures { Returns (λ x. (x.0, x.1.now)) result (spec.value_at levels scope.now tokens.now) }
 {
     operands(alloc, scope, levels, 3, tokens)
@@ -662,7 +658,7 @@ pub fn value_of<'a>(
     levels: usize,
     wanted: Kind,
     tokens: &'a [Token],
-) -> Result<(Valued, &'a [Token]), SourceError>
+) -> Read<'a, Valued>
     ensures { Returns (λ x. (x.0, x.1.now)) result (spec.value_of levels scope.now wanted tokens.now) }
 {
     let (value, rest) = value(alloc, scope, levels, tokens)?;
@@ -676,7 +672,7 @@ pub(crate) fn first_operand<'a>(
     scope: &Scope,
     levels: usize,
     tokens: &'a [Token],
-) -> Result<(Valued, &'a [Token]), SourceError>
+) -> Read<'a, Valued>
     ensures { Returns (λ x. (x.0, x.1.now)) result (spec.operand_at levels scope.now tokens.now) }
 {
     operand_within(alloc, scope, levels, MOST_BRACKETS, tokens)
@@ -690,7 +686,7 @@ pub(crate) fn value_behind<'a>(
     at: usize,
     first: Valued,
     tokens: &'a [Token],
-) -> Result<(Valued, &'a [Token]), SourceError>
+) -> Read<'a, Valued>
     ensures { Returns (λ x. (x.0, x.1.now)) result (spec.value_behind levels scope.now at first tokens.now) }
 {
     joined_behind(alloc, scope, levels, 3, at, first, tokens)

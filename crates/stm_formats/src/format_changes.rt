@@ -3,7 +3,8 @@ ghost use Rattle.std.specs.Prelude.{◌≡◌, ◌++◌, [], nat_eq, codes, if�
 ghost use Rattle.stm_formats.specs.FormatChanges.{state_words, known_words, change_words, between, counted_change, changes_after, revision_words, changed_since};
 
 use crate::format_keys::{Cuts, key_words};
-use crate::format_pieces::{Piece, push_pieces, said};
+use crate::format_pieces::Piece::{Number, Raw, Say, Shown};
+use crate::format_pieces::{Words, push_pieces, said};
 use std::alloc::{AllocError, Global};
 use stm_events::Event;
 use stm_history::{KeyState, Sequence};
@@ -14,21 +15,17 @@ use stm_reasons::state_by;
 pub(crate) const MOST_CHANGES: u64 = 3;
 
 /// The words of a key that was looked up.
-fn state_words(
-    alloc: Global,
-    most: u32,
-    found: Option<&KeyState>,
-) -> Result<Sequence<u8>, AllocError>
+fn state_words(alloc: Global, most: u32, found: Option<&KeyState>) -> Words
     ensures { IfOk result (λ words. words ≡ state_words most (option_copied found.entry)) }
 {
     match found {
-        None => said(alloc, &[Piece::Say("absent")]),
+        None => said(alloc, &[Say("absent")]),
         Some(state) => {
             let pieces = [
-                Piece::Say("\""),
-                Piece::Shown(most, state.value.as_str()),
-                Piece::Say("\" @"),
-                Piece::Number(state.mod_rev),
+                Say("\""),
+                Shown(most, state.value.as_str()),
+                Say("\" @"),
+                Number(state.mod_rev),
             ];
             said(alloc, &pieces)
         }
@@ -43,36 +40,36 @@ pub(crate) fn known_words(
     key: &str,
     mod_rev: u64,
     revision: u64,
-) -> Result<Sequence<u8>, AllocError>
+) -> Words
     ensures { IfOk result (λ words. words ≡ known_words most keys.now.history key.now mod_rev revision) }
 {
     if mod_rev == 0 {
-        return said(alloc, &[Piece::Say("absent")]);
+        return said(alloc, &[Say("absent")]);
     }
     if revision < keys.below() {
-        return said(alloc, &[Piece::Say("@"), Piece::Number(mod_rev)]);
+        return said(alloc, &[Say("@"), Number(mod_rev)]);
     }
     state_words(alloc, most, state_by(keys, key, revision))
 }
 
 /// The words of a change.
-fn change_words(alloc: Global, cuts: &Cuts, event: &Event) -> Result<Sequence<u8>, AllocError>
+fn change_words(alloc: Global, cuts: &Cuts, event: &Event) -> Words
     ensures { IfOk result (λ words. words ≡ change_words cuts.now event.now) }
 {
     match event {
         Event::Put { key, state } => {
             let mut words = key_words(alloc, cuts, key.as_str())?.into_vec();
             let pieces = [
-                Piece::Say(" = \""),
-                Piece::Shown(cuts.value, state.value.as_str()),
-                Piece::Say("\""),
+                Say(" = \""),
+                Shown(cuts.value, state.value.as_str()),
+                Say("\""),
             ];
             push_pieces(&mut words, &pieces)?;
             Ok(Sequence::of(words))
         }
         Event::Delete { key, .. } => {
             let key = key_words(alloc, cuts, key.as_str())?;
-            said(alloc, &[Piece::Raw(key.as_slice()), Piece::Say(" deleted")])
+            said(alloc, &[Raw(key.as_slice()), Say(" deleted")])
         }
     }
 }
@@ -96,10 +93,7 @@ fn push_change(
 {
     if count < MOST_CHANGES {
         let words = change_words(alloc, cuts, event)?;
-        return push_pieces(
-            out,
-            &[Piece::Say(between(count)), Piece::Raw(words.as_slice())],
-        );
+        return push_pieces(out, &[Say(between(count)), Raw(words.as_slice())]);
     }
     if count == MOST_CHANGES {
         return out.extend_from_slice(b", ..");
@@ -135,7 +129,7 @@ fn revision_words(
         return Ok(Vec::new(alloc));
     }
     if revision <= keys.below() {
-        return Ok(said(alloc, &[Piece::Say("  (compacted)")])?.into_vec());
+        return Ok(said(alloc, &[Say("  (compacted)")])?.into_vec());
     }
     changes_words(alloc, cuts, keys.events_at(revision))
 }
@@ -166,9 +160,9 @@ pub(crate) fn changed_since(
     }
     let second = revision_words(alloc, cuts, keys, before + 2)?;
     let pieces = [
-        Piece::Raw(first.as_slice()),
-        Piece::Raw(second.as_slice()),
-        Piece::Say(more_after(before + 2, after)),
+        Raw(first.as_slice()),
+        Raw(second.as_slice()),
+        Say(more_after(before + 2, after)),
     ];
     Ok(said(alloc, &pieces)?.into_vec())
 }

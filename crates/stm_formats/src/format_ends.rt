@@ -4,7 +4,8 @@ ghost use Rattle.stm_formats.specs.FormatEnds.{begins, read_at, fetched_at, list
 
 use crate::format_keys::Cuts;
 use crate::format_label::{RunnerLabel, runner_words};
-use crate::format_pieces::{Piece, push_pieces, said};
+use crate::format_pieces::Piece::{Number, Raw, Say};
+use crate::format_pieces::{Words, push_pieces, said};
 use crate::format_words::{reads_words, seen_words};
 use std::alloc::{AllocError, Global};
 use stm_events::KeyRead;
@@ -24,15 +25,15 @@ fn begins(runner: u64, reply: &Result<Reply, Denied>) -> bool
 }
 
 /// The words of what was read at an event.
-fn read_at(alloc: Global, number: u64, words: &[u8]) -> Result<Sequence<u8>, AllocError>
+fn read_at(alloc: Global, number: u64, words: &[u8]) -> Words
     ensures { IfOk result (λ read. read ≡ read_at number words.now) }
 {
     let pieces = [
-        Piece::Say(", "),
-        Piece::Raw(words),
-        Piece::Say(" (event "),
-        Piece::Number(number),
-        Piece::Say(")"),
+        Say(", "),
+        Raw(words),
+        Say(" (event "),
+        Number(number),
+        Say(")"),
     ];
     said(alloc, &pieces)
 }
@@ -46,7 +47,7 @@ fn fetched_at(
     key: &str,
     mod_rev: u64,
     of_rev: u64,
-) -> Result<Sequence<u8>, AllocError>
+) -> Words
     ensures { IfOk result (λ read. read ≡ fetched_at cuts.now keys.now.history number key.now mod_rev of_rev) }
 {
     let words = seen_words(alloc, cuts, keys, key, mod_rev, of_rev)?;
@@ -61,14 +62,11 @@ fn listed_at(
     number: u64,
     revision: u64,
     reads: &[KeyRead],
-) -> Result<Sequence<u8>, AllocError>
+) -> Words
     ensures { IfOk result (λ read. read ≡ listed_at cuts.now keys.now.history number revision reads.now) }
 {
     let read = reads_words(alloc, cuts, keys, revision, reads)?;
-    let words = said(
-        alloc,
-        &[Piece::Say("the list"), Piece::Raw(read.as_slice())],
-    )?;
+    let words = said(alloc, &[Say("the list"), Raw(read.as_slice())])?;
     read_at(alloc, number, words.as_slice())
 }
 
@@ -80,7 +78,7 @@ fn own_read(
     runner: u64,
     number: u64,
     reply: &Result<Reply, Denied>,
-) -> Result<Sequence<u8>, AllocError>
+) -> Words
     ensures { IfOk result (λ read. read ≡ own_read cuts.now keys.now.history runner number reply.now) }
 {
     match reply {
@@ -123,7 +121,7 @@ fn with_read(
     number: u64,
     reply: &Result<Reply, Denied>,
     words: &[u8],
-) -> Result<Sequence<u8>, AllocError>
+) -> Words
     ensures { IfOk result (λ read. read ≡ own_read cuts.now keys.now.history runner number reply.now ++ words.now) }
 {
     let mut read = own_read(alloc, cuts, keys, runner, number, reply)?.into_vec();
@@ -139,7 +137,7 @@ fn attempt_reads(
     runner: u64,
     replies: &[Result<Reply, Denied>],
     events: usize,
-) -> Result<Sequence<u8>, AllocError>
+) -> Words
     requires { events ≤ length replies.now }
     ensures { IfOk result (λ words. words ≡ attempt_reads cuts.now keys.now.history runner replies.now events) }
 {
@@ -166,17 +164,11 @@ fn attempt_reads(
 }
 
 /// How a run ended, and at which event.
-fn end_words(
-    alloc: Global,
-    labels: &[RunnerLabel],
-    word: &str,
-    runner: u64,
-    number: u64,
-) -> Result<Sequence<u8>, AllocError>
+fn end_words(alloc: Global, labels: &[RunnerLabel], word: &str, runner: u64, number: u64) -> Words
     ensures { IfOk result (λ words. words ≡ end_words labels.now word.now runner number) }
 {
     let mut words = runner_words(alloc, labels, runner)?.into_vec();
-    push_pieces(&mut words, &[Piece::Say(word), Piece::Number(number)])?;
+    push_pieces(&mut words, &[Say(word), Number(number)])?;
     Ok(Sequence::of(words))
 }
 
@@ -193,11 +185,7 @@ fn push_noted<'a>(
         return Ok(());
     }
     let (_, read) = reads.split_at(2);
-    let pieces = [
-        Piece::Raw(words),
-        Piece::Say(": it had read "),
-        Piece::Raw(read),
-    ];
+    let pieces = [Raw(words), Say(": it had read "), Raw(read)];
     notes.push(said(alloc, &pieces)?)?;
     Ok(())
 }

@@ -7,7 +7,8 @@ ghost use Rattle.stm_formats.specs.FormatHtml.{reason_html, reasons_html, html_o
 use crate::format_columns::{column, last_column};
 use crate::format_label::{RunnerLabel, title};
 use crate::format_page::{page_foot, page_head};
-use crate::format_pieces::{MOST_SHOWN, Piece, push_pieces, said};
+use crate::format_pieces::Piece::{Escaped, Key, Number, Say, Shown, Tag};
+use crate::format_pieces::{MOST_SHOWN, push_pieces, said};
 use crate::format_reasons::reason_note;
 use crate::format_row::{Mark, Row};
 use std::alloc::{AllocError, Global};
@@ -22,14 +23,14 @@ fn push_attribute(out: &mut Vec<u8>, before: &str, text: &[u8]) -> Result<(), Al
     ensures { OnOk result (out.new.items ≡ out.old.items ++ attribute_html before.now text.now) }
 {
     out.extend_from_slice(before.as_bytes())?;
-    push_pieces(out, &[Piece::Escaped(text), Piece::Say("'")])
+    push_pieces(out, &[Escaped(text), Say("'")])
 }
 
 /// Adds the key of a change.
 fn push_key(alloc: Global, out: &mut Vec<u8>, key: &str) -> Result<(), AllocError>
     ensures { OnOk result (out.new.items ≡ out.old.items ++ key_html key.now) }
 {
-    let text = said(alloc, &[Piece::Key(key)])?;
+    let text = said(alloc, &[Key(key)])?;
     push_attribute(out, "<i hidden data-key='", text.as_slice())
 }
 
@@ -37,7 +38,7 @@ fn push_key(alloc: Global, out: &mut Vec<u8>, key: &str) -> Result<(), AllocErro
 fn push_value(alloc: Global, out: &mut Vec<u8>, value: &str) -> Result<(), AllocError>
     ensures { OnOk result (out.new.items ≡ out.old.items ++ value_html value.now) }
 {
-    let text = said(alloc, &[Piece::Shown(MOST_SHOWN, value)])?;
+    let text = said(alloc, &[Shown(MOST_SHOWN, value)])?;
     push_attribute(out, " data-value='", text.as_slice())
 }
 
@@ -123,11 +124,7 @@ fn push_empty(out: &mut Vec<u8>, count: u64) -> Result<(), AllocError>
     if count == 0 {
         return Ok(());
     }
-    let pieces = [
-        Piece::Say("<td colspan='"),
-        Piece::Number(count),
-        Piece::Say("'></td>"),
-    ];
+    let pieces = [Say("<td colspan='"), Number(count), Say("'></td>")];
     push_pieces(out, &pieces)
 }
 
@@ -136,11 +133,7 @@ fn push_empty(out: &mut Vec<u8>, count: u64) -> Result<(), AllocError>
 fn push_number(out: &mut Vec<u8>, number: u64) -> Result<(), AllocError>
     ensures { OnOk result (out.new.items ≡ out.old.items ++ number_html number) }
 {
-    let pieces = [
-        Piece::Say("<tr><th scope='row'>"),
-        Piece::Number(number),
-        Piece::Say("</th>"),
-    ];
+    let pieces = [Say("<tr><th scope='row'>"), Number(number), Say("</th>")];
     push_pieces(out, &pieces)
 }
 
@@ -149,13 +142,13 @@ fn push_words(out: &mut Vec<u8>, row: &Row) -> Result<(), AllocError>
     ensures { OnOk result (out.new.items ≡ out.old.items ++ words_html row.now) }
 {
     let pieces = [
-        Piece::Say("<td colspan='"),
-        Piece::Number(10 - column(row.lane)),
-        Piece::Say("' class='"),
-        Piece::Say(class_of(row.mark)),
-        Piece::Say("'>"),
-        Piece::Tag(row.lane),
-        Piece::Escaped(row.words.as_slice()),
+        Say("<td colspan='"),
+        Number(10 - column(row.lane)),
+        Say("' class='"),
+        Say(class_of(row.mark)),
+        Say("'>"),
+        Tag(row.lane),
+        Escaped(row.words.as_slice()),
     ];
     push_pieces(out, &pieces)
 }
@@ -208,9 +201,9 @@ fn push_title(
 {
     let words = title(alloc, labels, column)?;
     let pieces = [
-        Piece::Say("<th scope='col'>"),
-        Piece::Escaped(words.as_slice()),
-        Piece::Say("</th>"),
+        Say("<th scope='col'>"),
+        Escaped(words.as_slice()),
+        Say("</th>"),
     ];
     push_pieces(out, &pieces)
 }
@@ -235,11 +228,7 @@ fn push_titles(
 fn push_note(out: &mut Vec<u8>, note: &Sequence<u8>) -> Result<(), AllocError>
     ensures { OnOk result (out.new.items ≡ out.old.items ++ note_html note.now) }
 {
-    let pieces = [
-        Piece::Say("<li>"),
-        Piece::Escaped(note.as_slice()),
-        Piece::Say("</li>\n"),
-    ];
+    let pieces = [Say("<li>"), Escaped(note.as_slice()), Say("</li>\n")];
     push_pieces(out, &pieces)
 }
 
@@ -261,11 +250,7 @@ fn push_from(out: &mut Vec<u8>, cause: Option<Cause>) -> Result<(), AllocError>
     match cause {
         None => Ok(()),
         Some(cause) => {
-            let pieces = [
-                Piece::Say(" data-from='"),
-                Piece::Number(cause.event),
-                Piece::Say("'"),
-            ];
+            let pieces = [Say(" data-from='"), Number(cause.event), Say("'")];
             push_pieces(out, &pieces)
         }
     }
@@ -276,11 +261,7 @@ fn push_from(out: &mut Vec<u8>, cause: Option<Cause>) -> Result<(), AllocError>
 fn push_to(out: &mut Vec<u8>, event: u64) -> Result<(), AllocError>
     ensures { OnOk result (out.new.items ≡ out.old.items ++ to_html event) }
 {
-    let pieces = [
-        Piece::Say("<li data-to='"),
-        Piece::Number(event),
-        Piece::Say("'"),
-    ];
+    let pieces = [Say("<li data-to='"), Number(event), Say("'")];
     push_pieces(out, &pieces)
 }
 
@@ -289,11 +270,7 @@ fn push_to(out: &mut Vec<u8>, event: u64) -> Result<(), AllocError>
 fn push_told(out: &mut Vec<u8>, note: &Sequence<u8>) -> Result<(), AllocError>
     ensures { OnOk result (out.new.items ≡ out.old.items ++ told_html note.now) }
 {
-    let pieces = [
-        Piece::Say(">"),
-        Piece::Escaped(note.as_slice()),
-        Piece::Say("</li>\n"),
-    ];
+    let pieces = [Say(">"), Escaped(note.as_slice()), Say("</li>\n")];
     push_pieces(out, &pieces)
 }
 

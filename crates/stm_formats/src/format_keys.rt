@@ -4,7 +4,7 @@ ghost use Rattle.stm_history.specs.History.{now};
 ghost use Rattle.stm_keys.specs.Events.{key_of_event};
 ghost use Rattle.stm_formats.specs.FormatKeys.{is_among, is_twin, has_twin, key_words, with_key, with_keys, keys_read, keys_told, with_told, with_changed, cuts_of, whole_keys};
 
-use crate::format_pieces::{back_shown, front_shown, push_around, push_shown};
+use crate::format_pieces::{Words, back_shown, front_shown, push_around, push_shown};
 use std::alloc::{AllocError, Global};
 use stm_events::{Event, KeyRead};
 use stm_history::{Sequence, Text};
@@ -78,7 +78,7 @@ fn push_key(out: &mut Vec<u8>, cuts: &Cuts, key: &str) -> Result<(), AllocError>
 }
 
 /// A key as a row shows it.
-pub(crate) fn key_words(alloc: Global, cuts: &Cuts, key: &str) -> Result<Sequence<u8>, AllocError>
+pub(crate) fn key_words(alloc: Global, cuts: &Cuts, key: &str) -> Words
     ensures { IfOk result (λ words. words ≡ key_words cuts.now key.now) }
 {
     let mut words = Vec::new(alloc);

@@ -2,8 +2,9 @@
 ghost use Rattle.std.specs.Prelude.{◌≡◌, IfOk, option_copied, option_map};
 ghost use Rattle.stm_formats.specs.FormatLabels.{label_of, name_of, program_of, runner_words, short_title, title};
 
-use crate::format_pieces::{Piece, said};
-use std::alloc::{AllocError, Global};
+use crate::format_pieces::Piece::{Key, Number, Say};
+use crate::format_pieces::{Words, said};
+use std::alloc::Global;
 use stm_history::{Sequence, Text};
 
 /// So many columns a report has for runners at most. All runners from this number on stand in the last one, each row with its runner's number.
@@ -60,54 +61,37 @@ pub(crate) fn program_of(labels: &[RunnerLabel], runner: u64) -> Option<&str>
 }
 
 /// A runner, by its name and its number.
-pub(crate) fn runner_words(
-    alloc: Global,
-    labels: &[RunnerLabel],
-    runner: u64,
-) -> Result<Sequence<u8>, AllocError>
+pub(crate) fn runner_words(alloc: Global, labels: &[RunnerLabel], runner: u64) -> Words
     ensures { IfOk result (λ words. words ≡ runner_words labels.now runner) }
 {
     match name_of(labels, runner) {
-        None => said(alloc, &[Piece::Say("runner "), Piece::Number(runner)]),
+        None => said(alloc, &[Say("runner "), Number(runner)]),
         Some(name) => {
-            let pieces = [
-                Piece::Key(name),
-                Piece::Say(" (runner "),
-                Piece::Number(runner),
-                Piece::Say(")"),
-            ];
+            let pieces = [Key(name), Say(" (runner "), Number(runner), Say(")")];
             said(alloc, &pieces)
         }
     }
 }
 
 /// The title of a column.
-pub(crate) fn title(
-    alloc: Global,
-    labels: &[RunnerLabel],
-    column: u64,
-) -> Result<Sequence<u8>, AllocError>
+pub(crate) fn title(alloc: Global, labels: &[RunnerLabel], column: u64) -> Words
     ensures { IfOk result (λ words. words ≡ title labels.now column) }
 {
     if column == 0 {
-        return said(alloc, &[Piece::Say("store")]);
+        return said(alloc, &[Say("store")]);
     }
     if column >= MOST_COLUMNS {
-        return said(alloc, &[Piece::Say("others")]);
+        return said(alloc, &[Say("others")]);
     }
     runner_words(alloc, labels, column)
 }
 
 /// The title of a column, without the number of a runner that has a name.
-pub(crate) fn short_title(
-    alloc: Global,
-    labels: &[RunnerLabel],
-    column: u64,
-) -> Result<Sequence<u8>, AllocError>
+pub(crate) fn short_title(alloc: Global, labels: &[RunnerLabel], column: u64) -> Words
     ensures { IfOk result (λ words. words ≡ short_title labels.now column) }
 {
     match name_of(labels, column) {
         None => title(alloc, labels, column),
-        Some(name) => said(alloc, &[Piece::Key(name)]),
+        Some(name) => said(alloc, &[Key(name)]),
     }
 }

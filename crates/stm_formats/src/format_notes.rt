@@ -5,7 +5,8 @@ ghost use Rattle.stm_formats.specs.FormatNotes.{key_note, notes_of_key, key_note
 ghost use Rattle.stm_formats.specs.FormatNotes.{end_note, notes_of};
 
 use crate::format_label::{RunnerLabel, runner_words};
-use crate::format_pieces::{Piece, said};
+use crate::format_pieces::Piece::{Key, Number, Raw, Say, Shown};
+use crate::format_pieces::{Words, said};
 use std::alloc::{AllocError, Global};
 use stm_history::{KeyState, Sequence};
 use stm_journal::present_keys;
@@ -16,21 +17,16 @@ use stm_retry::{Denied, Reply, Store, World};
 const MOST_KEY_NOTES: usize = 50;
 
 /// The note of a key that is present.
-fn key_note<'a>(
-    alloc: Global,
-    most: u32,
-    key: &'a str,
-    state: &'a KeyState,
-) -> Result<Sequence<u8>, AllocError>
+fn key_note<'a>(alloc: Global, most: u32, key: &'a str, state: &'a KeyState) -> Words
     ensures { IfOk result (λ note. note ≡ key_note most key.now state.now) }
 {
     let pieces = [
-        Piece::Say("key "),
-        Piece::Key(key),
-        Piece::Say(" = \""),
-        Piece::Shown(most, state.value.as_str()),
-        Piece::Say("\" @"),
-        Piece::Number(state.mod_rev),
+        Say("key "),
+        Key(key),
+        Say(" = \""),
+        Shown(most, state.value.as_str()),
+        Say("\" @"),
+        Number(state.mod_rev),
     ];
     said(alloc, &pieces)
 }
@@ -110,15 +106,15 @@ fn noted_above(count: usize, since: u64, replies: &[Result<Reply, Denied>]) -> u
 }
 
 /// The note of so many keys that are left out.
-fn left_out_note(alloc: Global, above: u64, count: u64) -> Result<Sequence<u8>, AllocError>
+fn left_out_note(alloc: Global, above: u64, count: u64) -> Words
     ensures { IfOk result (λ note. note ≡ left_out_note above count) }
 {
     let pieces = [
-        Piece::Say("keys left out, unchanged since @"),
-        Piece::Number(above),
-        Piece::Say(": "),
-        Piece::Number(count),
-        Piece::Say(" (script --format lines has all)"),
+        Say("keys left out, unchanged since @"),
+        Number(above),
+        Say(": "),
+        Number(count),
+        Say(" (script --format lines has all)"),
     ];
     said(alloc, &pieces)
 }
@@ -225,7 +221,7 @@ fn push_runner(
         return Ok(());
     }
     let words = runner_words(alloc, labels, runner)?;
-    let pieces = [Piece::Say("unfinished: "), Piece::Raw(words.as_slice())];
+    let pieces = [Say("unfinished: "), Raw(words.as_slice())];
     notes.push(said(alloc, &pieces)?)?;
     Ok(())
 }
@@ -246,14 +242,14 @@ fn push_unfinished(
 }
 
 /// The note of the end: the store's revision, and the number of entries.
-fn end_note(alloc: Global, revision: u64, entries: u64) -> Result<Sequence<u8>, AllocError>
+fn end_note(alloc: Global, revision: u64, entries: u64) -> Words
     ensures { IfOk result (λ note. note ≡ end_note revision entries) }
 {
     let pieces = [
-        Piece::Say("revision "),
-        Piece::Number(revision),
-        Piece::Say(", entries "),
-        Piece::Number(entries),
+        Say("revision "),
+        Number(revision),
+        Say(", entries "),
+        Number(entries),
     ];
     said(alloc, &pieces)
 }

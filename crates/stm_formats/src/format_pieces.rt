@@ -343,8 +343,11 @@ pub(crate) fn push_pieces(out: &mut Vec<u8>, pieces: &[Piece<'_>]) -> Result<(),
     Ok(())
 }
 
+/// The bytes of some words, or the failure of a growth.
+pub(crate) type Words = Result<Sequence<u8>, AllocError>;
+
 /// The text of pieces.
-pub(crate) fn said(alloc: Global, pieces: &[Piece<'_>]) -> Result<Sequence<u8>, AllocError>
+pub(crate) fn said(alloc: Global, pieces: &[Piece<'_>]) -> Words
     ensures { IfOk result (λ text. text ≡ joined (map piece_text pieces.now)) }
 {
     let mut out = Vec::new(alloc);

@@ -3,7 +3,8 @@ ghost use Rattle.std.specs.Prelude.{◌≡◌, ◌++◌, IfOk, OnOk};
 ghost use Rattle.stm_formats.specs.FormatReasons.{ending_words, was_words, read_words, deed_words, cause_words, moral, reason_note, reason_notes};
 
 use crate::format_label::{RunnerLabel, runner_words};
-use crate::format_pieces::{Piece, said};
+use crate::format_pieces::Piece::{Key, Number, Raw, Say};
+use crate::format_pieces::{Words, said};
 use std::alloc::{AllocError, Global};
 use stm_history::Sequence;
 use stm_reasons::{Cause, Deed, Ending, Reason};
@@ -20,51 +21,44 @@ fn ending_words(ending: Ending) -> &'static str
 }
 
 /// What it had seen of the key.
-fn was_words(alloc: Global, seen: u64) -> Result<Sequence<u8>, AllocError>
+fn was_words(alloc: Global, seen: u64) -> Words
     ensures { IfOk result (λ words. words ≡ was_words seen) }
 {
     if seen == 0 {
-        return said(alloc, &[Piece::Say(" was absent")]);
+        return said(alloc, &[Say(" was absent")]);
     }
-    said(alloc, &[Piece::Say(" was @"), Piece::Number(seen)])
+    said(alloc, &[Say(" was @"), Number(seen)])
 }
 
 /// When it had seen it.
-fn read_words(alloc: Global, read: Option<u64>) -> Result<Sequence<u8>, AllocError>
+fn read_words(alloc: Global, read: Option<u64>) -> Words
     ensures { IfOk result (λ words. words ≡ read_words read) }
 {
     match read {
-        None => said(alloc, &[Piece::Say(" when it last saw it")]),
+        None => said(alloc, &[Say(" when it last saw it")]),
         Some(event) => {
-            let pieces = [
-                Piece::Say(" when it read it at event "),
-                Piece::Number(event),
-            ];
+            let pieces = [Say(" when it read it at event "), Number(event)];
             said(alloc, &pieces)
         }
     }
 }
 
 /// What an event did to the key.
-fn deed_words(alloc: Global, deed: Deed) -> Result<Sequence<u8>, AllocError>
+fn deed_words(alloc: Global, deed: Deed) -> Words
     ensures { IfOk result (λ words. words ≡ deed_words deed) }
 {
     match deed {
-        Deed::Put => said(alloc, &[Piece::Say(" put it")]),
-        Deed::Deleted => said(alloc, &[Piece::Say(" deleted it")]),
+        Deed::Put => said(alloc, &[Say(" put it")]),
+        Deed::Deleted => said(alloc, &[Say(" deleted it")]),
         Deed::Ended { lease } => {
-            let pieces = [
-                Piece::Say(" deleted it, as lease "),
-                Piece::Number(lease),
-                Piece::Say(" ended"),
-            ];
+            let pieces = [Say(" deleted it, as lease "), Number(lease), Say(" ended")];
             said(alloc, &pieces)
         }
     }
 }
 
 /// What has changed the key since it was seen.
-fn cause_words(alloc: Global, cause: Option<Cause>) -> Result<Sequence<u8>, AllocError>
+fn cause_words(alloc: Global, cause: Option<Cause>) -> Words
     ensures { IfOk result (λ words. words ≡ cause_words cause) }
 {
     match cause {
@@ -72,9 +66,9 @@ fn cause_words(alloc: Global, cause: Option<Cause>) -> Result<Sequence<u8>, Allo
         Some(cause) => {
             let deed = deed_words(alloc, cause.deed)?;
             let pieces = [
-                Piece::Say(", and event "),
-                Piece::Number(cause.event),
-                Piece::Raw(deed.as_slice()),
+                Say(", and event "),
+                Number(cause.event),
+                Raw(deed.as_slice()),
             ];
             said(alloc, &pieces)
         }
@@ -92,11 +86,7 @@ fn moral(ending: Ending) -> &'static str
 }
 
 /// The note of a reason.
-pub(crate) fn reason_note(
-    alloc: Global,
-    labels: &[RunnerLabel],
-    reason: &Reason,
-) -> Result<Sequence<u8>, AllocError>
+pub(crate) fn reason_note(alloc: Global, labels: &[RunnerLabel], reason: &Reason) -> Words
     ensures { IfOk result (λ note. note ≡ reason_note labels.now reason.now) }
 {
     let runner = runner_words(alloc, labels, reason.runner)?;
@@ -104,15 +94,15 @@ pub(crate) fn reason_note(
     let read = read_words(alloc, reason.read)?;
     let cause = cause_words(alloc, reason.cause)?;
     let pieces = [
-        Piece::Raw(runner.as_slice()),
-        Piece::Say(ending_words(reason.ending)),
-        Piece::Number(reason.event),
-        Piece::Say(": "),
-        Piece::Key(reason.key.as_str()),
-        Piece::Raw(was.as_slice()),
-        Piece::Raw(read.as_slice()),
-        Piece::Raw(cause.as_slice()),
-        Piece::Say(moral(reason.ending)),
+        Raw(runner.as_slice()),
+        Say(ending_words(reason.ending)),
+        Number(reason.event),
+        Say(": "),
+        Key(reason.key.as_str()),
+        Raw(was.as_slice()),
+        Raw(read.as_slice()),
+        Raw(cause.as_slice()),
+        Say(moral(reason.ending)),
     ];
     said(alloc, &pieces)
 }

@@ -2,7 +2,8 @@
 ghost use Rattle.std.specs.Prelude.{◌≡◌, ◌++◌, IfOk, OnOk};
 ghost use Rattle.stm_formats.specs.FormatSource.{stage_after, stage_bytes, line_after, source_words, program_words, compare_words};
 
-use crate::format_pieces::{Piece, said};
+use crate::format_pieces::Piece::{Say, Source};
+use crate::format_pieces::{Words, said};
 use std::alloc::{AllocError, Global};
 use stm_history::Sequence;
 use stm_program::Program;
@@ -47,25 +48,17 @@ fn second_line(alloc: Global, text: &[u8]) -> Result<Vec<u8>, AllocError>
 }
 
 /// A source on one line, after two spaces, where there is one.
-pub(crate) fn source_words(
-    alloc: Global,
-    most: u32,
-    source: &[u8],
-) -> Result<Sequence<u8>, AllocError>
+pub(crate) fn source_words(alloc: Global, most: u32, source: &[u8]) -> Words
     ensures { IfOk result (λ words. words ≡ source_words most source.now) }
 {
     if source.is_empty() {
         return Ok(Sequence::new(alloc));
     }
-    said(alloc, &[Piece::Say("  "), Piece::Source(most, source)])
+    said(alloc, &[Say("  "), Source(most, source)])
 }
 
 /// The first line of a program, after two spaces, where it has one.
-pub(crate) fn program_words(
-    alloc: Global,
-    most: u32,
-    program: &Program,
-) -> Result<Sequence<u8>, AllocError>
+pub(crate) fn program_words(alloc: Global, most: u32, program: &Program) -> Words
     ensures { IfOk result (λ words. words ≡ program_words most program.now) }
 {
     let mut body = String::new(alloc);
@@ -75,14 +68,10 @@ pub(crate) fn program_words(
 }
 
 /// What a transaction compares, with a space behind it, where it compares something.
-pub(crate) fn compare_words(
-    alloc: Global,
-    most: u32,
-    compares: &[Compare],
-) -> Result<Sequence<u8>, AllocError>
+pub(crate) fn compare_words(alloc: Global, most: u32, compares: &[Compare]) -> Words
     ensures { IfOk result (λ words. words ≡ compare_words most compares.now) }
 {
     let mut source = String::new(alloc);
     push_compares(alloc, &mut source, compares)?;
-    said(alloc, &[Piece::Source(most, source.as_bytes())])
+    said(alloc, &[Source(most, source.as_bytes())])
 }

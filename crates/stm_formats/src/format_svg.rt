@@ -5,7 +5,8 @@ ghost use Rattle.stm_formats.specs.FormatSvg.{lines_of, frame_svg, under_svg, sv
 
 use crate::format_columns::{MOST_WIDTH, all_places, column, last_column, place};
 use crate::format_label::{RunnerLabel, title};
-use crate::format_pieces::{Piece, push_pieces};
+use crate::format_pieces::Piece::{Escaped, Number, Say, Tag};
+use crate::format_pieces::push_pieces;
 use crate::format_row::{Mark, Row};
 use std::alloc::{AllocError, Global};
 use stm_history::Sequence;
@@ -98,19 +99,17 @@ fn push_column(
     let x = line_at(places, column);
     let words = title(alloc, labels, column)?;
     let pieces = [
-        Piece::Say("<line x1=\""),
-        Piece::Number(x),
-        Piece::Say("\" y1=\"400\" x2=\""),
-        Piece::Number(x),
-        Piece::Say("\" y2=\""),
-        Piece::Number(rows),
-        Piece::Say("500\" stroke=\"#d0d7de\" stroke-width=\"60\"/>\n<text x=\""),
-        Piece::Number(x),
-        Piece::Say(
-            "\" y=\"0\" dy=\"210\" text-anchor=\"middle\" fill=\"#24292f\" font-weight=\"bold\">",
-        ),
-        Piece::Escaped(words.as_slice()),
-        Piece::Say("</text>\n"),
+        Say("<line x1=\""),
+        Number(x),
+        Say("\" y1=\"400\" x2=\""),
+        Number(x),
+        Say("\" y2=\""),
+        Number(rows),
+        Say("500\" stroke=\"#d0d7de\" stroke-width=\"60\"/>\n<text x=\""),
+        Number(x),
+        Say("\" y=\"0\" dy=\"210\" text-anchor=\"middle\" fill=\"#24292f\" font-weight=\"bold\">"),
+        Escaped(words.as_slice()),
+        Say("</text>\n"),
     ];
     push_pieces(out, &pieces)
 }
@@ -140,26 +139,26 @@ fn push_row(out: &mut Vec<u8>, places: &[u64], row: &Row) -> Result<(), AllocErr
 {
     let x = line_at(places, column(row.lane));
     let pieces = [
-        Piece::Say("<text x=\"2400\" y=\""),
-        Piece::Number(row.number),
-        Piece::Say("000\" dy=\"210\" text-anchor=\"end\" fill=\"#57606a\">"),
-        Piece::Number(row.number),
-        Piece::Say("</text>\n<circle cx=\""),
-        Piece::Number(x),
-        Piece::Say("\" cy=\""),
-        Piece::Number(row.number),
-        Piece::Say("000\" "),
-        Piece::Say(shape(row.mark)),
-        Piece::Say("/>\n<text x=\""),
-        Piece::Number(x + 500),
-        Piece::Say("\" y=\""),
-        Piece::Number(row.number),
-        Piece::Say("000\" dy=\"210\" fill=\""),
-        Piece::Say(colour(row.mark)),
-        Piece::Say("\">"),
-        Piece::Tag(row.lane),
-        Piece::Escaped(row.words.as_slice()),
-        Piece::Say("</text>\n"),
+        Say("<text x=\"2400\" y=\""),
+        Number(row.number),
+        Say("000\" dy=\"210\" text-anchor=\"end\" fill=\"#57606a\">"),
+        Number(row.number),
+        Say("</text>\n<circle cx=\""),
+        Number(x),
+        Say("\" cy=\""),
+        Number(row.number),
+        Say("000\" "),
+        Say(shape(row.mark)),
+        Say("/>\n<text x=\""),
+        Number(x + 500),
+        Say("\" y=\""),
+        Number(row.number),
+        Say("000\" dy=\"210\" fill=\""),
+        Say(colour(row.mark)),
+        Say("\">"),
+        Tag(row.lane),
+        Escaped(row.words.as_slice()),
+        Say("</text>\n"),
     ];
     push_pieces(out, &pieces)
 }
@@ -180,11 +179,11 @@ fn push_note(out: &mut Vec<u8>, number: u64, note: &Sequence<u8>) -> Result<(), 
     ensures { OnOk result (out.new.items ≡ out.old.items ++ note_svg number note.now) }
 {
     let pieces = [
-        Piece::Say("<text x=\"1000\" y=\""),
-        Piece::Number(number),
-        Piece::Say("000\" dy=\"210\" fill=\"#24292f\">"),
-        Piece::Escaped(note.as_slice()),
-        Piece::Say("</text>\n"),
+        Say("<text x=\"1000\" y=\""),
+        Number(number),
+        Say("000\" dy=\"210\" fill=\"#24292f\">"),
+        Escaped(note.as_slice()),
+        Say("</text>\n"),
     ];
     push_pieces(out, &pieces)
 }
@@ -205,17 +204,17 @@ fn push_frame(out: &mut Vec<u8>, across: u64, lines: u64) -> Result<(), AllocErr
     ensures { OnOk result (out.new.items ≡ out.old.items ++ frame_svg across lines) }
 {
     let pieces = [
-        Piece::Say("<svg xmlns=\"http://www.w3.org/2000/svg\" viewBox=\"0 -700 "),
-        Piece::Number(across),
-        Piece::Say(" "),
-        Piece::Number(lines),
-        Piece::Say(
+        Say("<svg xmlns=\"http://www.w3.org/2000/svg\" viewBox=\"0 -700 "),
+        Number(across),
+        Say(" "),
+        Number(lines),
+        Say(
             "400\" font-family=\"monospace\" font-size=\"600\">\n<rect x=\"0\" y=\"-700\" width=\"",
         ),
-        Piece::Number(across),
-        Piece::Say("\" height=\""),
-        Piece::Number(lines),
-        Piece::Say("400\" rx=\"300\" fill=\"#ffffff\"/>\n"),
+        Number(across),
+        Say("\" height=\""),
+        Number(lines),
+        Say("400\" rx=\"300\" fill=\"#ffffff\"/>\n"),
     ];
     push_pieces(out, &pieces)
 }
@@ -226,9 +225,9 @@ fn push_under(out: &mut Vec<u8>, rows: u64) -> Result<(), AllocError>
     ensures { OnOk result (out.new.items ≡ out.old.items ++ under_svg rows) }
 {
     let pieces = [
-        Piece::Say("<g transform=\"translate(0 "),
-        Piece::Number(rows),
-        Piece::Say("300)\">\n"),
+        Say("<g transform=\"translate(0 "),
+        Number(rows),
+        Say("300)\">\n"),
     ];
     push_pieces(out, &pieces)
 }

@@ -4,7 +4,8 @@ ghost use Rattle.stm_formats.specs.FormatText.{titled, room, fitted, heading, he
 
 use crate::format_columns::{all_places, column, last_column, most_width, place};
 use crate::format_label::{RunnerLabel, short_title, title};
-use crate::format_pieces::{Piece, push_pieces};
+use crate::format_pieces::Piece::{Padded, Raw, Say, Spaces, Tag};
+use crate::format_pieces::{Words, push_pieces};
 use crate::format_row::Row;
 use std::alloc::{AllocError, Global};
 use stm_history::Sequence;
@@ -24,8 +25,8 @@ fn push_title(
 {
     let left = place(places, number).saturating_sub(place(places, number.saturating_sub(1)));
     let pieces = [
-        Piece::Spaces(left.saturating_sub(before.len() as u64).max(LEAST_SPACE)),
-        Piece::Raw(words),
+        Spaces(left.saturating_sub(before.len() as u64).max(LEAST_SPACE)),
+        Raw(words),
     ];
     push_pieces(out, &pieces)
 }
@@ -41,12 +42,7 @@ fn room(places: &[u64], number: u64) -> u64
 }
 
 /// The title of a column, in its short form where the whole one is too long for the column.
-fn fitted_title(
-    alloc: Global,
-    labels: &[RunnerLabel],
-    places: &[u64],
-    number: u64,
-) -> Result<Sequence<u8>, AllocError>
+fn fitted_title(alloc: Global, labels: &[RunnerLabel], places: &[u64], number: u64) -> Words
     requires { number ≤ 9 }
     ensures { IfOk result (λ words. words ≡ fitted labels.now places.now number) }
 {
@@ -96,11 +92,11 @@ fn push_row(out: &mut Vec<u8>, places: &[u64], row: &Row) -> Result<(), AllocErr
 {
     let indent = 2 + place(places, column(row.lane));
     let pieces = [
-        Piece::Padded(row.number),
-        Piece::Spaces(indent),
-        Piece::Tag(row.lane),
-        Piece::Raw(row.words.as_slice()),
-        Piece::Say("\n"),
+        Padded(row.number),
+        Spaces(indent),
+        Tag(row.lane),
+        Raw(row.words.as_slice()),
+        Say("\n"),
     ];
     push_pieces(out, &pieces)
 }
@@ -119,7 +115,7 @@ fn push_rows(out: &mut Vec<u8>, places: &[u64], rows: &[Row]) -> Result<(), Allo
 fn push_note(out: &mut Vec<u8>, note: &Sequence<u8>) -> Result<(), AllocError>
     ensures { OnOk result (out.new.items ≡ out.old.items ++ note_text note.now) }
 {
-    push_pieces(out, &[Piece::Raw(note.as_slice()), Piece::Say("\n")])
+    push_pieces(out, &[Raw(note.as_slice()), Say("\n")])
 }
 
 /// Adds the notes, one line for each.

@@ -10,7 +10,8 @@ ghost use Rattle.stm_formats.specs.FormatWords.{advanced_words, from_words, watc
 use crate::format_changes::{MOST_CHANGES, between, changed_since, changes_words, known_words};
 use crate::format_keys::{Cuts, key_words};
 use crate::format_label::{RunnerLabel, program_of};
-use crate::format_pieces::{Piece, push_pieces, said};
+use crate::format_pieces::Piece::{Number, Raw, Say, Shown};
+use crate::format_pieces::{Words, push_pieces, said};
 use crate::format_source::{compare_words, program_words, source_words};
 use std::alloc::{AllocError, Global};
 use stm_events::{Event, EventRefusal, KeyRead};
@@ -33,41 +34,31 @@ fn level_name(level: Level) -> &'static str
 }
 
 /// A word and the number that it is about.
-fn named(alloc: Global, word: &str, number: u64) -> Result<Sequence<u8>, AllocError>
+fn named(alloc: Global, word: &str, number: u64) -> Words
     ensures { IfOk result (λ words. words ≡ named_words word.now number) }
 {
-    let pieces = [Piece::Say(word), Piece::Say(" "), Piece::Number(number)];
+    let pieces = [Say(word), Say(" "), Number(number)];
     said(alloc, &pieces)
 }
 
 /// A word and the text that it is about.
-fn reported<'a>(
-    alloc: Global,
-    most: u32,
-    word: &'a str,
-    text: &'a str,
-) -> Result<Sequence<u8>, AllocError>
+fn reported<'a>(alloc: Global, most: u32, word: &'a str, text: &'a str) -> Words
     ensures { IfOk result (λ words. words ≡ reported_words most word.now text.now) }
 {
-    let pieces = [Piece::Say(word), Piece::Say(" "), Piece::Shown(most, text)];
+    let pieces = [Say(word), Say(" "), Shown(most, text)];
     said(alloc, &pieces)
 }
 
 /// What a change did, and the revision after it.
-fn changed(alloc: Global, word: &str, revision: u64) -> Result<Sequence<u8>, AllocError>
+fn changed(alloc: Global, word: &str, revision: u64) -> Words
     ensures { IfOk result (λ words. words ≡ changed_words word.now revision) }
 {
-    let pieces = [Piece::Say(word), Piece::Say(" @"), Piece::Number(revision)];
+    let pieces = [Say(word), Say(" @"), Number(revision)];
     said(alloc, &pieces)
 }
 
 /// What a runner was started with: its program with the arguments, as the source has them, or the first line of its program.
-fn called_words(
-    alloc: Global,
-    most: u32,
-    call: Option<&str>,
-    program: &Program,
-) -> Result<Sequence<u8>, AllocError>
+fn called_words(alloc: Global, most: u32, call: Option<&str>, program: &Program) -> Words
     ensures { IfOk result (λ words. words ≡ called_words most (option_map (λ c. c.now) call.entry) program.now) }
 {
     match call {
@@ -77,21 +68,15 @@ fn called_words(
 }
 
 /// The words of a start of a program at a level, with what it is called.
-fn begun(
-    alloc: Global,
-    most: u32,
-    call: Option<&str>,
-    program: &Program,
-    level: Level,
-) -> Result<Sequence<u8>, AllocError>
+fn begun(alloc: Global, most: u32, call: Option<&str>, program: &Program, level: Level) -> Words
     ensures { IfOk result (λ words. words
         ≡ joined (codes "start " ∷ level_text level ∷ called_words most (option_map (λ c. c.now) call.entry) program.now ∷ [])) }
 {
     let source = called_words(alloc, most, call, program)?;
     let pieces = [
-        Piece::Say("start "),
-        Piece::Say(level_name(level)),
-        Piece::Raw(source.as_slice()),
+        Say("start "),
+        Say(level_name(level)),
+        Raw(source.as_slice()),
     ];
     said(alloc, &pieces)
 }
@@ -103,14 +88,14 @@ fn started(
     labels: &[RunnerLabel],
     runner: u64,
     event: &WorldEvent,
-) -> Result<Sequence<u8>, AllocError>
+) -> Words
     ensures { IfOk result (λ words. words ≡ start_words most labels.now runner event.now) }
 {
     match event {
         WorldEvent::Start { program, level, .. } => {
             begun(alloc, most, program_of(labels, runner), program, *level)
         }
-        _ => said(alloc, &[Piece::Say("start")]),
+        _ => said(alloc, &[Say("start")]),
     }
 }
 
@@ -129,27 +114,27 @@ pub(crate) fn seen_words(
     key: &str,
     mod_rev: u64,
     revision: u64,
-) -> Result<Sequence<u8>, AllocError>
+) -> Words
     ensures { IfOk result (λ words. words ≡ seen_words cuts.now keys.now.history key.now mod_rev revision) }
 {
     let name = key_words(alloc, cuts, key)?;
     let known = known_words(alloc, cuts.value, keys, key, mod_rev, revision)?;
     let pieces = [
-        Piece::Raw(name.as_slice()),
-        Piece::Say(link(mod_rev)),
-        Piece::Raw(known.as_slice()),
+        Raw(name.as_slice()),
+        Say(link(mod_rev)),
+        Raw(known.as_slice()),
     ];
     said(alloc, &pieces)
 }
 
 /// The words for the revision that a read shows, where the store was at another one.
-fn as_of(alloc: Global, of_rev: u64, revision: u64) -> Result<Sequence<u8>, AllocError>
+fn as_of(alloc: Global, of_rev: u64, revision: u64) -> Words
     ensures { IfOk result (λ words. words ≡ as_of of_rev revision) }
 {
     if of_rev == revision {
         return Ok(Sequence::new(alloc));
     }
-    said(alloc, &[Piece::Say(", as of "), Piece::Number(of_rev)])
+    said(alloc, &[Say(", as of "), Number(of_rev)])
 }
 
 /// The words of a fetch.
@@ -161,16 +146,12 @@ fn fetched(
     mod_rev: u64,
     of_rev: u64,
     revision: u64,
-) -> Result<Sequence<u8>, AllocError>
+) -> Words
     ensures { IfOk result (λ words. words ≡ fetched_words cuts.now keys.now.history key.now mod_rev of_rev revision) }
 {
     let seen = seen_words(alloc, cuts, keys, key, mod_rev, of_rev)?;
     let shows = as_of(alloc, of_rev, revision)?;
-    let pieces = [
-        Piece::Say("read "),
-        Piece::Raw(seen.as_slice()),
-        Piece::Raw(shows.as_slice()),
-    ];
+    let pieces = [Say("read "), Raw(seen.as_slice()), Raw(shows.as_slice())];
     said(alloc, &pieces)
 }
 
@@ -188,10 +169,7 @@ fn push_read(
 {
     if count < MOST_CHANGES {
         let seen = seen_words(alloc, cuts, keys, read.key.as_str(), read.mod_rev, revision)?;
-        return push_pieces(
-            out,
-            &[Piece::Say(between(count)), Piece::Raw(seen.as_slice())],
-        );
+        return push_pieces(out, &[Say(between(count)), Raw(seen.as_slice())]);
     }
     if count == MOST_CHANGES {
         return out.extend_from_slice(b", ..");
@@ -217,42 +195,29 @@ pub(crate) fn reads_words(
 }
 
 /// The words of a list that was fetched.
-fn listed(
-    alloc: Global,
-    cuts: &Cuts,
-    keys: &Keys,
-    revision: u64,
-    reads: &[KeyRead],
-) -> Result<Sequence<u8>, AllocError>
+fn listed(alloc: Global, cuts: &Cuts, keys: &Keys, revision: u64, reads: &[KeyRead]) -> Words
     ensures { IfOk result (λ words. words ≡ listed_words cuts.now keys.now.history revision reads.now) }
 {
     let read = reads_words(alloc, cuts, keys, revision, reads)?;
-    said(
-        alloc,
-        &[Piece::Say("read the list"), Piece::Raw(read.as_slice())],
-    )
+    said(alloc, &[Say("read the list"), Raw(read.as_slice())])
 }
 
 /// The words for which attempt a commit was of, from the second on.
-fn attempt_words(alloc: Global, attempts: u64) -> Result<Sequence<u8>, AllocError>
+fn attempt_words(alloc: Global, attempts: u64) -> Words
     ensures { IfOk result (λ words. words ≡ attempt_words attempts) }
 {
     if attempts == 1 {
         return Ok(Sequence::new(alloc));
     }
-    said(alloc, &[Piece::Say(", attempt "), Piece::Number(attempts)])
+    said(alloc, &[Say(", attempt "), Number(attempts)])
 }
 
 /// The words of a commit.
-fn committed(alloc: Global, revision: u64, attempts: u64) -> Result<Sequence<u8>, AllocError>
+fn committed(alloc: Global, revision: u64, attempts: u64) -> Words
     ensures { IfOk result (λ words. words ≡ commit_words revision attempts) }
 {
     let attempt = attempt_words(alloc, attempts)?;
-    let pieces = [
-        Piece::Say("COMMIT @"),
-        Piece::Number(revision),
-        Piece::Raw(attempt.as_slice()),
-    ];
+    let pieces = [Say("COMMIT @"), Number(revision), Raw(attempt.as_slice())];
     said(alloc, &pieces)
 }
 
@@ -265,26 +230,26 @@ fn compared<'a>(
     key: &'a str,
     seen: u64,
     now: u64,
-) -> Result<Sequence<u8>, AllocError>
+) -> Words
     ensures { IfOk result (λ words. words ≡ compared_words cuts.now keys.now.history word.now key.now seen now) }
 {
     let name = key_words(alloc, cuts, key)?;
     let before = known_words(alloc, cuts.value, keys, key, seen, seen)?;
     let after = known_words(alloc, cuts.value, keys, key, now, now)?;
     let pieces = [
-        Piece::Say(word),
-        Piece::Say(" "),
-        Piece::Raw(name.as_slice()),
-        Piece::Say(": was "),
-        Piece::Raw(before.as_slice()),
-        Piece::Say(", is "),
-        Piece::Raw(after.as_slice()),
+        Say(word),
+        Say(" "),
+        Raw(name.as_slice()),
+        Say(": was "),
+        Raw(before.as_slice()),
+        Say(", is "),
+        Raw(after.as_slice()),
     ];
     said(alloc, &pieces)
 }
 
 /// What a transaction compared.
-fn compared_by(alloc: Global, most: u32, event: &WorldEvent) -> Result<Sequence<u8>, AllocError>
+fn compared_by(alloc: Global, most: u32, event: &WorldEvent) -> Words
     ensures { IfOk result (λ words. words ≡ compared_by most event.now) }
 {
     match event {
@@ -301,93 +266,76 @@ fn failed_word(succeeded: bool) -> &'static str
 }
 
 /// A revision.
-fn at_words(alloc: Global, revision: u64) -> Result<Sequence<u8>, AllocError>
+fn at_words(alloc: Global, revision: u64) -> Words
     ensures { IfOk result (λ words. words ≡ at_words revision) }
 {
-    said(alloc, &[Piece::Say("@"), Piece::Number(revision)])
+    said(alloc, &[Say("@"), Number(revision)])
 }
 
 /// The words of another client's transaction.
-fn transacted(
-    alloc: Global,
-    most: u32,
-    event: &WorldEvent,
-    succeeded: bool,
-    revision: u64,
-) -> Result<Sequence<u8>, AllocError>
+fn transacted(alloc: Global, most: u32, event: &WorldEvent, succeeded: bool, revision: u64) -> Words
     ensures { IfOk result (λ words. words ≡ txn_words most event.now succeeded revision) }
 {
     let compared = compared_by(alloc, most, event)?;
     let at = at_words(alloc, revision)?;
     let pieces = [
-        Piece::Say("txn "),
-        Piece::Say(failed_word(succeeded)),
-        Piece::Raw(compared.as_slice()),
-        Piece::Raw(at.as_slice()),
+        Say("txn "),
+        Say(failed_word(succeeded)),
+        Raw(compared.as_slice()),
+        Raw(at.as_slice()),
     ];
     said(alloc, &pieces)
 }
 
 /// The words of a revocation.
-fn revoked(alloc: Global, id: u64, revision: u64) -> Result<Sequence<u8>, AllocError>
+fn revoked(alloc: Global, id: u64, revision: u64) -> Words
     ensures { IfOk result (λ words. words ≡ revoked_words id revision) }
 {
-    let pieces = [
-        Piece::Say("revoke "),
-        Piece::Number(id),
-        Piece::Say(" @"),
-        Piece::Number(revision),
-    ];
+    let pieces = [Say("revoke "), Number(id), Say(" @"), Number(revision)];
     said(alloc, &pieces)
 }
 
 /// The words of an advance.
-fn advanced(alloc: Global, now: u64, expired: u64) -> Result<Sequence<u8>, AllocError>
+fn advanced(alloc: Global, now: u64, expired: u64) -> Words
     ensures { IfOk result (λ words. words ≡ advanced_words now expired) }
 {
     let pieces = [
-        Piece::Say("advance to "),
-        Piece::Number(now),
-        Piece::Say(", "),
-        Piece::Number(expired),
-        Piece::Say(" expired"),
+        Say("advance to "),
+        Number(now),
+        Say(", "),
+        Number(expired),
+        Say(" expired"),
     ];
     said(alloc, &pieces)
 }
 
 /// The words for the revision from which on is watched, where that is said.
-fn from_words(alloc: Global, from: u64) -> Result<Sequence<u8>, AllocError>
+fn from_words(alloc: Global, from: u64) -> Words
     ensures { IfOk result (λ words. words ≡ from_words from) }
 {
     if from == 0 {
         return Ok(Sequence::new(alloc));
     }
-    said(alloc, &[Piece::Say(" from @"), Piece::Number(from)])
+    said(alloc, &[Say(" from @"), Number(from)])
 }
 
 /// The words for a key that is watched.
-fn watched_key(alloc: Global, cuts: &Cuts, key: &str, from: u64) -> Result<Sequence<u8>, AllocError>
+fn watched_key(alloc: Global, cuts: &Cuts, key: &str, from: u64) -> Words
     ensures { IfOk result (λ words. words ≡ joined (codes ": \"" ∷ key_words cuts.now key.now ∷ codes "\"" ∷ from_words from ∷ [])) }
 {
     let key = key_words(alloc, cuts, key)?;
     let from = from_words(alloc, from)?;
     let pieces = [
-        Piece::Say(": \""),
-        Piece::Raw(key.as_slice()),
-        Piece::Say("\""),
-        Piece::Raw(from.as_slice()),
+        Say(": \""),
+        Raw(key.as_slice()),
+        Say("\""),
+        Raw(from.as_slice()),
     ];
     said(alloc, &pieces)
 }
 
 /// The words for a range that is watched.
-fn watched_range(
-    alloc: Global,
-    cuts: &Cuts,
-    first: &str,
-    end: &str,
-    from: u64,
-) -> Result<Sequence<u8>, AllocError>
+fn watched_range(alloc: Global, cuts: &Cuts, first: &str, end: &str, from: u64) -> Words
     ensures { IfOk result (λ words. words
         ≡ joined (codes ": \"" ∷ key_words cuts.now first.now ∷ codes "\"..\"" ∷ key_words cuts.now end.now ∷ codes "\"" ∷ from_words from ∷ [])) }
 {
@@ -395,18 +343,18 @@ fn watched_range(
     let end = key_words(alloc, cuts, end)?;
     let from = from_words(alloc, from)?;
     let pieces = [
-        Piece::Say(": \""),
-        Piece::Raw(first.as_slice()),
-        Piece::Say("\"..\""),
-        Piece::Raw(end.as_slice()),
-        Piece::Say("\""),
-        Piece::Raw(from.as_slice()),
+        Say(": \""),
+        Raw(first.as_slice()),
+        Say("\"..\""),
+        Raw(end.as_slice()),
+        Say("\""),
+        Raw(from.as_slice()),
     ];
     said(alloc, &pieces)
 }
 
 /// The words for what is watched.
-fn watched(alloc: Global, cuts: &Cuts, event: &WorldEvent) -> Result<Sequence<u8>, AllocError>
+fn watched(alloc: Global, cuts: &Cuts, event: &WorldEvent) -> Words
     ensures { IfOk result (λ words. words ≡ watched_words cuts.now event.now) }
 {
     match event {
@@ -419,20 +367,11 @@ fn watched(alloc: Global, cuts: &Cuts, event: &WorldEvent) -> Result<Sequence<u8
 }
 
 /// The words of a watcher.
-fn watching(
-    alloc: Global,
-    cuts: &Cuts,
-    watcher: u64,
-    event: &WorldEvent,
-) -> Result<Sequence<u8>, AllocError>
+fn watching(alloc: Global, cuts: &Cuts, watcher: u64, event: &WorldEvent) -> Words
     ensures { IfOk result (λ words. words ≡ watch_words cuts.now watcher event.now) }
 {
     let watched = watched(alloc, cuts, event)?;
-    let pieces = [
-        Piece::Say("watch "),
-        Piece::Number(watcher),
-        Piece::Raw(watched.as_slice()),
-    ];
+    let pieces = [Say("watch "), Number(watcher), Raw(watched.as_slice())];
     said(alloc, &pieces)
 }
 
@@ -448,38 +387,32 @@ fn events_word(count: u64) -> &'static str
 }
 
 /// The words of a poll.
-fn batch(
-    alloc: Global,
-    cuts: &Cuts,
-    watcher: u64,
-    upto: u64,
-    events: &[Event],
-) -> Result<Sequence<u8>, AllocError>
+fn batch(alloc: Global, cuts: &Cuts, watcher: u64, upto: u64, events: &[Event]) -> Words
     ensures { IfOk result (λ words. words ≡ batch_words cuts.now watcher upto events.now) }
 {
     let count = events.len() as u64;
     let changes = changes_words(alloc, cuts, events)?;
     let pieces = [
-        Piece::Say("poll "),
-        Piece::Number(watcher),
-        Piece::Say(": "),
-        Piece::Number(count),
-        Piece::Say(events_word(count)),
-        Piece::Number(upto),
-        Piece::Raw(changes.as_slice()),
+        Say("poll "),
+        Number(watcher),
+        Say(": "),
+        Number(count),
+        Say(events_word(count)),
+        Number(upto),
+        Raw(changes.as_slice()),
     ];
     said(alloc, &pieces)
 }
 
 /// The words of a watcher that was lost.
-fn lost(alloc: Global, watcher: u64, floor: u64) -> Result<Sequence<u8>, AllocError>
+fn lost(alloc: Global, watcher: u64, floor: u64) -> Words
     ensures { IfOk result (λ words. words ≡ lost_words watcher floor) }
 {
     let pieces = [
-        Piece::Say("LOST watcher "),
-        Piece::Number(watcher),
-        Piece::Say(": kept from @"),
-        Piece::Number(floor),
+        Say("LOST watcher "),
+        Number(watcher),
+        Say(": kept from @"),
+        Number(floor),
     ];
     said(alloc, &pieces)
 }
@@ -492,7 +425,7 @@ fn taken_words(
     keys: &Keys,
     event: &WorldEvent,
     reply: &Reply,
-) -> Result<Sequence<u8>, AllocError>
+) -> Words
     ensures { IfOk result (λ words. words ≡ reply_words cuts.now labels.now keys.now.history event.now reply.now) }
 {
     match reply {
@@ -573,19 +506,14 @@ fn asked_word(event: &WorldEvent) -> &'static str
 }
 
 /// The words of an event that was refused.
-fn refused(
-    alloc: Global,
-    most: u32,
-    event: &WorldEvent,
-    cause: EventRefusal,
-) -> Result<Sequence<u8>, AllocError>
+fn refused(alloc: Global, most: u32, event: &WorldEvent, cause: EventRefusal) -> Words
     ensures { IfOk result (λ words. words ≡ refused_words most event.now cause) }
 {
     let pieces = [
-        Piece::Say("REFUSED "),
-        Piece::Say(asked_word(event)),
-        Piece::Say(": "),
-        Piece::Shown(most, cause.name()),
+        Say("REFUSED "),
+        Say(asked_word(event)),
+        Say(": "),
+        Shown(most, cause.name()),
     ];
     said(alloc, &pieces)
 }
@@ -598,7 +526,7 @@ fn told_words(
     keys: &Keys,
     event: &WorldEvent,
     reply: &Result<Reply, Denied>,
-) -> Result<Sequence<u8>, AllocError>
+) -> Words
     ensures { IfOk result (λ words. words ≡ told_words cuts.now labels.now keys.now.history event.now reply.now) }
 {
     match reply {
@@ -617,13 +545,10 @@ pub(crate) fn words_of(
     before: u64,
     event: &WorldEvent,
     reply: &Result<Reply, Denied>,
-) -> Result<Sequence<u8>, AllocError>
+) -> Words
     ensures { IfOk result (λ words. words ≡ words_of cuts.now labels.now keys.now.history before event.now reply.now) }
 {
     let told = told_words(alloc, cuts, labels, keys, event, reply)?;
     let changed = changed_since(alloc, cuts, keys, before, counter_after(before, reply))?;
-    said(
-        alloc,
-        &[Piece::Raw(told.as_slice()), Piece::Raw(changed.as_slice())],
-    )
+    said(alloc, &[Raw(told.as_slice()), Raw(changed.as_slice())])
 }

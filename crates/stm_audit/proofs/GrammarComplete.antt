@@ -16,7 +16,8 @@ use Rattle.stm_history.specs.declared.change.Change.TheVariants.{Put, Del}
 use Rattle.stm_events.specs.declared.reply.CommittedRead.{CommittedRead}
 use Rattle.stm_texts.specs.Grammar.{level_text}
 use Rattle.stm_txn.specs.declared.restored.Checkpoint.{Checkpoint}
-use Rattle.stm_texts.specs.Reading.{level_named, level_of, begins}
+use Rattle.stm_texts.specs.Reading.{begins}
+use Rattle.stm_texts.proofs.GrammarComplete.{level_reads}
 use Rattle.stm_audit.specs.declared.commit.Commit.{Commit}
 use Rattle.stm_audit.specs.declared.trace.Trace.{Trace}
 use Rattle.stm_audit.specs.Grammar.{SpellsValue, SpellsRead, SpellsWrite, SpellsCommit, SpellsKey, SpellsBeginning, SpellsElements, SpellsTrace}
@@ -48,11 +49,6 @@ write_reads d (Put key value lease) (is, none) =
 write_reads d (Del key) is =
     let k : text_of (string key) ≡ Ok key = text_reads (string key) key refl in
     ap write_of is ∙ rw k refl
-
-level_reads : (l : Level) → level_of (string (level_text l)) ≡ Ok l
-unfolding level_of level_named
-level_reads SerializableSnapshot = refl
-level_reads _ = refl
 
 commit_reads : (d : Data) (t : Commit) → SpellsCommit d t → commit_of d ≡ Ok t
 unfolding commit_of

@@ -17,7 +17,6 @@ use Rattle.stm_json.proofs.OutcomeLemmas.{bind_ok, within_ok}
 use Rattle.stm_json.proofs.ElementLemmas.{worded-is, one_of-is, two_of-is, three_of-is, four_of-is}
 use Rattle.stm_json.proofs.PartLemmas.{text_of-is, on_text-is, list_is, number_is, up_to_is, word_and}
 use Rattle.stm_json.proofs.ListLemmas.{each_sound, list_sound}
-use Rattle.stm_txn_json.proofs.WordLemmas.{chosen, no_word}
 use Rattle.stm_program.specs.declared.level.Level.{Level}
 use Rattle.stm_program.specs.declared.level.Level.TheVariants.{SerializableSnapshot, Serializable, RepeatableReads, ReadCommitted}
 use Rattle.stm_history.specs.declared.key_state.KeyState.{KeyState}
@@ -26,7 +25,8 @@ use Rattle.stm_history.specs.declared.change.Change.TheVariants.{Put, Del}
 use Rattle.stm_events.specs.declared.reply.CommittedRead.{CommittedRead}
 use Rattle.stm_texts.specs.Grammar.{level_text}
 use Rattle.stm_txn.specs.declared.restored.Checkpoint.{Checkpoint}
-use Rattle.stm_texts.specs.Reading.{level_named, level_of, begins}
+use Rattle.stm_texts.specs.Reading.{level_of, begins}
+use Rattle.stm_texts.proofs.GrammarSound.{level_is}
 use Rattle.stm_audit.specs.declared.commit.Commit.{Commit}
 use Rattle.stm_audit.specs.declared.trace.Trace.{Trace}
 use Rattle.stm_audit.specs.Grammar.{SpellsValue, SpellsRead, SpellsWrite, SpellsCommit, SpellsKey, SpellsBeginning, SpellsElements, SpellsTrace}
@@ -120,21 +120,6 @@ unfolding write_of
 write_sound d w h = write_array d (worded d) w refl h
 
 -- ---- commits
-
-level_named-is : (w : List ℕ) (l : Level) → level_named w ≡ Ok l → w ≡ level_text l
-unfolding level_named
-level_named-is w l h =
-    chosen level_text w (codes "SerializableSnapshot") SerializableSnapshot l _ refl
-    (chosen level_text w (codes "Serializable") Serializable l _ refl
-    (chosen level_text w (codes "RepeatableReads") RepeatableReads l _ refl
-    (chosen level_text w (codes "ReadCommitted") ReadCommitted l _ refl (no_word level_text w l))))
-    h
-
-level_is : (d : Data) (l : Level) → level_of d ≡ Ok l → d ≡ string (level_text l)
-unfolding level_of
-level_is d l h =
-    let t = on_text-is level_named d l h in
-    t.1 ∙ ap string (level_named-is t.0 l t.2)
 
 abbrev commit_with : Level → ℕ → List CommittedRead → List Change → Commit
 commit_with level revision reads writes = record { level = level; revision = revision; reads = reads; writes = writes }

@@ -23,6 +23,7 @@ use Rattle.stm_events.specs.declared.reply.CommittedRead.{CommittedRead}
 use Rattle.stm_txn.specs.declared.restored.Checkpoint.{Checkpoint}
 use Rattle.stm_texts.specs.Reading.{level_named, level_of, begins}
 use Rattle.stm_texts.specs.FirstFault.{level_words}
+use Rattle.stm_texts.proofs.ScenarioFaults.{level_faulted}
 use Rattle.stm_audit.specs.declared.commit.Commit.{Commit}
 use Rattle.stm_audit.specs.declared.trace.Trace.{Trace}
 use Rattle.stm_audit.specs.FirstFault.{elements_faults, all_faults, value_faults, read_faults, write_table, commit_faults, key_faults}
@@ -108,26 +109,6 @@ write_reported p (array (item (string w) ds)) = write_tested p ds (same w (codes
 write_reported p _ = wrong_is {A = Change} p Shape (bad Shape) refl
 
 -- ---- commits
-
-level_tested : (p : List ℕ) (snapshot serializable repeatable committed : Bool)
-    → first_of (cond (cond snapshot true (cond serializable true (cond repeatable true (cond committed true false)))) [] (wrong p Shape))
-    ≡ fault_of p (cond snapshot (Ok SerializableSnapshot) (cond serializable (Ok Serializable) (cond repeatable (Ok RepeatableReads)
-    (cond committed (Ok ReadCommitted) (bad Shape)))))
-level_tested p true serializable repeatable committed = refl
-level_tested p false true repeatable committed = refl
-level_tested p false false true committed = refl
-level_tested p false false false true = refl
-level_tested p false false false false = wrong_is {A = Level} p Shape (bad Shape) refl
-
-level_reported : (p : List ℕ) (o : Option (List ℕ)) → first_of (word_faults level_words p o) ≡ fault_of p (on_text level_named o)
-unfolding level_named
-level_reported p (Some w) =
-    level_tested p (same w (codes "SerializableSnapshot")) (same w (codes "Serializable")) (same w (codes "RepeatableReads")) (same w (codes "ReadCommitted"))
-level_reported p None = wrong_is {A = Level} p Shape (bad Shape) refl
-
-level_faulted : (p : List ℕ) (d : Data) → first_of (faults_by (WordOf level_words) p d) ≡ fault_of p (level_of d)
-unfolding level_of
-level_faulted p d = level_reported p (as_str d)
 
 abbrev commit_sorts : List Sort
 commit_sorts = WordOf level_words ∷ NumberIn 1 HIGHEST_REVISION ∷ By (all_faults read_faults) ∷ By (list_faults write_table) ∷ []

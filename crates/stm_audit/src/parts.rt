@@ -6,12 +6,11 @@ ghost use Rattle.stm_json.specs.Elements.{one_of, two_of, number_in};
 ghost use Rattle.stm_json.specs.Outcome.{Outcome, within as within_list};
 ghost use Rattle.stm_json.specs.Returns.{Returns};
 ghost use Rattle.stm_json.specs.Parts.{each_from, text_of};
-ghost use Rattle.stm_texts.specs.Reading.{level_named, level_of};
 ghost use Rattle.stm_audit.specs.Reading.{triple, quad, listed, stood, text_or_null, put_of, del_of};
 
 use serde_json::Value as Json;
 use std::alloc::Global;
-use stm_events::{CommittedRead, KeyState, Level, Sequence, Text};
+use stm_events::{CommittedRead, KeyState, Sequence, Text};
 use stm_history::{HIGHEST_NUMBER, HIGHEST_REVISION};
 use stm_json::{
     Cause, ReadError, fault, four, number_between, number_part, one, text, text_part, three, two,
@@ -125,35 +124,6 @@ impl Readable for (Text, KeyState) {
         let value = text_part(alloc, 1, second)?;
         let revision = revision(alloc, 2, third)?;
         Ok((key, stood(value, revision)))
-    }
-}
-
-/// The level of a word.
-#[tactic(auto, unfolding(stm_texts::specs::Reading::level_named))]
-fn level_word(alloc: Global, word: &str) -> Result<Level, ReadError>
-    ensures { Returns (λ l. l) result (level_named word.now) }
-{
-    if word == "SerializableSnapshot" {
-        Ok(Level::SerializableSnapshot)
-    } else if word == "Serializable" {
-        Ok(Level::Serializable)
-    } else if word == "RepeatableReads" {
-        Ok(Level::RepeatableReads)
-    } else if word == "ReadCommitted" {
-        Ok(Level::ReadCommitted)
-    } else {
-        Err(fault(alloc, Cause::Shape))
-    }
-}
-
-/// A level.
-#[tactic(auto, unfolding(stm_texts::specs::Reading::level_of))]
-pub(crate) fn level(alloc: Global, value: &Json) -> Result<Level, ReadError>
-    ensures { Returns (λ l. l) result (level_of (view value.now)) }
-{
-    match value.as_str() {
-        Some(word) => level_word(alloc, word),
-        None => Err(fault(alloc, Cause::Shape)),
     }
 }
 

@@ -10,13 +10,14 @@ ghost use Rattle.stm_texts.specs.Reading.{begins};
 ghost use Rattle.stm_audit.specs.Reading.{began, beginning_of, trace_of, trace_in};
 
 use crate::commit::Commit;
-use crate::parts::{Readable, elements, elements_from, level, read_within, revision};
+use crate::parts::{Readable, elements, elements_from, read_within, revision};
 use crate::trace::Trace;
 use serde_json::Value as Json;
 use std::alloc::Global;
 use stm_events::Sequence;
 use stm_json::{Cause, MOST_BYTES, ReadError, fault, two, within, worded_array};
 use stm_outcome::MOST_OPERATIONS;
+use stm_texts::level;
 use stm_txn::Checkpoint;
 
 impl Readable for Commit {

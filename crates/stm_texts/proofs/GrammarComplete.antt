@@ -26,7 +26,7 @@ use Rattle.stm_texts.proofs.ScenarioLemmas.{scenario_in-short}
 
 -- ---- levels
 
-level_reads : (l : Level) → level_of (string (level_text l)) ≡ Ok l
+pub level_reads : (l : Level) → level_of (string (level_text l)) ≡ Ok l
 unfolding level_of level_named
 level_reads SerializableSnapshot = refl
 level_reads _ = refl

@@ -46,7 +46,7 @@ level_named-is w l h =
     (chosen level_text w (codes "ReadCommitted") ReadCommitted l _ refl (no_word level_text w l))))
     h
 
-level_is : (d : Data) (l : Level) → level_of d ≡ Ok l → d ≡ string (level_text l)
+pub level_is : (d : Data) (l : Level) → level_of d ≡ Ok l → d ≡ string (level_text l)
 unfolding level_of
 level_is d l h =
     let t = on_text-is level_named d l h in

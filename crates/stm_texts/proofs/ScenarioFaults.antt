@@ -53,7 +53,7 @@ level_reported p (Some w) =
     level_tested p (same w (codes "SerializableSnapshot")) (same w (codes "Serializable")) (same w (codes "RepeatableReads")) (same w (codes "ReadCommitted"))
 level_reported p None = wrong_is {A = Level} p Shape (bad Shape) refl
 
-level_faulted : (p : List ℕ) (d : Data) → first_of (faults_by (WordOf level_words) p d) ≡ fault_of p (level_of d)
+pub level_faulted : (p : List ℕ) (d : Data) → first_of (faults_by (WordOf level_words) p d) ≡ fault_of p (level_of d)
 unfolding level_of
 level_faulted p d = level_reported p (as_str d)
 

@@ -41,8 +41,9 @@ fn level_word(alloc: Global, word: &str) -> Result<Level, ReadError>
     }
 }
 
+/// The level that a value names. Anything else than one of the four words is `Shape`. `OutOfMemory` is answered where an allocation failed.
 #[tactic(auto, unfolding(crate::specs::Reading::level_of))]
-fn level(alloc: Global, value: &Value) -> Result<Level, ReadError>
+pub fn level(alloc: Global, value: &Value) -> Result<Level, ReadError>
     ensures { Returns (λ l. l) result (level_of (view value.now)) }
 {
     match value.as_str() {

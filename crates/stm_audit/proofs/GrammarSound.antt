@@ -15,10 +15,9 @@ use Rattle.stm_json.specs.Outcome.{bad, within}
 use Rattle.stm_json.specs.Parts.{same, spelled, each_from, text_of}
 use Rattle.stm_json.proofs.OutcomeLemmas.{bind_ok, within_ok}
 use Rattle.stm_json.proofs.ElementLemmas.{worded-is, one_of-is, two_of-is, three_of-is, four_of-is}
-use Rattle.stm_json.proofs.PartLemmas.{text_of-is, on_text-is, list_is, number_is, up_to_is, word_and}
+use Rattle.stm_json.proofs.PartLemmas.{text_of-is, list_is, number_is, up_to_is, word_and}
 use Rattle.stm_json.proofs.ListLemmas.{each_sound, list_sound}
 use Rattle.stm_program.specs.declared.level.Level.{Level}
-use Rattle.stm_program.specs.declared.level.Level.TheVariants.{SerializableSnapshot, Serializable, RepeatableReads, ReadCommitted}
 use Rattle.stm_history.specs.declared.key_state.KeyState.{KeyState}
 use Rattle.stm_history.specs.declared.change.Change.{Change}
 use Rattle.stm_history.specs.declared.change.Change.TheVariants.{Put, Del}

@@ -2,26 +2,25 @@
 use Rattle.std.proofs.Common.{◌≡◌, ℕ, suc, arith, List, [], ◌∷◌, ◌++◌, length, Bool, true, false, cond, Option, Some, None, Ok, refl, codes}
 use Rattle.std.specs.Prelude.{nat_lt}
 use Rattle.serde_json.specs.Data.{Data, null, string, array, Items, no_items, item}
-use Rattle.serde_json.specs.Find.{as_str, as_array}
+use Rattle.serde_json.specs.Find.{as_array}
 use Rattle.stm_history.specs.declared.revisions.TheConstants.{HIGHEST_NUMBER, HIGHEST_REVISION}
 use Rattle.stm_json.specs.declared.cause.Cause.TheVariants.{Shape, TooLong, NotJson}
 use Rattle.stm_json.specs.declared.limits.TheConstants.{MOST_BYTES}
 use Rattle.stm_json.specs.Bytes.{data_of}
 use Rattle.stm_json.specs.Elements.{worded, one_of, two_of, three_of, four_of, number_up_to, number_in}
-use Rattle.stm_json.specs.Faults.{Faults, Sort, AnyText, WordOf, NumberIn, By, first_of, wrong, at, is_count, parts_faults, word_faults, faults_by, sorted_faults}
+use Rattle.stm_json.specs.Faults.{Faults, Sort, AnyText, WordOf, NumberIn, By, first_of, wrong, at, is_count, parts_faults, faults_by, sorted_faults}
 use Rattle.stm_json.specs.Faults.{worded_faults, list_faults, any_number}
 use Rattle.stm_json.specs.Outcome.{Outcome, bad, step}
-use Rattle.stm_json.specs.Parts.{on_text, same, text_of, each_from, list_of}
+use Rattle.stm_json.specs.Parts.{same, text_of, each_from, list_of}
 use Rattle.stm_json.proofs.FaultLemmas.{fault_of, wrong_is, part_then, made, text_faulted, number_faulted, number_reported, list_faulted}
 use Rattle.stm_program.specs.declared.level.Level.{Level}
-use Rattle.stm_program.specs.declared.level.Level.TheVariants.{SerializableSnapshot, Serializable, RepeatableReads, ReadCommitted}
 use Rattle.stm_history.specs.declared.key_state.KeyState.{KeyState}
 use Rattle.stm_history.specs.Opening.{States}
 use Rattle.stm_history.specs.declared.change.Change.{Change}
 use Rattle.stm_history.specs.declared.change.Change.TheVariants.{Put, Del}
 use Rattle.stm_events.specs.declared.reply.CommittedRead.{CommittedRead}
 use Rattle.stm_txn.specs.declared.restored.Checkpoint.{Checkpoint}
-use Rattle.stm_texts.specs.Reading.{level_named, level_of, begins}
+use Rattle.stm_texts.specs.Reading.{level_of, begins}
 use Rattle.stm_texts.specs.FirstFault.{level_words}
 use Rattle.stm_texts.proofs.ScenarioFaults.{level_faulted}
 use Rattle.stm_audit.specs.declared.commit.Commit.{Commit}

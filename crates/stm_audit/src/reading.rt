@@ -17,7 +17,7 @@ use std::alloc::Global;
 use stm_events::Sequence;
 use stm_json::{Cause, MOST_BYTES, ReadError, fault, two, within, worded_array};
 use stm_outcome::MOST_OPERATIONS;
-use stm_texts::level;
+use stm_texts::read_level;
 use stm_txn::Checkpoint;
 
 impl Readable for Commit {
@@ -30,7 +30,7 @@ impl Readable for Commit {
         let Some((first, second, third, fourth)) = elements(value) else {
             return Err(fault(alloc, Cause::Shape));
         };
-        let level = within(alloc, 0, level(alloc, first))?;
+        let level = within(alloc, 0, read_level(alloc, first))?;
         let revision = revision(alloc, 1, second)?;
         let reads = read_within(alloc, 2, third)?;
         let writes = read_within(alloc, 3, fourth)?;

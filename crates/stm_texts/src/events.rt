@@ -43,7 +43,7 @@ fn level_word(alloc: Global, word: &str) -> Result<Level, ReadError>
 
 /// The level that a value names. Anything else than one of the four words is `Shape`. `OutOfMemory` is answered where an allocation failed.
 #[tactic(auto, unfolding(crate::specs::Reading::level_of))]
-pub fn level(alloc: Global, value: &Value) -> Result<Level, ReadError>
+pub fn read_level(alloc: Global, value: &Value) -> Result<Level, ReadError>
     ensures { Returns (λ l. l) result (level_of (view value.now)) }
 {
     match value.as_str() {
@@ -66,7 +66,7 @@ fn start(alloc: Global, elements: &[Value]) -> Result<WorldEvent, ReadError>
     let Some((first, second, third)) = three(elements) else {
         return Err(fault(alloc, Cause::Shape));
     };
-    let level = within(alloc, 1, level(alloc, first))?;
+    let level = within(alloc, 1, read_level(alloc, first))?;
     let limit = within(alloc, 2, limit(alloc, second))?;
     let program = within(alloc, 3, read_program(alloc, third))?;
     Ok(WorldEvent::Start {

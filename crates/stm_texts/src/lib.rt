@@ -12,7 +12,7 @@ mod written_events;
 mod written_lists;
 mod written_txns;
 
-pub use events::{HIGHEST_LIMIT, MOST_EVENTS, level};
+pub use events::{HIGHEST_LIMIT, MOST_EVENTS, read_level};
 pub use laws::written_scenarios_spell;
 pub use reading::read_scenario;
 pub use scenario::{Opening, Scenario, opens_with};

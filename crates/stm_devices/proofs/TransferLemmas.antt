@@ -4,6 +4,7 @@ use Rattle.std.proofs.Common.{append-nil, append_assoc, arith, take_all, take_at
 use Rattle.std.proofs.KnownBytes.{Consumes-trans, Appends-trans}
 use Rattle.std.proofs.lemmas.List.{take-append-drop}
 use Rattle.std.specs.Io.KnownBytes.{Appends, Consumes, IsAtEnd}
+use Rattle.std.proofs.lemmas.Bool.Decides.{nat_tests}
 
 -- what was taken until the end is all that there was
 Consumes-end : (old new : Option (List ℕ)) (bytes : List ℕ) (most : ℕ) → Consumes old new bytes → IsAtEnd new → length bytes ≤ most →
@@ -18,9 +19,7 @@ Consumes-end (Some all) (Some rest) bytes most taken end long =
 pub reads_end : (old mid new : Option (List ℕ)) (before after piece : List ℕ) (n most : ℕ) →
     Consumes old mid before → after ≡ before ++ piece → length piece ≡ n → n ≡ 0
     → Consumes mid new piece → IsAtEnd new → length before ≤ most → IfSome old (λ all. after ≡ take most all)
-reads_end old mid new before after piece n most taken joined long none more end room =
-    subst (λ (bytes : List ℕ). IfSome old (λ all. bytes ≡ take most all)) (sym joined)
-    (Consumes-end old new (before ++ piece) most (Consumes-trans old mid new before piece taken more) end (omega (arith, length-append before piece)))
+reads_end old mid new before after piece n most taken joined long none more end room = grind (arith, nat_tests, Consumes-end, Consumes-trans, length-append)
 
 -- what was taken, as much as was wanted, is a prefix of what there was
 pub reads_most : (old new : Option (List ℕ)) (bytes : List ℕ) (most : ℕ) →

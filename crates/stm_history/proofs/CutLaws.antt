@@ -25,14 +25,12 @@ use Rattle.stm_history.proofs.StatesLaws.{state_found, same_states}
 -- ---- a key that a history does not name is absent
 
 not_some : (o : Option KeyState) → is_some o ≡ false → o ≡ None
-not_some None none = refl
-not_some (Some s) none = absurd (cc)
+not_some o none = grind (arith, nat_tests)
 
 -- the entries by their keys' bytes
 any_by_bytes : (key : List ℕ) (keys : List (List ℕ)) → list_any (eq_by_cmp (slice_cmp nat_cmp) key) keys ≡ list_any (bytes_eq key) keys
 any_by_bytes key [] = refl
-any_by_bytes key (k ∷ keys) =
-    ap (λ b. b || list_any (eq_by_cmp (slice_cmp nat_cmp) key) keys) (is_eq-slice_cmp key k) ∙ ap (λ b. bytes_eq key k || b) (any_by_bytes key keys)
+any_by_bytes key (k ∷ keys) = grind (arith, nat_tests, is_eq-slice_cmp, any_by_bytes key keys)
 
 none_opened : (opening : Opening) (key : List ℕ) → list_any (bytes_eq key) (map (λ (e : List ℕ × KeyState). e.0) opening.states) ≡ false →
     opened_state opening key ≡ None
@@ -66,9 +64,7 @@ unnamed_up_to opening r key keys [] unnamed = unnamed
 unnamed_up_to opening r key keys (changes ∷ older) unnamed = grind (arith, nat_tests, list_any-append, or_parts, unnamed_up_to opening r key keys older)
 
 absent_at : (h : History) (key : List ℕ) (r : ℕ) → list_any (bytes_eq key) (keys_named h) ≡ false → key_at h key r ≡ None
-absent_at h key r unnamed =
-    absent_after h.opening key (revisions_up_to h.opening r h.revisions)
-    (unnamed_up_to h.opening r key (map (λ (e : List ℕ × KeyState). e.0) h.opening.states) h.revisions unnamed)
+absent_at h key r unnamed = grind (arith, nat_tests, absent_after, unnamed_up_to)
 
 -- what is found of a key among the states at a revision
 pub found_at : (h : History) (r : ℕ) (key : List ℕ) → find (slice_cmp nat_cmp) key (states_at h r) ≡ key_at h key r
@@ -97,22 +93,15 @@ up_to_twice opening number r (changes ∷ older) le = grind (arith, nat_tests, u
 
 pub taken_above : (opening : Opening) (number : ℕ) (changes : List Change) (older : List (List Change)) → number < number_of_last opening (changes ∷ older) →
     revisions_above opening number (changes ∷ older) ≡ changes ∷ revisions_above opening number older
-taken_above opening number changes older less =
-    ap (λ b. cond b (changes ∷ revisions_above opening number older) []) (lt-ltb number (number_of_last opening (changes ∷ older)) less)
+taken_above opening number changes older less = grind (arith, nat_tests, lt-ltb)
 
 pub none_above : (opening : Opening) (number : ℕ) (changes : List Change) (older : List (List Change)) → number_of_last opening (changes ∷ older) ≤ number →
     revisions_above opening number (changes ∷ older) ≡ []
-none_above opening number changes older more =
-    ap (λ b. cond b (changes ∷ revisions_above opening number older) []) (le-ltb number (number_of_last opening (changes ∷ older)) more)
+none_above opening number changes older more = grind (arith, nat_tests, le-ltb)
 
 still_revisions : (opening : Opening) (number : ℕ) (revisions : List (List Change)) → AreRevisions revisions → AreRevisions (revisions_above opening number revisions)
 still_revisions opening number [] are = tt
-still_revisions opening number (changes ∷ older) are =
-    by_test (nat_lt number (number_of_last opening (changes ∷ older))) (still_revisions opening number older are.1)
-  where
-    by_test : (b : Bool) → AreRevisions (revisions_above opening number older) → AreRevisions (cond b (changes ∷ revisions_above opening number older) [])
-    by_test true rest = (are.0, rest)
-    by_test false rest = tt
+still_revisions opening number (changes ∷ older) are = grind (arith, nat_tests, still_revisions opening number older are.1)
 
 -- one opening above another, on the way of these revisions
 module _ (old new : Opening) (above : old.number ≤ new.number) where
@@ -206,14 +195,10 @@ module _ (old new : Opening) (above : old.number ≤ new.number) where
 -- what is cut off, where the history opens below the number
 pub cut_off : (number : ℕ) (h : History) → h.opening.number < number →
     cut number h ≡ record { opening = opening_of_cut number h; revisions = revisions_above h.opening number h.revisions }
-cut_off number h less =
-    ap (λ b. cond b (let part : History = record { opening = opening_of_cut number h; revisions = revisions_above h.opening number h.revisions } in part) h)
-    (lt-ltb h.opening.number number less)
+cut_off number h less = grind (arith, nat_tests, lt-ltb)
 
 pub cut_at_the_opening : CutAtTheOpening
-cut_at_the_opening h number le =
-    ap (λ b. cond b (let part : History = record { opening = opening_of_cut number h; revisions = revisions_above h.opening number h.revisions } in part) h)
-    (le-ltb h.opening.number number le)
+cut_at_the_opening h number le = grind (arith, nat_tests, le-ltb)
 
 -- what a key is at the opening of a cut
 pub opened_by_cut : (number : ℕ) (h : History) (key : List ℕ) → h.opening.number ≤ number → opened_state (opening_of_cut number h) key ≡ key_at h key number
@@ -224,11 +209,7 @@ opened_by_cut number h key opened =
     (within h.opening number h.revisions opened) (are_small h.opening key (revisions_up_to h.opening number h.revisions)))
 
 pub cut_keeps_now : CutKeepsNow
-cut_keeps_now h number reached =
-    elim (cases_lt h.opening.number number) [
-      | inl less ↦ ap now (cut_off number h less) ∙ cut_last h.opening (opening_of_cut number h) (omega (arith, less)) h.revisions reached
-      | inr more ↦ ap now (cut_at_the_opening h number more)
-    ]
+cut_keeps_now h number reached = grind (arith, nat_tests, cases_lt, cut_off, cut_last, cut_at_the_opening)
 
 pub cut_shows_the_same : CutShowsTheSame
 cut_shows_the_same h number reached key r le =
@@ -250,12 +231,7 @@ cut_keeps_keys_now h number reached key =
     ∙ last_revision_is_now h key (now h) (omega arith)
 
 pub cut_keeps_revisions : CutKeepsRevisions
-cut_keeps_revisions h number are = by_test (nat_lt h.opening.number number)
-  where
-    by_test : (b : Bool) →
-        AreRevisions (cond b (let part : History = record { opening = opening_of_cut number h; revisions = revisions_above h.opening number h.revisions } in part) h).revisions
-    by_test true = still_revisions h.opening number h.revisions are
-    by_test false = are
+cut_keeps_revisions h number are = grind (arith, nat_tests, still_revisions)
 
 -- the states at a number that two histories show alike are one list
 pub same_states_at : (g h : History) (r : ℕ) → ((key : List ℕ) → key_at g key r ≡ key_at h key r) → states_at g r ≡ states_at h r
@@ -283,34 +259,4 @@ cut_goes_on h number changes reached =
 
 pub cut_twice : CutTwice
 unfolding history_of
-cut_twice h first second one two =
-    elim (cases_lt h.opening.number first) [
-      | inl less ↦
-          let part : History = record { opening = opening_of_cut first h; revisions = revisions_above h.opening first h.revisions } in
-          ap (cut second) (cut_off first h less)
-          ∙ elim (cases_lt first second) [
-            | inl later ↦
-                let higher : second ≡ max first second = omega (arith, later) in
-                cut_off second part later
-                ∙ ap (λ (l : List (List Change)). history_of second (states_at part second) l)
-                (above_twice h.opening (opening_of_cut first h) (omega (arith, less)) second h.revisions (omega (arith, later)) one)
-                ∙ ap (λ (s : States). history_of second s (revisions_above h.opening second h.revisions))
-                (same_states_at part h second (λ key.
-                sym (ap (λ (g : History). key_at g key second) (cut_off first h less)) ∙ cut_shows_the_same h first one key second (omega (arith, later))))
-                ∙ sym (cut_off second h (omega (arith, less, later)))
-                ∙ ap (λ (n : ℕ). cut n h) higher
-            | inr passed ↦
-                let higher : first ≡ max first second = omega (arith, passed) in
-                cut_at_the_opening part second passed ∙ sym (cut_off first h less) ∙ ap (λ (n : ℕ). cut n h) higher
-          ]
-      | inr opened ↦
-          ap (cut second) (cut_at_the_opening h first opened)
-          ∙ elim (cases_lt first second) [
-            | inl later ↦ let higher : second ≡ max first second = omega (arith, later) in ap (λ (n : ℕ). cut n h) higher
-            | inr passed ↦
-                let higher : first ≡ max first second = omega (arith, passed) in
-                cut_at_the_opening h second (omega (arith, passed, opened))
-                ∙ sym (cut_at_the_opening h first opened)
-                ∙ ap (λ (n : ℕ). cut n h) higher
-          ]
-    ]
+cut_twice h first second one two = grind (arith, nat_tests, cases_lt, cut_off, history_of, above_twice, same_states_at, cut_shows_the_same, cut_at_the_opening)

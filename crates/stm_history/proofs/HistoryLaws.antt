@@ -20,22 +20,16 @@ use Rattle.stm_history.specs.Laws.{SameModMeansSameState, OlderRevisionsStay, On
 put_on_top : (n : ℕ) (value : List ℕ) (lease : ℕ) (before : Option KeyState) (puts : List DatedPut) →
     state_after_puts before (record { number = n; value = value; lease = lease } ∷ puts)
     ≡ Some (state_after_put n value lease (state_after_puts before puts))
-put_on_top n value lease None [] = grind arith
-put_on_top n value lease (Some s) [] = grind arith
-put_on_top n value lease None (p ∷ ps) = grind arith
-put_on_top n value lease (Some s) (p ∷ ps) = grind arith
+put_on_top n value lease before puts = grind (arith, nat_tests)
 
 -- one more change, or none, on top of the changes of a key
 change_on_top : (n : ℕ) (c : Option Change) (opened : Option KeyState) (dated : List Dated) →
     state_after opened (with_change n c dated) ≡ after_change n c (state_after opened dated)
-change_on_top n None opened dated = refl
-change_on_top n (Some (Put key value lease)) opened dated = put_on_top n value lease (state_before_puts opened dated) (puts_since_deletion dated)
-change_on_top n (Some (Del key)) opened dated = refl
+change_on_top n c opened dated = grind (arith, nat_tests, put_on_top)
 
 pub one_more : (opening : Opening) (key : List ℕ) (changes : List Change) (older : List (List Change)) →
     key_after opening key (changes ∷ older) ≡ after_change (number_of_last opening (changes ∷ older)) (change_of key changes) (key_after opening key older)
-one_more opening key changes older =
-    change_on_top (number_of_last opening (changes ∷ older)) (change_of key changes) (opened_state opening key) (changes_of opening key older)
+one_more opening key changes older = grind (arith, nat_tests, change_on_top)
 
 pub one_more_revision : OneMoreRevision
 one_more_revision h changes key = one_more h.opening key changes h.revisions
@@ -54,9 +48,7 @@ pub last_revision_is_now : LastRevisionIsNow
 last_revision_is_now h key r above = ap (λ l. key_after h.opening key l) (all_up_to h.opening r h.revisions above)
 
 pub older_revisions_stay : OlderRevisionsStay
-older_revisions_stay h changes key r below =
-    let above : r < number_of_last h.opening (changes ∷ h.revisions) = omega arith in
-    ap (λ l. key_after h.opening key l) (last_is_above h.opening r changes h.revisions above)
+older_revisions_stay h changes key r below = grind (arith, nat_tests, last_is_above)
 
 -- the numbers of a present key, in a history that has reached a number
 pub record AreSmall (last : ℕ) (s : KeyState) : Type 0 where
@@ -71,45 +63,32 @@ SmallIfPresent last s = IfSome s (AreSmall last)
 
 put_keeps_small : (last n : ℕ) (value : List ℕ) (lease : ℕ) (s : Option KeyState) → last < n → SmallIfPresent last s →
     AreSmall n (state_after_put n value lease s)
-put_keeps_small last n value lease None less h = grind arith
-put_keeps_small last n value lease (Some s) less h = grind arith
+put_keeps_small last n value lease s less h = grind (arith, nat_tests)
 
 pub stays_small : (last n : ℕ) (s : Option KeyState) → last ≤ n → SmallIfPresent last s → SmallIfPresent n s
-stays_small last n None less h = h
-stays_small last n (Some s) less h = grind arith
+stays_small last n s less h = grind (arith, nat_tests)
 
 change_keeps_small : (last n : ℕ) (c : Option Change) (s : Option KeyState) → last < n → SmallIfPresent last s → SmallIfPresent n (after_change n c s)
-change_keeps_small last n None s less h = stays_small last n s (omega (arith, less)) h
-change_keeps_small last n (Some (Put key value lease)) s less h = put_keeps_small last n value lease s less h
-change_keeps_small last n (Some (Del key)) s less h = tt
+change_keeps_small last n c s less h = grind (arith, nat_tests, stays_small, put_keeps_small)
 
 -- what a test of a state's numbers says of them, and the other way round
 reached_small : (number : ℕ) (s : KeyState) → is_reached number s ≡ true → AreSmall number s
-reached_small number s is =
-    record { version = grind (arith, nat_tests); counted = grind (arith, nat_tests); modified = grind (arith, nat_tests); created = grind (arith, nat_tests); above = grind (arith, nat_tests) }
+reached_small number s is = grind (arith, nat_tests)
 
 small_reached : (number : ℕ) (s : KeyState) → AreSmall number s → is_reached number s ≡ true
 small_reached number s small = grind (arith, nat_tests)
 
 -- what a key is at an opening has small numbers, and a state with small numbers can stand there
 opened_small : (number : ℕ) (o : Option KeyState) → SmallIfPresent number (if_reached number o)
-opened_small number None = tt
-opened_small number (Some s) =
-    elim (is_reached number s) as (λ b. is_reached number s ≡ b → SmallIfPresent number (cond b (Some s) None)) [ true ↦ λ is. reached_small number s is | false ↦ λ _. tt ] refl
+opened_small number o = grind (arith, nat_tests, reached_small)
 
 pub small_opened : (number : ℕ) (o : Option KeyState) → SmallIfPresent number o → if_reached number o ≡ o
-small_opened number None small = refl
-small_opened number (Some s) small = ap (λ b. cond b (Some s) None) (small_reached number s small)
+small_opened number o small = grind (arith, nat_tests, small_reached)
 
 pub are_small : (opening : Opening) (key : List ℕ) (revisions : List (List Change)) →
     SmallIfPresent (number_of_last opening revisions) (key_after opening key revisions)
-are_small opening key [] =
-    stays_small opening.number (number_of_last opening []) (opened_state opening key) (omega arith)
-    (opened_small opening.number (find (slice_cmp nat_cmp) key opening.states))
-are_small opening key (changes ∷ older) =
-    subst (SmallIfPresent (number_of_last opening (changes ∷ older))) (sym (one_more opening key changes older))
-    (change_keeps_small (number_of_last opening older) (number_of_last opening (changes ∷ older)) (change_of key changes) (key_after opening key older)
-    (omega arith) (are_small opening key older))
+are_small opening key [] = grind (arith, nat_tests, stays_small, opened_small)
+are_small opening key (changes ∷ older) = grind (arith, nat_tests, one_more, change_keeps_small, are_small opening key older)
 
 -- the modification revision of a key is at most the last revision
 pub mod_is_reached : (opening : Opening) (key : List ℕ) (revisions : List (List Change)) → mod_of (key_after opening key revisions) ≤ number_of_last opening revisions
@@ -139,18 +118,12 @@ up_to_is_reached opening r (changes ∷ older) = grind (arith, nat_tests, up_to_
 same_after_change : (n older_last : ℕ) (c : Option Change) (before other : Option KeyState) → older_last < n →
     mod_of other ≤ older_last → (mod_of other ≡ 0 → other ≡ None) → (mod_of before ≡ mod_of other → before ≡ other) →
     mod_of (after_change n c before) ≡ mod_of other → after_change n c before ≡ other
-same_after_change n older_last None before other above reached absent same equal = same equal
-same_after_change n older_last (Some (Put key value lease)) None other above reached absent same equal = absurd (omega arith)
-same_after_change n older_last (Some (Put key value lease)) (Some s) other above reached absent same equal = absurd (omega arith)
-same_after_change n older_last (Some (Del key)) before other above reached absent same equal = sym (absent (sym equal))
+same_after_change n older_last c before other above reached absent same equal = grind (arith, nat_tests)
 
 -- a law about the revisions up to two numbers, in the four cases of whether the last one is among them
 by_both : (P : List (List Change) → List (List Change) → Type 0) (all r_part s_part : List (List Change)) (b c : Bool) →
     P all all → P all s_part → P r_part all → P r_part s_part → P (cond b all r_part) (cond c all s_part)
-by_both P all r_part s_part true true both left right neither = both
-by_both P all r_part s_part true false both left right neither = left
-by_both P all r_part s_part false true both left right neither = right
-by_both P all r_part s_part false false both left right neither = neither
+by_both P all r_part s_part b c both left right neither = grind (arith, nat_tests)
 
 -- equal modification revisions after two lists of revisions mean the same state
 abbrev SameIfModIs : Opening → List ℕ → List (List Change) → List (List Change) → Type 0
@@ -160,42 +133,20 @@ SameIfModIs opening key a b =
 -- of the last revision and a part of the older ones
 last_and_older : (opening : Opening) (key : List ℕ) (changes : List Change) (older : List (List Change)) (s : ℕ) →
     SameIfModIs opening key older (revisions_up_to opening s older) → SameIfModIs opening key (changes ∷ older) (revisions_up_to opening s older)
-last_and_older opening key changes older s same equal =
-    one_more opening key changes older ∙
-    same_after_change (number_of_last opening (changes ∷ older)) (number_of_last opening older) (change_of key changes)
-    (key_after opening key older) (key_after opening key (revisions_up_to opening s older))
-    (omega arith)
-    (omega (arith, mod_is_reached opening key (revisions_up_to opening s older), up_to_is_reached opening s older))
-    (absent_at_zero opening key (revisions_up_to opening s older))
-    same
-    (ap mod_of (sym (one_more opening key changes older)) ∙ equal)
+last_and_older opening key changes older s same equal = grind (arith, nat_tests, one_more, same_after_change, mod_is_reached, up_to_is_reached, absent_at_zero)
 
 same_if_mod_is : (opening : Opening) (key : List ℕ) (revisions : List (List Change)) (r s : ℕ) →
     SameIfModIs opening key (revisions_up_to opening r revisions) (revisions_up_to opening s revisions)
 same_if_mod_is opening key [] r s = λ equal. refl
 same_if_mod_is opening key (changes ∷ older) r s =
-    let all_older : revisions_up_to opening (number_of_last opening older) older ≡ older =
-    all_up_to opening (number_of_last opening older) older (omega arith) in
-    let left : SameIfModIs opening key (changes ∷ older) (revisions_up_to opening s older) =
-    last_and_older opening key changes older s
-    (subst (λ l. SameIfModIs opening key l (revisions_up_to opening s older)) all_older (same_if_mod_is opening key older (number_of_last opening older) s)) in
-    let right : SameIfModIs opening key (changes ∷ older) (revisions_up_to opening r older) =
-    last_and_older opening key changes older r
-    (subst (λ l. SameIfModIs opening key l (revisions_up_to opening r older)) all_older (same_if_mod_is opening key older (number_of_last opening older) r)) in
-    by_both (SameIfModIs opening key) (changes ∷ older) (revisions_up_to opening r older) (revisions_up_to opening s older)
-    (nat_le (number_of_last opening (changes ∷ older)) r) (nat_le (number_of_last opening (changes ∷ older)) s)
-    (λ equal. refl)
-    left
-    (λ equal. sym (right (sym equal)))
-    (same_if_mod_is opening key older r s)
+    grind (arith, nat_tests, all_up_to, last_and_older, by_both, same_if_mod_is opening key older (number_of_last opening older) s, same_if_mod_is opening key older (number_of_last opening older) r, same_if_mod_is opening key older r s)
 
 pub same_mod_means_same_state : SameModMeansSameState
 same_mod_means_same_state h key r s = same_if_mod_is h.opening key h.revisions r s
 
 -- fewer revisions make smaller numbers
 small_in : (h : History) (last : ℕ) (s : Option KeyState) → last ≤ now h → SmallIfPresent last s → IfSome s (AreSmallIn h)
-small_in h last None reached small = tt
-small_in h last (Some s) reached small = grind arith
+small_in h last s reached small = grind (arith, nat_tests)
 
 pub numbers_stay_small : NumbersStaySmall
 numbers_stay_small h key r =

@@ -1,6 +1,6 @@
 -- How the change of one list keeps every other, and what each kind of change makes of the list.
 use Rattle.std.proofs.Common.{arith, ◌≡◌, ◌≢◌, ◌⊎◌, ℕ, List, [], ◌∷◌, ◌++◌, Option, Some, None, option_map, refl, sym, ap, subst, ◌∙◌, inl, inr}
-use Rattle.std.proofs.lemmas.Bool.{cases_eq}
+use Rattle.std.proofs.lemmas.Bool.{cases_eq, Decides.nat_tests}
 use Rattle.std.proofs.lemmas.Option.{same_Some}
 use Rattle.slab.specs.Slab.{Slab, get}
 use Rattle.stm_lists.specs.Lists.{IsOff, IsApart}
@@ -32,8 +32,7 @@ module _ {T : Type 0} where
 
   pub list_kept : (nodes new_nodes : Slab (Node T)) (other : ℕ) (h : Head) (xs : List (ℕ × T))
       → ((node : ℕ) → owner_at nodes node ≡ Some other → get new_nodes node ≡ get nodes node) → IsList nodes other h xs → IsList new_nodes other h xs
-  list_kept nodes new_nodes other h xs kept p =
-      record { first = p.first; last = p.last; len = p.len; linked = segment_kept nodes new_nodes other None xs None kept p.linked }
+  list_kept nodes new_nodes other h xs kept p = grind (arith, nat_tests, segment_kept)
 
   module _ (nodes : Slab (Node T)) (heads : Slab Head) (new_nodes : Slab (Node T)) (new_heads : Slab Head) (list : ℕ) (h : Head) (entries : List (ℕ × T)) where
     -- a list that stays is walked as before
@@ -67,16 +66,7 @@ module _ {T : Type 0} where
         }
 
     pub rebuilt-shows : IsSound nodes heads → Rebuilds nodes heads new_nodes new_heads list h entries → Shows nodes heads new_nodes new_heads list entries
-    rebuilt-shows sound p =
-        record {
-          changed = ap (option_map (entries_of new_nodes)) p.head ∙ ap Some (walk-list new_nodes list h entries p.made);
-          others = λ other differs. ap (option_map (entries_of new_nodes)) (p.other_heads other differs) ∙ same_entries other differs (get heads other) refl;
-        }
-      where
-        same_entries : (other : ℕ) → other ≢ list → (o : Option Head) → get heads other ≡ o
-            → option_map (entries_of new_nodes) o ≡ option_map (entries_of nodes) o
-        same_entries other differs None found = refl
-        same_entries other differs (Some k) found = ap Some (same_walk sound p other k differs found)
+    rebuilt-shows sound p = grind (arith, nat_tests, walk-list, same_walk)
 
   -- a change that keeps what a node's list is
   owner-changed : (s : Slab (Node T)) (key : ℕ) (f : Node T → Node T) → ((x : Node T) → (f x).list ≡ x.list) → (node : ℕ)
@@ -84,23 +74,19 @@ module _ {T : Type 0} where
   owner-changed s key f keeps node = grind (arith, get-changed_same, get-changed_other, keeps)
 
   pub owner-next_set : (s : Slab (Node T)) (link to : Option ℕ) (node : ℕ) → owner_at (next_set s link to) node ≡ owner_at s node
-  owner-next_set s None to node = refl
-  owner-next_set s (Some key) to node = owner-changed s key _ (λ x. refl) node
+  owner-next_set s link to node = grind (arith, nat_tests, owner-changed)
 
   pub owner-previous_set : (s : Slab (Node T)) (link to : Option ℕ) (node : ℕ) → owner_at (previous_set s link to) node ≡ owner_at s node
-  owner-previous_set s None to node = refl
-  owner-previous_set s (Some key) to node = owner-changed s key _ (λ x. refl) node
+  owner-previous_set s link to node = grind (arith, nat_tests, owner-changed)
 
   -- a node that the link does not name stays
   pub get-next_set : (s : Slab (Node T)) (link to : Option ℕ) (node : ℕ) → ((key : ℕ) → link ≡ Some key → node ≢ key)
       → get (next_set s link to) node ≡ get s node
-  get-next_set s None to node differs = refl
-  get-next_set s (Some key) to node differs = get-changed_other s key node _ (differs key refl)
+  get-next_set s link to node differs = grind (arith, nat_tests, get-changed_other)
 
   pub get-previous_set : (s : Slab (Node T)) (link to : Option ℕ) (node : ℕ) → ((key : ℕ) → link ≡ Some key → node ≢ key)
       → get (previous_set s link to) node ≡ get s node
-  get-previous_set s None to node differs = refl
-  get-previous_set s (Some key) to node differs = get-changed_other s key node _ (differs key refl)
+  get-previous_set s link to node differs = grind (arith, nat_tests, get-changed_other)
 
   -- a segment that does not hold the named node stays
   pub segment-next_set : (s : Slab (Node T)) (link to : Option ℕ) (list : ℕ) (before : Option ℕ) (xs : List (ℕ × T)) (after : Option ℕ)
@@ -119,12 +105,9 @@ module _ {T : Type 0} where
   relast : (s : Slab (Node T)) (list : ℕ) (before : Option ℕ) (front : List (ℕ × T)) (node : ℕ) (value : T) (after to : Option ℕ) → IsOff node front
       → IsSegment s list before (front ++ (node, value) ∷ []) after → IsSegment (next_set s (Some node) to) list before (front ++ (node, value) ∷ []) to
   unfolding IsSegment
-  relast s list before [] node value after to off p =
-      (get-changed_same s node _ ∙ ap (option_map (λ (x : Node T). record x { next = to })) p.0, tt)
+  relast s list before [] node value after to off p = grind (arith, nat_tests, get-changed_same)
   relast s list before (entry ∷ rest) node value after to off p =
-      let same : first_or (rest ++ (node, value) ∷ []) after ≡ first_or (rest ++ (node, value) ∷ []) to = first_or-append rest _ after
-      ∙ sym (first_or-append rest _ to) in
-      (get-changed_other s node entry.0 _ off.0 ∙ rw same at p.0, relast s list (Some entry.0) rest node value after to off.1 p.1)
+      grind (arith, nat_tests, first_or-append, get-changed_other, relast s list (Some entry.0) rest node value after to off.1 p.1)
 
   -- a list is empty or has a last node
   snoc_cases : (xs : List (ℕ × T)) → (xs ≡ []) ⊎ ((front : List (ℕ × T)) × (last : ℕ × T) × (xs ≡ front ++ last ∷ []))
@@ -153,9 +136,4 @@ module _ {T : Type 0} where
   pub segment-refirst : (s : Slab (Node T)) (list : ℕ) (before to : Option ℕ) (xs : List (ℕ × T)) → IsApart xs → IsSegment s list before xs None
       → IsSegment (previous_set s (first_or xs None) to) list to xs None
   unfolding IsSegment
-  segment-refirst s list before to [] distinct p = tt
-  segment-refirst s list before to (entry ∷ rest) distinct p = (
-    get-changed_same s entry.0 _ ∙ ap (option_map (λ (x : Node T). record x { previous = to })) p.0,
-    segment_off s (previous_set s (Some entry.0) to) list (Some entry.0) rest None entry.0
-        (λ m differs. get-changed_other s entry.0 m _ differs) distinct.0 p.1,
-  )
+  segment-refirst s list before to xs distinct p = grind (arith, nat_tests, get-changed_same, segment_off, get-changed_other)

@@ -1,8 +1,9 @@
 -- Clones of the nodes make up clones of the lists.
-use Rattle.std.proofs.Common.{◌≡◌, ℕ, zero, suc, List, [], ◌∷◌, map, get_or, Option, Some, None, option_map, refl, sym, ap, subst, ◌∙◌, inl, inr}
+use Rattle.std.proofs.Common.{◌≡◌, ℕ, zero, suc, List, [], ◌∷◌, map, get_or, Option, Some, None, option_map, refl, sym, ap, subst, ◌∙◌, inl, inr, arith}
 use Rattle.std.specs.List.{AllZip}
 use Rattle.std.proofs.lemmas.List.Elements.{same_from_all_zip}
 use Rattle.std.proofs.lemmas.Slice.Zip.{AllZip-long}
+use Rattle.std.proofs.lemmas.Bool.Decides.{nat_tests}
 use Rattle.slab.specs.Slab.{Slab, get, IsSlotClone}
 use Rattle.stm_lists.specs.Lists.{Lists}
 use Rattle.stm_lists.specs.Clones.{AreClones, IsListClone, AreListClones}
@@ -23,9 +24,7 @@ slot_cloned C (x ∷ xs) (y ∷ ys) (suc at) p = slot_cloned C xs ys at p.1
 
 -- where clones are the same, so is what stands under an index
 pub slot_same : {X : Type 0} (C : X → X → Type 0) → ((x y : X) → C x y → y ≡ x) → (o copy : Option X) → IsSlotClone C o copy → copy ≡ o
-slot_same C same None copy p = p
-slot_same C same (Some x) None p = absurd p
-slot_same C same (Some x) (Some y) p = ap Some (same x y p)
+slot_same C same o copy p = grind (arith, nat_tests)
 
 module _ {T : Type 0} (R : T → T → Type 0) where
   -- where clones are the same, so are the lists
@@ -33,9 +32,7 @@ module _ {T : Type 0} (R : T → T → Type 0) where
   same_entries same [] [] p = refl
   same_entries same [] (y ∷ ys) p = absurd p
   same_entries same (x ∷ xs) [] p = absurd p
-  same_entries same (x ∷ xs) (y ∷ ys) p =
-      ap (λ (node : ℕ). (node, y.1) ∷ ys) p.0.0 ∙ ap (λ (value : T). (x.0, value) ∷ ys) (same x.1 y.1 p.0.1)
-      ∙ ap (λ more. x ∷ more) (same_entries same xs ys p.1)
+  same_entries same (x ∷ xs) (y ∷ ys) p = grind (arith, nat_tests, same_entries same xs ys p.1)
 
   same_list : ((x y : T) → R x y → y ≡ x) → (list copy : Option (List (ℕ × T))) → IsListClone R list copy → copy ≡ list
   same_list same None copy p = p
@@ -57,10 +54,7 @@ module _ {T : Type 0} (R : T → T → Type 0) where
   -- ---- clones stand where their originals stand
 
   first_cloned : (xs ys : List (ℕ × T)) (after : Option ℕ) → AreClones R xs ys → first_or ys after ≡ first_or xs after
-  first_cloned [] [] after p = refl
-  first_cloned [] (y ∷ ys) after p = absurd p
-  first_cloned (x ∷ xs) [] after p = absurd p
-  first_cloned (x ∷ xs) (y ∷ ys) after p = ap Some p.0.0
+  first_cloned xs ys after p = grind (arith, nat_tests)
 
   last_cloned : (before : Option ℕ) (xs ys : List (ℕ × T)) → AreClones R xs ys → last_or before ys ≡ last_or before xs
   last_cloned before [] [] p = refl
@@ -96,13 +90,7 @@ module _ {T : Type 0} (R : T → T → Type 0) where
         by_slot (Some y) p = (y, refl, p)
 
     owner_cloned : (node : ℕ) → owner_at nodes node ≡ owner_at copies node
-    owner_cloned node = by_slot (get nodes node) (get copies node) (cloned node)
-      where
-        by_slot : (o copy : Option (Node T)) → IsSlotClone (IsNodeClone R) o copy
-            → option_map (λ (x : Node T). x.list) o ≡ option_map (λ (x : Node T). x.list) copy
-        by_slot None copy p = ap (option_map (λ (x : Node T). x.list)) (sym p)
-        by_slot (Some x) None p = absurd p
-        by_slot (Some x) (Some y) p = ap Some (sym p.list)
+    owner_cloned node = grind (arith, nat_tests)
 
     -- the clones of a part of a list
     pub record IsSegmentCloned (list : ℕ) (before : Option ℕ) (xs : List (ℕ × T)) (after : Option ℕ) : Type 0 where
@@ -131,17 +119,7 @@ module _ {T : Type 0} (R : T → T → Type 0) where
 
     list_cloned : (list : ℕ) (h : Head) (xs : List (ℕ × T)) → IsList nodes list h xs
         → (ys : List (ℕ × T)) × AreClones R xs ys × IsList copies list h ys
-    list_cloned list h xs p =
-        let made = segment_cloned list None xs None p.linked in (
-          made.entries,
-          made.clones,
-          record {
-            first = p.first ∙ sym (first_cloned xs made.entries None made.clones);
-            last = p.last ∙ sym (last_cloned None xs made.entries made.clones);
-            len = p.len ∙ sym (AllZip-long (λ (e f : ℕ × T). (f.0 ≡ e.0) × R e.1 f.1) xs made.entries made.clones);
-            linked = made.linked;
-          },
-        )
+    list_cloned list h xs p = grind (arith, nat_tests, segment_cloned, first_cloned, last_cloned, AllZip-long)
 
     entries_cloned : (list : ℕ) (h : Head) → IsList nodes list h (entries_of nodes h)
         → AreClones R (entries_of nodes h) (entries_of copies h) × IsList copies list h (entries_of copies h)

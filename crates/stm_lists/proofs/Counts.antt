@@ -1,10 +1,9 @@
 -- How many nodes there are: a change of a node's links keeps the number, and no list is longer.
-use Rattle.std.proofs.Common.{◌≡◌, ℕ, ◌≤◌, List, [], ◌∷◌, length, Option, Some, None, option_map, is_some, get_or, set, cond, count_by, refl, ap, ◌∙◌, inl, inr}
-use Rattle.std.proofs.Common.{arith}
-use Rattle.std.proofs.lemmas.Bool.{cases_lt}
+use Rattle.std.proofs.Common.{◌≡◌, ℕ, ◌≤◌, List, [], ◌∷◌, length, Option, Some, None, is_some, get_or, set, cond, count_by, ◌∙◌, arith}
+use Rattle.std.proofs.lemmas.Bool.{cases_lt, Decides.nat_tests}
 use Rattle.std.proofs.lemmas.List.{get_or-set_other, get_or_past, set_past}
 use Rattle.std.proofs.lemmas.List.Sums.{sum_by-set}
-use Rattle.slab.specs.Slab.{Slab, get, slab_len}
+use Rattle.slab.specs.Slab.{Slab, slab_len}
 use Rattle.stm_lists.specs.Lists.{IsOff, IsApart}
 use Rattle.stm_lists.specs.declared.links.Node.{Node}
 use Rattle.stm_lists.specs.Links.{changed, next_set, previous_set}
@@ -16,36 +15,26 @@ abbrev pub weight : {X : Type 0} → Option X → ℕ
 weight o = cond (is_some o) 1 0
 
 pub slab_len-changed : {X : Type 0} (s : Slab X) (key : ℕ) (f : X → X) → slab_len (changed s key f) ≡ slab_len s
-slab_len-changed {X} s key f =
-    elim (cases_lt key (length s.slots)) [
-      | inl within ↦ let counted = sum_by-set weight s.slots key (option_map f (get s key)) None within in grind arith
-      | inr past ↦ ap (count_by is_some) (set_past s.slots key (option_map f (get s key)) past)
-    ]
+slab_len-changed {X} s key f = grind (arith, nat_tests, cases_lt, sum_by-set, set_past)
 
 module _ {T : Type 0} where
   pub slab_len-next_set : (s : Slab (Node T)) (link to : Option ℕ) → slab_len (next_set s link to) ≡ slab_len s
-  slab_len-next_set s None to = refl
-  slab_len-next_set s (Some key) to = slab_len-changed s key _
+  slab_len-next_set s link to = grind (arith, nat_tests, slab_len-changed)
 
   pub slab_len-previous_set : (s : Slab (Node T)) (link to : Option ℕ) → slab_len (previous_set s link to) ≡ slab_len s
-  slab_len-previous_set s None to = refl
-  slab_len-previous_set s (Some key) to = slab_len-changed s key _
+  slab_len-previous_set s link to = grind (arith, nat_tests, slab_len-changed)
 
   pub capacity-next_set : (s : Slab (Node T)) (link to : Option ℕ) → (next_set s link to).capacity ≡ s.capacity
-  capacity-next_set s None to = refl
-  capacity-next_set s (Some key) to = refl
+  capacity-next_set s link to = grind (arith, nat_tests)
 
   pub capacity-previous_set : (s : Slab (Node T)) (link to : Option ℕ) → (previous_set s link to).capacity ≡ s.capacity
-  capacity-previous_set s None to = refl
-  capacity-previous_set s (Some key) to = refl
+  capacity-previous_set s link to = grind (arith, nat_tests)
 
   pub vacant_key-next_set : (s : Slab (Node T)) (link to : Option ℕ) → (next_set s link to).vacant_key ≡ s.vacant_key
-  vacant_key-next_set s None to = refl
-  vacant_key-next_set s (Some key) to = refl
+  vacant_key-next_set s link to = grind (arith, nat_tests)
 
   pub vacant_key-previous_set : (s : Slab (Node T)) (link to : Option ℕ) → (previous_set s link to).vacant_key ≡ s.vacant_key
-  vacant_key-previous_set s None to = refl
-  vacant_key-previous_set s (Some key) to = refl
+  vacant_key-previous_set s link to = grind (arith, nat_tests)
 
   -- each of these nodes is in its slot
   abbrev AllThere : List (Option (Node T)) → List (ℕ × T) → Type 0
@@ -66,11 +55,7 @@ module _ {T : Type 0} where
   no_more : (slots : List (Option (Node T))) (xs : List (ℕ × T)) → IsApart xs → AllThere slots xs → length xs ≤ count_by is_some slots
   no_more slots [] distinct p = omega arith
   no_more slots (entry ∷ rest) distinct p =
-      let fewer = no_more (set slots entry.0 None) rest distinct.1 (there_off slots entry.0 rest distinct.0 p.1) in
-      elim (cases_lt entry.0 (length slots)) [
-        | inl within ↦ let counted = sum_by-set weight slots entry.0 None None within in grind arith
-        | inr past ↦ let none = get_or_past slots entry.0 None past in absurd (cc)
-      ]
+      grind (arith, nat_tests, there_off, cases_lt, sum_by-set, get_or_past, no_more (set slots entry.0 None) rest distinct.1 (there_off slots entry.0 rest distinct.0 p.1))
 
   -- a list has no more nodes than there are
   pub length-segment : (s : Slab (Node T)) (list : ℕ) (before : Option ℕ) (xs : List (ℕ × T)) → IsSegment s list before xs None → length xs ≤ slab_len s

@@ -2,6 +2,7 @@
 use Rattle.std.proofs.Common.{◌≡◌, ◌≢◌, ℕ, ◌+◌, ◌-◌, ◌<◌, ◌≤◌, List, [], ◌∷◌, ◌++◌, Option, Some, None, IsSome, option_map, refl, sym, ap, subst, ◌∙◌, inl}
 use Rattle.std.proofs.Common.{inr, arith, length-append}
 use Rattle.std.proofs.lemmas.Option.{same_Some}
+use Rattle.std.proofs.lemmas.Bool.Decides.{nat_tests}
 use Rattle.slab.specs.Slab.{Slab, get, ContainsKey, Updates, slab_len}
 use Rattle.stm_lists.specs.Lists.{Place}
 use Rattle.stm_lists.specs.declared.links.Node.{Node}
@@ -15,17 +16,12 @@ use Rattle.stm_lists.proofs.Steps.{some_is, get-first_set, get-last_set, place_o
 
 module _ {T : Type 0} where
   owner_there : (s : Slab (Node T)) (node list : ℕ) → owner_at s node ≡ Some list → ContainsKey s node
-  owner_there s node list owned = by_node (get s node) owned
-    where
-      by_node : (o : Option (Node T)) → option_map (λ (x : Node T). x.list) o ≡ Some list → IsSome o
-      by_node None owned = absurd (cc)
-      by_node (Some x) owned = refl
+  owner_there s node list owned = grind (arith, nat_tests)
 
   -- a link is there, where the node that it names stands on the list
   link_there : (s : Slab (Node T)) (heads : Slab Head) (list : ℕ) (h : Head) (link : Option ℕ) → get heads list ≡ Some h
       → ((key : ℕ) → link ≡ Some key → owner_at s key ≡ Some list) → IsThere s heads list link
-  link_there s heads list h None found named = some_is (get heads list) h found
-  link_there s heads list h (Some key) found named = owner_there s key list (named key refl)
+  link_there s heads list h link found named = grind (arith, nat_tests, some_is, owner_there)
 
   last_on : (xs : List (ℕ × T)) (key : ℕ) → last_or None xs ≡ Some key → IsOn key xs
   last_on xs key is = elim (last_is_on None xs key is) [ inl none ↦ absurd (cc) | inr on ↦ on ]

@@ -3,6 +3,7 @@ use Rattle.std.proofs.Common.{◌≡◌, ◌≢◌, ◌⊎◌, ℕ, suc, ◌≤�
 use Rattle.std.proofs.Common.{inr, arith}
 use Rattle.std.proofs.lemmas.List.{get_or-set_same, get_or-set_other, get_or_past, length-set}
 use Rattle.std.proofs.lemmas.Option.{same_Some}
+use Rattle.std.proofs.lemmas.Bool.Decides.{nat_tests}
 use Rattle.slab.specs.Slab.{Slab, get}
 use Rattle.stm_lists.specs.Lists.{IsOff, IsApart}
 use Rattle.stm_lists.specs.declared.links.Node.{Node}
@@ -28,8 +29,7 @@ module _ {T : Type 0} where
   off-append node (entry ∷ rest) ys off = grind (arith, off-append node rest ys)
 
   pub first_or-append : (xs ys : List (ℕ × T)) (after : Option ℕ) → first_or (xs ++ ys) after ≡ first_or xs (first_or ys after)
-  first_or-append [] ys after = refl
-  first_or-append (entry ∷ rest) ys after = refl
+  first_or-append xs ys after = grind (arith, nat_tests)
 
   pub last_or-append : (before : Option ℕ) (xs ys : List (ℕ × T)) → last_or before (xs ++ ys) ≡ last_or (last_or before xs) ys
   last_or-append before [] ys = refl
@@ -45,39 +45,33 @@ module _ {T : Type 0} where
   last_is_on before (entry ∷ rest) m is = grind (arith, last_is_on (Some entry.0) rest m)
 
   pub first_is_on : (xs : List (ℕ × T)) (m : ℕ) → first_or xs None ≡ Some m → IsOn m xs
-  first_is_on [] m is = absurd (cc)
-  first_is_on (entry ∷ rest) m is = inl (same_Some entry.0 m is)
+  first_is_on xs m is = grind (arith, nat_tests, same_Some)
 
   -- a segment divides
   pub segment-append : (s : Slab (Node T)) (list : ℕ) (before : Option ℕ) (xs ys : List (ℕ × T)) (after : Option ℕ) → IsSegment s list before (xs ++ ys) after
       → IsSegment s list before xs (first_or ys after) × IsSegment s list (last_or before xs) ys after
   unfolding IsSegment
   segment-append s list before [] ys after p = (tt, p)
-  segment-append s list before (entry ∷ rest) ys after p =
-      let more = segment-append s list (Some entry.0) rest ys after p.1 in
-      ((rw (first_or-append rest ys after) at p.0, more.0), more.1)
+  segment-append s list before (entry ∷ rest) ys after p = grind (arith, nat_tests, first_or-append, segment-append s list (Some entry.0) rest ys after p.1)
 
   -- two segments that fit join
   pub append-segment : (s : Slab (Node T)) (list : ℕ) (before : Option ℕ) (xs ys : List (ℕ × T)) (after : Option ℕ)
       → IsSegment s list before xs (first_or ys after) → IsSegment s list (last_or before xs) ys after → IsSegment s list before (xs ++ ys) after
   unfolding IsSegment
   append-segment s list before [] ys after p q = q
-  append-segment s list before (entry ∷ rest) ys after p q =
-      (rw (first_or-append rest ys after) p.0, append-segment s list (Some entry.0) rest ys after p.1 q)
+  append-segment s list before (entry ∷ rest) ys after p q = grind (arith, nat_tests, first_or-append, append-segment s list (Some entry.0) rest ys after p.1 q)
 
   -- one step of a walk
   walk-step : (s : Slab (Node T)) (count node : ℕ) (x : Node T) → get s node ≡ Some x → walk s (suc count) (Some node) ≡ (node, x.value) ∷ walk s count x.next
   unfolding walk
-  walk-step s count node x found =
-      ap (λ (o : Option (Node T)). elim o as (λ _. List (ℕ × T)) [ None ↦ [] | Some y ↦ (node, y.value) ∷ walk s count y.next ]) found
+  walk-step s count node x found = grind (arith, nat_tests)
 
   -- a walk along a list finds its entries
   pub walk-segment : (s : Slab (Node T)) (list : ℕ) (before : Option ℕ) (xs : List (ℕ × T)) → IsSegment s list before xs None
       → walk s (length xs) (first_or xs None) ≡ xs
   unfolding IsSegment walk
   walk-segment s list before [] p = refl
-  walk-segment s list before (entry ∷ rest) p =
-      walk-step s (length rest) entry.0 _ p.0 ∙ ap (λ more. entry ∷ more) (walk-segment s list (Some entry.0) rest p.1)
+  walk-segment s list before (entry ∷ rest) p = grind (arith, nat_tests, walk-step, walk-segment s list (Some entry.0) rest p.1)
 
   pub walk-list : (s : Slab (Node T)) (list : ℕ) (h : Head) (xs : List (ℕ × T)) → IsList s list h xs → walk s h.len h.first ≡ xs
   walk-list s list h xs p = rw (p.len, p.first) (walk-segment s list None xs p.linked)
@@ -108,10 +102,7 @@ module _ {T : Type 0} where
       → IsSegment s list c post None → length post ≤ length rest → IsOff entry.0 post
   unfolding IsSegment
   off_later s list b c entry rest [] p q shorter = tt
-  off_later s list b c entry rest (x ∷ post) p q shorter = (
-    λ same. let lengths = same_way s list b c (entry ∷ rest) (x ∷ post) p q (ap Some (sym same)) in absurd (omega arith),
-    off_later s list b (Some x.0) entry rest post p q.1 (omega arith),
-  )
+  off_later s list b c entry rest (x ∷ post) p q shorter = grind (arith, nat_tests, same_way, off_later s list b (Some x.0) entry rest post p q.1 (omega arith))
 
   -- no node stands twice on a list
   pub apart : (s : Slab (Node T)) (list : ℕ) (before : Option ℕ) (xs : List (ℕ × T)) → IsSegment s list before xs None → IsApart xs

@@ -1,7 +1,7 @@
 -- What a push and an unlinking make of their list.
 use Rattle.std.proofs.Common.{◌≡◌, ◌≢◌, ℕ, ◌+◌, ◌-◌, List, [], ◌∷◌, ◌++◌, length, Option, Some, None, IsSome, option_map, refl, sym, ap, subst, ◌∙◌, inl, inr}
 use Rattle.std.proofs.Common.{arith, length-append}
-use Rattle.std.proofs.lemmas.Bool.{cases_eq}
+use Rattle.std.proofs.lemmas.Bool.{cases_eq, Decides.nat_tests}
 use Rattle.std.proofs.lemmas.List.{append-nil}
 use Rattle.std.proofs.lemmas.Option.{same_Some}
 use Rattle.slab.specs.Slab.{Slab, get, Updates}
@@ -25,21 +25,17 @@ pick (Some node) to old = old
 
 pub get-first_set : (heads : Slab Head) (list : ℕ) (link to : Option ℕ) (h : Head) → get heads list ≡ Some h
     → get (first_set heads list link to) list ≡ Some (record h { first = pick link to h.first })
-get-first_set heads list None to h found = get-changed_same heads list _ ∙ ap (option_map (λ (k : Head). record k { first = to })) found
-get-first_set heads list (Some node) to h found = found
+get-first_set heads list link to h found = grind (arith, nat_tests, get-changed_same)
 
 pub get-last_set : (heads : Slab Head) (list : ℕ) (link to : Option ℕ) (h : Head) → get heads list ≡ Some h
     → get (last_set heads list link to) list ≡ Some (record h { last = pick link to h.last })
-get-last_set heads list None to h found = get-changed_same heads list _ ∙ ap (option_map (λ (k : Head). record k { last = to })) found
-get-last_set heads list (Some node) to h found = found
+get-last_set heads list link to h found = grind (arith, nat_tests, get-changed_same)
 
 other-first_set : (heads : Slab Head) (list : ℕ) (link to : Option ℕ) (other : ℕ) → other ≢ list → get (first_set heads list link to) other ≡ get heads other
-other-first_set heads list None to other differs = get-changed_other heads list other _ differs
-other-first_set heads list (Some node) to other differs = refl
+other-first_set heads list link to other differs = grind (arith, nat_tests, get-changed_other)
 
 other-last_set : (heads : Slab Head) (list : ℕ) (link to : Option ℕ) (other : ℕ) → other ≢ list → get (last_set heads list link to) other ≡ get heads other
-other-last_set heads list None to other differs = get-changed_other heads list other _ differs
-other-last_set heads list (Some node) to other differs = refl
+other-last_set heads list link to other differs = grind (arith, nat_tests, get-changed_other)
 
 module _ {T : Type 0} where
   -- the head's first node, where a node between these two parts leaves
@@ -51,8 +47,7 @@ module _ {T : Type 0} where
   -- likewise its last node
   last_left : (before : List (ℕ × T)) (entry : ℕ × T) (after : List (ℕ × T))
       → pick (first_or after None) (last_or None before) (last_or None (before ++ entry ∷ after)) ≡ last_or None (before ++ after)
-  last_left before entry [] = ap (last_or None) (sym (append-nil before))
-  last_left before entry (e ∷ rest) = last_or-append None before (entry ∷ (e ∷ rest)) ∙ sym (last_or-append None before (e ∷ rest))
+  last_left before entry after = grind (arith, nat_tests, append-nil, last_or-append)
 
   -- the head's first node after a push
   first_pushed : (entries : List (ℕ × T)) (node : ℕ) (value : T)
@@ -80,12 +75,10 @@ module _ {T : Type 0} where
       → IsSegment s list before xs after → IsOff node xs
   unfolding IsSegment
   vacant_off s list before [] after node vacant p = tt
-  vacant_off s list before (entry ∷ rest) after node vacant p =
-      (λ same. let here = ap (get s) same in let there = p.0 in absurd (cc), vacant_off s list (Some entry.0) rest after node vacant p.1)
+  vacant_off s list before (entry ∷ rest) after node vacant p = grind (arith, nat_tests, vacant_off s list (Some entry.0) rest after node vacant p.1)
 
   pub owner_differs : (s : Slab (Node T)) (node key list other : ℕ) → owner_at s key ≡ Some list → owner_at s node ≡ Some other → other ≢ list → node ≢ key
-  owner_differs s node key list other owns owned differs same =
-      differs (same_Some other list (sym owned ∙ ap (owner_at s) same ∙ owns))
+  owner_differs s node key list other owns owned differs same = grind (arith, nat_tests, same_Some)
 
   module _ (nodes : Slab (Node T)) (heads : Slab Head) (list : ℕ) (h : Head) (node : ℕ) (value : T) where
     module _ (bare : Slab (Node T)) (before after : List (ℕ × T)) where
@@ -122,8 +115,7 @@ module _ {T : Type 0} where
           last_on_of xs key is = elim (last_is_on None xs key is) [ inl none ↦ absurd (cc) | inr on ↦ on ]
 
       unlinked_owner : (m : ℕ) → owner_at unlinked_nodes m ≡ owner_at bare m
-      unlinked_owner m = owner-previous_set (next_set bare (last_or None before) (first_or after None)) (first_or after None) (last_or None before) m
-          ∙ owner-next_set bare (last_or None before) (first_or after None) m
+      unlinked_owner m = grind (arith, nat_tests, owner-previous_set, owner-next_set)
 
       pub unlinked-rebuilds : IsSound nodes heads → get heads list ≡ Some h → entries_of nodes h ≡ before ++ (node, value) ∷ after
           → Updates nodes bare node None → Rebuilds nodes heads unlinked_nodes unlinked_heads list unlinked_head (before ++ after)
@@ -279,12 +271,7 @@ module _ {T : Type 0} where
     -- the head of a list that is shown
     pub head_of : (list : ℕ) (entries : List (ℕ × T)) → shown nodes heads list ≡ Some entries
         → (h : Head) × (get heads list ≡ Some h) × (entries_of nodes h ≡ entries)
-    head_of list entries shows = by_head (get heads list) refl shows
-      where
-        by_head : (o : Option Head) → get heads list ≡ o → option_map (entries_of nodes) o ≡ Some entries
-            → (h : Head) × (get heads list ≡ Some h) × (entries_of nodes h ≡ entries)
-        by_head None found same = absurd (cc)
-        by_head (Some h) found same = (h, found, same_Some _ _ same)
+    head_of list entries shows = grind (arith, nat_tests, same_Some)
 
     -- what the node at a place names
     abbrev pub record_at : Place T → Node T

@@ -1,10 +1,10 @@
 -- From heads and nodes to what contracts see.
-use Rattle.std.proofs.Common.{◌≡◌, ◌⊎◌, ℕ, zero, suc, ◌<◌, ◌≤◌, List, [], ◌∷◌, ◌++◌, length, map, get_or, Option, Some, None, IsSome, option_map, unwrap_or}
+use Rattle.std.proofs.Common.{◌≡◌, ℕ, zero, suc, ◌≤◌, List, [], ◌∷◌, ◌++◌, map, get_or, Option, Some, None, IsSome, option_map, unwrap_or}
 use Rattle.std.proofs.Common.{refl, sym, ap, subst, ◌∙◌, inl, inr, arith}
-use Rattle.std.proofs.lemmas.Bool.{cases_eq, cases_lt}
+use Rattle.std.proofs.lemmas.Bool.{cases_eq, cases_lt, Decides.nat_tests}
 use Rattle.std.proofs.lemmas.List.{get_or-set_same, get_or-set_other, get_or_past}
 use Rattle.std.proofs.lemmas.Option.{same_Some}
-use Rattle.slab.specs.Slab.{Slab, get, slab_len, ContainsKey, Updates as Changes}
+use Rattle.slab.specs.Slab.{Slab, get, ContainsKey, Updates as Changes}
 use Rattle.stm_lists.specs.Lists.{Lists, Place, list_at, entries_at, HasList, HasNode, StandsAt, first_node, last_node, with_entries, Updates, MovesToBack}
 use Rattle.stm_lists.specs.Lists.{IsApart}
 use Rattle.stm_lists.specs.declared.links.Node.{Node}
@@ -42,11 +42,7 @@ module _ {T : Type 0} where
     fresh-now sound node vacant has = let there = place-names nodes heads node has.0 sound (place-now node has.0 has.1) in absurd (cc)
 
     pub contains_list : (list : ℕ) → HasList now list → ContainsKey heads list
-    contains_list list has = by_head (get heads list) (subst IsSome (list_at-now list) has)
-      where
-        by_head : (o : Option Head) → IsSome (option_map (entries_of nodes) o) → IsSome o
-        by_head None some = some
-        by_head (Some h) some = refl
+    contains_list list has = grind (arith, nat_tests, list_at-now)
 
     pub has_node : IsSound nodes heads → (node : ℕ) → ContainsKey nodes node → HasNode now node
     has_node sound node there = by_node (get nodes node) refl there
@@ -58,11 +54,7 @@ module _ {T : Type 0} where
             (place.0, stands-now node place.0 place.1)
 
     pub has_list : (list : ℕ) → ContainsKey heads list → HasList now list
-    has_list list there = subst IsSome (sym (list_at-now list)) (by_head (get heads list) there)
-      where
-        by_head : (o : Option Head) → IsSome o → IsSome (option_map (entries_of nodes) o)
-        by_head None some = some
-        by_head (Some h) some = refl
+    has_list list there = grind (arith, nat_tests, list_at-now)
 
     -- the record of a node gives its place
     pub node-now : IsSound nodes heads → (node : ℕ) (x : Node T) → get nodes node ≡ Some x → (place : Place T) → StandsAt now node place
@@ -82,11 +74,7 @@ module _ {T : Type 0} where
 
     -- what is shown of a list that callers see
     pub shown-now : (list : ℕ) → HasList now list → shown nodes heads list ≡ Some (entries_at now list)
-    shown-now list has = sym (list_at-now list) ∙ by_list (list_at now list) has
-      where
-        by_list : (o : Option (List (ℕ × T))) → IsSome o → o ≡ Some (unwrap_or o [])
-        by_list None some = absurd (cc)
-        by_list (Some xs) some = refl
+    shown-now list has = grind (arith, nat_tests, list_at-now)
 
     -- one changed list, as callers see it
     pub updates-now : (new_nodes : Slab (Node T)) (new_heads : Slab Head) (new_spare list : ℕ) (entries : List (ℕ × T))
@@ -101,28 +89,10 @@ module _ {T : Type 0} where
     module _ (node : ℕ) (place : Place T) (at : StandsAt now node place) (left_nodes : Slab (Node T)) (left_heads : Slab Head)
         (left : Shows nodes heads left_nodes left_heads place.list (place.before ++ place.after)) where
       list_at-left : (list : ℕ) → list_at (with_entries now place.list (place.before ++ place.after)) list ≡ shown left_nodes left_heads list
-      list_at-left list =
-          elim (cases_eq list place.list) [
-            | inl same ↦ rw same (get_or-set_same now.lists place.list (Some (place.before ++ place.after)) None
-                (within (cases_lt place.list (length now.lists))) ∙ sym left.changed)
-            | inr differs ↦ get_or-set_other now.lists place.list list (Some (place.before ++ place.after)) None differs ∙ list_at-now list
-                ∙ sym (left.others list differs)
-          ]
-        where
-          within : (place.list < length now.lists) ⊎ (length now.lists ≤ place.list) → place.list < length now.lists
-          within (inl lt) = lt
-          within (inr past) = let none = get_or_past now.lists place.list None past in let some = at.stands in absurd (cc)
+      list_at-left list = grind (arith, nat_tests, cases_eq, get_or-set_same, cases_lt, get_or-set_other, list_at-now, get_or_past)
 
       pub left_contains : (list : ℕ) → HasList now list → ContainsKey left_heads list
-      left_contains list has =
-          elim (cases_eq list place.list) [
-            | inl same ↦ by_head (get left_heads list) (some_is _ _ (ap (shown left_nodes left_heads) same ∙ left.changed))
-            | inr differs ↦ by_head (get left_heads list) (subst IsSome (list_at-now list ∙ sym (left.others list differs)) has)
-          ]
-        where
-          by_head : (o : Option Head) → IsSome (option_map (entries_of left_nodes) o) → IsSome o
-          by_head None some = some
-          by_head (Some h) some = refl
+      left_contains list has = grind (arith, nat_tests, cases_eq, some_is, list_at-now)
 
       pub moves-now : (new_nodes : Slab (Node T)) (new_heads : Slab Head) (new_spare list moved : ℕ) (value : T) → HasList now list → moved ≡ node
           → value ≡ place.value → ((entries : List (ℕ × T)) → shown left_nodes left_heads list ≡ Some entries
@@ -144,8 +114,7 @@ module _ {T : Type 0} where
 
   -- the first and the last node, where nothing follows or precedes
   pub first_or-node : (xs : List (ℕ × T)) → first_or xs None ≡ first_node xs
-  first_or-node [] = refl
-  first_or-node (x ∷ xs) = refl
+  first_or-node xs = grind (arith, nat_tests)
 
   pub last_or-node : (xs : List (ℕ × T)) → last_or None xs ≡ last_node xs
   last_or-node [] = refl
@@ -157,16 +126,14 @@ module _ {T : Type 0} where
   naming place previous next = record { list = place.list; previous = previous; next = next; value = place.value }
 
   pub names-neighbours : (place : Place T) → naming place (last_or None place.before) (first_or place.after None) ≡ node_at place
-  names-neighbours place = ap (λ (o : Option ℕ). naming place o (first_or place.after None)) (last_or-node place.before)
-      ∙ ap (naming place (last_node place.before)) (first_or-node place.after)
+  names-neighbours place = grind (arith, nat_tests, last_or-node, first_or-node)
 
   -- slabs that hold the same under each key
   module _ (nodes new_nodes : Slab (Node T)) (same : (node : ℕ) → get new_nodes node ≡ get nodes node) where
     by_node : (count node : ℕ) (o : Option (Node T)) → ((link : Option ℕ) → walk new_nodes count link ≡ walk nodes count link)
         → (elim o as (λ _. List (ℕ × T)) [ None ↦ [] | Some y ↦ (node, y.value) ∷ walk new_nodes count y.next ]) ≡
         (elim o as (λ _. List (ℕ × T)) [ None ↦ [] | Some y ↦ (node, y.value) ∷ walk nodes count y.next ])
-    by_node count node None rest = refl
-    by_node count node (Some y) rest = ap (λ more. (node, y.value) ∷ more) (rest y.next)
+    by_node count node o rest = grind (arith, nat_tests)
 
     walk-same : (count : ℕ) (link : Option ℕ) → walk new_nodes count link ≡ walk nodes count link
     unfolding walk
@@ -203,9 +170,7 @@ module _ {T : Type 0} where
     grown-view = view_of-same nodes grown (λ n. ap (λ (s : Slab (Node T)). get s n) rest) heads spare
 
     pub grown-stored : nodes.capacity ≤ grown.capacity → IsStored nodes heads spare → IsStored grown heads spare
-    grown-stored more stored =
-        let len = ap slab_len rest in
-        record { sound = grown-sound stored.sound; room = omega (arith, stored.room, more) }
+    grown-stored more stored = grind (arith, nat_tests, grown-sound)
 
   -- no node stands twice on one list, so an entry has one place
   one_split : (node : ℕ) (v w : T) (b c a d : List (ℕ × T)) → IsApart (b ++ (node, v) ∷ a) → b ++ (node, v) ∷ a ≡ c ++ (node, w) ∷ d
@@ -258,15 +223,7 @@ module _ {T : Type 0} where
       → Changes heads new_heads list (Some (record { first = None; last = None; len = 0 }))
       → Rebuilds nodes heads nodes new_heads list (record { first = None; last = None; len = 0 }) []
   unfolding IsSegment
-  new_list-rebuilds nodes heads new_heads list sound vacant made =
-      record {
-        head = made.changed;
-        other_heads = made.others;
-        made = record { first = refl; last = refl; len = refl; linked = tt };
-        kept = λ node other differs owned. refl;
-        back = λ node other differs owned. owned;
-        here = λ node owned. let found = (sound.owned node list owned).1 in absurd (cc);
-      }
+  new_list-rebuilds nodes heads new_heads list sound vacant made = grind (arith, nat_tests)
 
   -- an empty list that goes leaves the others
   pub dropped-sound : (nodes : Slab (Node T)) (heads new_heads : Slab Head) (list : ℕ) → IsSound nodes heads → shown nodes heads list ≡ Some []

@@ -1,13 +1,13 @@
 -- What the bytes of a frame say, and how a file of frames is read.
 use Rattle.std.proofs.Common.{◌≡◌, ℕ, ◌+◌, ◌-◌, ◌^◌, ◌<◌, ◌≤◌, List, [], ◌∷◌, ◌++◌, length, take, drop, refl, sym, ◌∙◌, ap, ap₂, arith, w64, append_assoc, append-nil, length-append, length-drop, length-take-le, take-append-drop, take_at, drop_at, drop-drop, add-zero, zero-add}
-use Rattle.std.specs.Int.{to_le_bytes, from_le_bytes}
+use Rattle.std.specs.Int.{to_le_bytes}
 use Rattle.std.proofs.lemmas.Nat.{from_le_bytes-to_le_bytes_8}
+use Rattle.std.proofs.lemmas.Bool.Decides.{nat_tests}
 use Rattle.stm_frames.specs.Frame.{digest, head, frame, frame_is, log, NoFrame, NoneIn, SomeIn}
 
 -- the eight bytes tell the number
 pub lengths_same : (m n : ℕ) → m < 2 ^ 64 → n < 2 ^ 64 → to_le_bytes w64 m ≡ to_le_bytes w64 n → m ≡ n
-lengths_same m n m_fits n_fits same =
-    sym (from_le_bytes-to_le_bytes_8 m m_fits) ∙ ap (λ (l : List ℕ). from_le_bytes w64 l) same ∙ from_le_bytes-to_le_bytes_8 n n_fits
+lengths_same m n m_fits n_fits same = grind (arith, nat_tests, from_le_bytes-to_le_bytes_8)
 
 pub length-frame : (at : ℕ) (payload : List ℕ) → length (frame at payload) ≡ 24 + length payload
 length-frame at payload =
@@ -126,8 +126,7 @@ log-append at (p ∷ ps) qs =
     ∙ ap (λ (m : ℕ). frame at p ++ log next ps ++ log m qs) place
 
 pub log-push : (ps : List (List ℕ)) (p : List ℕ) (end : ℕ) → end ≡ length (log 0 ps) → log 0 (ps ++ p ∷ []) ≡ log 0 ps ++ frame end p
-log-push ps p end is =
-    log-append 0 ps (p ∷ []) ∙ ap (λ (m : ℕ). log 0 ps ++ log m (p ∷ [])) (zero-add (length (log 0 ps)) ∙ sym is) ∙ ap (λ (l : List ℕ). log 0 ps ++ l) (append-nil (frame end p))
+log-push ps p end is = grind (arith, nat_tests, log-append, zero-add, append-nil)
 
 pub one_more : (bytes : List ℕ) (ps : List (List ℕ)) (end n : ℕ) → end ≤ length bytes → take end bytes ≡ log 0 ps → 24 + n ≤ length (drop end bytes)
     → drop end bytes ≡ frame end (take n (drop 24 (drop end bytes))) ++ drop (24 + n) (drop end bytes)

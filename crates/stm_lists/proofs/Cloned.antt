@@ -34,13 +34,8 @@ module _ {T : Type 0} (R : T → T → Type 0) where
   same_entries same (x ∷ xs) [] p = absurd p
   same_entries same (x ∷ xs) (y ∷ ys) p = grind (arith, nat_tests, same_entries same xs ys p.1)
 
-  same_list : ((x y : T) → R x y → y ≡ x) → (list copy : Option (List (ℕ × T))) → IsListClone R list copy → copy ≡ list
-  same_list same None copy p = p
-  same_list same (Some xs) None p = absurd p
-  same_list same (Some xs) (Some ys) p = ap Some (same_entries same xs ys p)
-
   pub same_lists : ((x y : T) → R x y → y ≡ x) → (s copy : Lists T) → AreListClones R s copy → copy.lists ≡ s.lists
-  same_lists same s copy p = same_from_all_zip (IsListClone R) s.lists copy.lists p.lists (same_list same)
+  same_lists same s copy p = grind (arith, nat_tests, same_from_all_zip, same_entries)
 
   -- one list of them
   pub list_clone_at : (lists copies : List (Option (List (ℕ × T)))) (at : ℕ) → AllZip (IsListClone R) lists copies

@@ -1,5 +1,5 @@
 -- What `unlink` and `push` need on their way, and what they leave.
-use Rattle.std.proofs.Common.{◌≡◌, ◌≢◌, ℕ, ◌+◌, ◌-◌, ◌<◌, ◌≤◌, List, [], ◌∷◌, ◌++◌, Option, Some, None, IsSome, option_map, refl, sym, ap, subst, ◌∙◌, inl}
+use Rattle.std.proofs.Common.{◌≡◌, ◌≢◌, ℕ, ◌+◌, ◌-◌, ◌<◌, ◌≤◌, List, [], ◌∷◌, ◌++◌, Option, Some, None, option_map, refl, sym, ap, subst, ◌∙◌, inl}
 use Rattle.std.proofs.Common.{inr, arith, length-append}
 use Rattle.std.proofs.lemmas.Option.{same_Some}
 use Rattle.std.proofs.lemmas.Bool.Decides.{nat_tests}
@@ -15,13 +15,10 @@ use Rattle.stm_lists.proofs.Counts.{length-segment}
 use Rattle.stm_lists.proofs.Steps.{some_is, get-first_set, get-last_set, place_of, head_of, record_at, place-names, unlinked-rebuilds, pushed-rebuilds}
 
 module _ {T : Type 0} where
-  owner_there : (s : Slab (Node T)) (node list : ℕ) → owner_at s node ≡ Some list → ContainsKey s node
-  owner_there s node list owned = grind (arith, nat_tests)
-
   -- a link is there, where the node that it names stands on the list
   link_there : (s : Slab (Node T)) (heads : Slab Head) (list : ℕ) (h : Head) (link : Option ℕ) → get heads list ≡ Some h
       → ((key : ℕ) → link ≡ Some key → owner_at s key ≡ Some list) → IsThere s heads list link
-  link_there s heads list h link found named = grind (arith, nat_tests, some_is, owner_there)
+  link_there s heads list h link found named = grind (arith, nat_tests, some_is)
 
   last_on : (xs : List (ℕ × T)) (key : ℕ) → last_or None xs ≡ Some key → IsOn key xs
   last_on xs key is = elim (last_is_on None xs key is) [ inl none ↦ absurd (cc) | inr on ↦ on ]

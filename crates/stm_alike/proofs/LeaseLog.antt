@@ -87,22 +87,7 @@ pub skipped : (es : List Entry) (i : ℕ) (e : Entry) → i < length es → e �
 skipped es i e within is plain =
     ap leases_of (drop_at es i e within is) ∙ ap (λ (b : Bool). cond b (e ∷ leases_of (drop (i + 1) es)) (leases_of (drop (i + 1) es))) plain
 
--- an entry that is about no lease adds none
-pub none_about : (e : Entry) (es : List Entry) → is_about_lease e ≡ false → leases_of (e ∷ []) ++ es ≡ es
-none_about e es plain = ap (λ (b : Bool). cond b (e ∷ []) [] ++ es) plain
-
 -- ---- two lists, one entry after another
-
-pub none_yet : (left others : List Entry) → leases_of (take 0 left) ++ leases_of (drop 0 others) ≡ leases_of others
-none_yet left others = ap (λ (es : List Entry). leases_of es ++ leases_of (drop 0 others)) (take_none left) ∙ ap leases_of (drop_none others)
-  where
-    take_none : (es : List Entry) → take 0 es ≡ []
-    take_none [] = refl
-    take_none (e ∷ es) = refl
-
-    drop_none : (es : List Entry) → drop 0 es ≡ es
-    drop_none [] = refl
-    drop_none (e ∷ es) = refl
 
 pub all_seen : (left others : List Entry) (i next : ℕ) → length left ≤ i → leases_of (take i left) ++ leases_of (drop next others) ≡ leases_of others →
     leases_of (drop next others) ≡ [] → leases_of left ≡ leases_of others

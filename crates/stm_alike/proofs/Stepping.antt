@@ -1,6 +1,5 @@
 -- A step from a world without its watchers and entries.
-use Rattle.std.proofs.Common.{◌≡◌, ℕ, zero, suc, ◌+◌, Bool, true, false, cond, List, [], ◌∷◌, length, Option, Some, None, Result, Ok, Err}
-use Rattle.std.proofs.Common.{refl, sym, ◌∙◌, ap}
+use Rattle.std.proofs.Common.{◌≡◌, ℕ, zero, suc, ◌+◌, Bool, true, false, cond, List, [], ◌∷◌, length, Option, Some, None, Result, Ok, Err, refl, sym, ◌∙◌, ap}
 use Rattle.std.specs.Prelude.{nat_lt, nat_eq}
 use Rattle.std.specs.FinMap as finmap
 use Rattle.stm_history.specs.declared.key_state.ReadAnswer.{ReadAnswer}
@@ -42,7 +41,7 @@ use Rattle.stm_events.specs.declared.reply.Reply.TheVariants.{Granted, Kept, Rev
 use Rattle.stm_events.specs.declared.refusal.Denied.{Denied}
 use Rattle.stm_events.specs.Replies.{txn_reply, reply_to, store_after_call, advance_reply, store_after_poll}
 use Rattle.stm_world.specs.Task.{Task}
-use Rattle.stm_world.specs.World.{World, Runner, Slot, Stepped, runner_at, start_runner, replied, fetch, fetch_at, fetch_list, decided}
+use Rattle.stm_world.specs.World.{World, Runner, Stepped, runner_at, start_runner, fetch, fetch_at, fetch_list, decided}
 use Rattle.stm_world.specs.World.{commit_reported, commit, finish, step_on, step_live, step_runner, after_call, step}
 use Rattle.stm_alike.specs.Seen.{IsNoWatch}
 
@@ -58,9 +57,6 @@ record Same (a b : Stepped) : Type 0 where
 by_test : (b : Bool) (x1 y1 x2 y2 : Stepped) → Same x1 x2 → Same y1 y2 → Same (cond b x1 y1) (cond b x2 y2)
 by_test true x1 y1 x2 y2 first second = first
 by_test false x1 y1 x2 y2 first second = second
-
-replied_same : (reply : Reply) (id : ℕ) (slot : Slot) (w : World) → Same (replied reply id slot (plain_world w)) (replied reply id slot w)
-replied_same reply id slot w = record { reply = refl; next = refl }
 
 started_same : (task : Task) (w : World) → Same (start_runner task (plain_world w)) (start_runner task w)
 unfolding start_runner

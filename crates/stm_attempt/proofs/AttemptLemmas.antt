@@ -1,39 +1,26 @@
 -- What the calls of an attempt leave, by what the code has at hand: the reads, how many of them are reported, and how far the program has come.
 use Rattle.std.proofs.Common.{◌≡◌, refl, sym, ◌∙◌, ap, subst, ℕ, Bool, true, false, cond, List, [], ◌∷◌, ◌++◌, length, take}
-use Rattle.std.specs.Prelude.{Option, None, Some, is_none, IfSome, Result, Ok, Err, IfOk, OnOk}
+use Rattle.std.specs.Prelude.{Option, None, Some, Result, Ok, Err, IfOk, OnOk}
 use Rattle.std.specs.declared.alloc.AllocError.{AllocError}
 use Rattle.std.proofs.Math.Seq.{take-length}
 use Rattle.stm_history.specs.declared.key_state.ReadAnswer.{ReadAnswer}
 use Rattle.stm_program.specs.Syntax.{ProgramTree}
 use Rattle.stm_program.specs.declared.level.Level.{Level}
-use Rattle.stm_steps.specs.declared.run.Run.{Run}
 use Rattle.stm_compile.specs.Answers.{answer_in}
 use Rattle.stm_attempt.specs.declared.next.Next.{Next}
 use Rattle.stm_attempt.specs.declared.next.Next.TheVariants.{Ready}
-use Rattle.stm_attempt.specs.declared.wanted.Wanted.{Wanted}
-use Rattle.stm_attempt.specs.declared.wanted.Wanted.TheVariants.{List as ListWanted, Key as KeyWanted}
-use Rattle.stm_attempt.specs.Wanted.{next_wanted}
 use Rattle.stm_attempt.specs.Leaving.{left_by}
 use Rattle.stm_attempt.specs.declared.progress.Progress.{Progress}
-use Rattle.stm_attempt.specs.declared.progress.Progress.TheVariants.{Ended}
 use Rattle.stm_attempt.specs.Known.{known_of, serving}
 use Rattle.stm_attempt.specs.Settled.{run_on, wanted}
-use Rattle.stm_attempt.specs.Entering.{is_due, gone_on}
+use Rattle.stm_attempt.specs.Entering.{is_due}
 use Rattle.stm_attempt.specs.AttemptState.{AttemptState, advanced, supplied, awaited, list_awaited}
-use Rattle.stm_attempt.specs.Next.{next_at_end, next_after, next_on, next_of, key_asked, list_asked}
-use Rattle.stm_attempt.specs.Progress.{HasCome, HasEnded, IsUnderWay, IsAttempt}
+use Rattle.stm_attempt.specs.Next.{next_of, key_asked, list_asked}
+use Rattle.stm_attempt.specs.Progress.{IsUnderWay, IsAttempt}
 use Rattle.stm_attempt.proofs.NextLemmas.{seen_as, wanted_by, asked_is_awaited, list_is_awaited, awaits_unserved, awaited_is_new}
-use Rattle.stm_attempt.proofs.ProgressLemmas.{nothing_ahead, under_way, come_with_more, end_is}
+use Rattle.stm_attempt.proofs.ProgressLemmas.{nothing_ahead, under_way, come_with_more}
 
 -- ---- whether there is a program
-
-pub is_first : (o : Option ProgramTree) → is_none o ≡ true → o ≡ None
-is_first None none = refl
-is_first (Some p) none = absurd (cc)
-
-pub is_next : (o : Option ProgramTree) (program : ProgramTree) → is_none o ≡ false → IfSome o (λ kept. kept ≡ program) → o ≡ Some program
-is_next None program some same = absurd (cc)
-is_next (Some p) program some same = ap (λ (q : ProgramTree). Some q) same
 
 pub attempt_of : (program : ProgramTree) (before : Option ProgramTree) (reads prefetched : List ReadAnswer) (reported : ℕ) (progress : Progress) →
     before ≡ Some program → IsUnderWay program reads prefetched reported progress → IsAttempt before reads prefetched reported progress
@@ -49,23 +36,6 @@ pub all_reported : (reported : ℕ) (reads : List ReadAnswer) → reported ≡ l
 all_reported reported reads whole = ap (λ (n : ℕ). take n reads) whole ∙ take-length reads
 
 -- ---- what is answered, and what is left
-
-pub next_from : (program : ProgramTree) (old : AttemptState) (before : Option ProgramTree) (level : Level) (reads front prefetched : List ReadAnswer)
-    (next : Next) →
-    seen_as before level front prefetched ≡ old → gone_on program (known_of reads prefetched) ≡ gone_on program (known_of front prefetched) →
-    next ≡ next_of program level (known_of reads prefetched) → next ≡ next_of program old.level old.known
-next_from program old before level reads front prefetched next view ahead reported =
-    reported ∙ ap (next_on program level) ahead ∙ ap (λ (v : AttemptState). next_of program v.level v.known) view
-
-pub left_from : (program : ProgramTree) (old : AttemptState) (before after_program : Option ProgramTree) (level : Level)
-    (reads front prefetched after : List ReadAnswer) (reported : ℕ) →
-    seen_as before level front prefetched ≡ old → gone_on program (known_of reads prefetched) ≡ gone_on program (known_of front prefetched) →
-    after_program ≡ Some program → reported ≡ length after → after ≡ gone_on program (known_of reads prefetched) →
-    seen_as after_program level (take reported after) prefetched ≡ advanced program old
-left_from program old before after_program level reads front prefetched after reported view ahead kept whole settles =
-    ap (λ (o : Option ProgramTree). seen_as o level (take reported after) prefetched) kept
-    ∙ ap (λ (l : List ReadAnswer). seen_as (Some program) level l prefetched) (all_reported reported after whole ∙ settles ∙ ahead)
-    ∙ ap (advanced program) view
 
 pub asked_from : (program : ProgramTree) (old new : AttemptState) (next : Next) → new ≡ advanced program old →
     next ≡ next_of program old.level old.known → awaited new ≡ key_asked next
@@ -170,10 +140,6 @@ list_is old before level reads prefetched keys program view asked is =
 
 -- ---- an attempt whose end is given away
 
-pub fetch_leaves : (wanted : Wanted) (attempt : AttemptState) → left_by (next_wanted wanted) attempt ≡ attempt
-fetch_leaves (ListWanted keys) attempt = refl
-fetch_leaves (KeyWanted key at) attempt = refl
-
 -- what is asked for is awaited then, too
 pub left_asked : (program : ProgramTree) (old : AttemptState) (next : Next) → next ≡ next_of program old.level old.known →
     awaited (left_by next (advanced program old)) ≡ key_asked next
@@ -196,12 +162,3 @@ pub left_list_reported : (program : ProgramTree) (old new : AttemptState) (repor
     IfOk reported (λ next. list_awaited new ≡ list_asked next)
 left_list_reported program old new (Ok next) left is = ap list_awaited left ∙ left_list program old next is
 left_list_reported program old new (Err error) left is = tt
-
--- the end that is reported is the attempt's answer
-pub end_reported : (program : ProgramTree) (old : AttemptState) (before : Option ProgramTree) (level : Level) (first front reads prefetched : List ReadAnswer)
-    (next : Next) (progress : Progress) → seen_as before level front prefetched ≡ old →
-    gone_on program (known_of first prefetched) ≡ gone_on program (known_of front prefetched) → HasEnded progress → HasCome program reads progress →
-    next_of program level (known_of first prefetched) ≡ next_after program level reads (run_on program reads) →
-    ((run : Run) → progress ≡ Ended run → next ≡ next_at_end program level reads run run.end) → next ≡ next_of program old.level old.known
-end_reported program old before level first front reads prefetched next progress view ahead ended come at_end reported =
-    next_from program old before level first front prefetched next view ahead (end_is program level reads progress next ended come reported ∙ sym at_end)

@@ -1,11 +1,9 @@
 -- Answers of distinct keys.
 use Rattle.std.proofs.Common.{◌≡◌, ℕ, Bool, true, false, cond, List, [], ◌∷◌, ◌++◌, filter, refl, sym, ◌∙◌, ap, subst}
 use Rattle.std.specs.Prelude.{bytes_eq, Option, None, Some}
-use Rattle.std.specs.List.{AllByRecursion}
 use Rattle.std.proofs.lemmas.Slice.Eq.{bytes_eq-Decides}
 use Rattle.stm_program.proofs.WriteLemmas.{bytes_eq-flip}
 use Rattle.stm_history.specs.declared.key_state.ReadAnswer.{ReadAnswer}
-use Rattle.stm_outcome.specs.Numbers.{ReadFits}
 use Rattle.stm_compile.specs.Answers.{answer_in}
 use Rattle.stm_attempt.specs.Known.{is_of_base, serving, HaveDistinctKeys}
 
@@ -91,7 +89,3 @@ pub next_is_new : (before left after all : List ReadAnswer) (a : ReadAnswer) →
     answer_in a.key before ≡ None
 next_is_new before left after all a whole first distinct =
     distinct-new before after a (subst HaveDistinctKeys (sym whole ∙ ap (λ (l : List ReadAnswer). before ++ l) first) distinct)
-
-one_fits : (before after : List ReadAnswer) (a : ReadAnswer) → AllByRecursion ReadFits (before ++ a ∷ after) → ReadFits a
-one_fits [] after a all = all.0
-one_fits (x ∷ before) after a all = one_fits before after a all.1

@@ -103,13 +103,6 @@ take_some taken key keys prefetched a some =
     ap (λ (o : Option ReadAnswer). option_map (λ more. taken ++ more) (with_first o (answers_of_all keys prefetched))) some
     ∙ take_by taken a (answers_of_all keys prefetched)
 
-pub take_end : (taken : List ReadAnswer) → Some taken ≡ option_map (λ more. taken ++ more) (Some [])
-take_end taken = ap (λ (l : List ReadAnswer). Some l) (sym (nothing_after taken))
-  where
-    nothing_after : (l : List ReadAnswer) → l ++ [] ≡ l
-    nothing_after [] = refl
-    nothing_after (x ∷ l) = ap (λ (m : List ReadAnswer). x ∷ m) (nothing_after l)
-
 pub take_all : (o : Option (List ReadAnswer)) → option_map (λ more. [] ++ more) o ≡ o
 take_all None = refl
 take_all (Some more) = refl

@@ -10,7 +10,6 @@ use Rattle.stm_steps.specs.declared.run.Run.{Run}
 use Rattle.stm_steps.specs.declared.run.Answered.{Answered}
 use Rattle.stm_steps.specs.declared.run.Answered.TheVariants.{Ended, Wants}
 use Rattle.stm_compile.specs.Answers.{answer_in}
-use Rattle.stm_attempt.specs.declared.next.Next.{Next}
 use Rattle.stm_attempt.specs.declared.next.Next.TheVariants.{FetchAll, Ready}
 use Rattle.stm_attempt.specs.Known.{Known, known_of, serving}
 use Rattle.stm_attempt.specs.Settled.{run_on, wanted, answer_for, served}
@@ -153,7 +152,3 @@ awaited_is_new attempt key is = awaited_by_new attempt.program attempt.level att
 
 abbrev pub seen_as : Option ProgramTree → Level → List ReadAnswer → List ReadAnswer → AttemptState
 seen_as program level reads prefetched = record { program = program; level = level; known = known_of reads prefetched }
-
-pub next_is : (program : ProgramTree) (old : AttemptState) (before : Option ProgramTree) (level : Level) (reads prefetched : List ReadAnswer) (next : Next) →
-    seen_as before level reads prefetched ≡ old → next ≡ next_of program level (known_of reads prefetched) → next ≡ next_of program old.level old.known
-next_is program old before level reads prefetched next is reported = reported ∙ ap (λ (v : AttemptState). next_of program v.level v.known) is

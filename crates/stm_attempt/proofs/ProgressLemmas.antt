@@ -2,7 +2,6 @@
 use Rattle.std.proofs.Common.{◌≡◌, refl, sym, ◌∙◌, ap, subst, ℕ, Bool, true, false, cond, List, [], ◌∷◌, ◌++◌, ◌+◌, ◌<◌, ◌≤◌, length, take}
 use Rattle.std.proofs.Common.{length-append, length-take-le, append_assoc, append-nil, arith}
 use Rattle.std.proofs.Math.Seq.{take-length}
-use Rattle.std.proofs.lemmas.List.{take-append-le}
 use Rattle.std.specs.Prelude.{bytes_eq, Option, None, Some, Result, Ok, Err, IfOk, OnOk, option_map, is_some, IsSome}
 use Rattle.std.specs.declared.alloc.AllocError.{AllocError}
 use Rattle.std.proofs.lemmas.Slice.Eq.{bytes_eq-Decides}
@@ -177,10 +176,6 @@ one_added before mid after a so_far pushed =
       follow = pushed ∙ ap (λ (l : List ReadAnswer). l ++ a ∷ []) so_far.follow ∙ append_assoc before so_far.added (a ∷ []);
     }
 
-pub front_stays : (reported : ℕ) (before after : List ReadAnswer) → reported ≤ length before → Extends before after → take reported after ≡ take reported before
-front_stays reported before after within more =
-    ap (λ (l : List ReadAnswer). take reported l) more.follow ∙ take-append-le reported before more.added within
-
 -- ---- where a program has come
 
 wants_none : (program : ProgramTree) (reads : List ReadAnswer) (p : Progress) → HasEnded p → HasCome program reads p → wanted (run_on program reads) ≡ None
@@ -237,19 +232,6 @@ left_untold program level reads run kept before after (Ok reported) is not next 
     subst (λ (n : Next). IsLeftAtEnd n kept reads kept reads after) (sym (next run is)) (left_at program level reads run run.end kept after not fresh)
 
 -- ---- an attempt under way
-
--- after a call that was refused
-pub still_under_way : (program : ProgramTree) (before after prefetched : List ReadAnswer) (reported : ℕ) (old new : Progress) →
-    IsUnderWay program before prefetched reported old → Extends before after → HasCome program after new →
-    gone_on program (known_of after prefetched) ≡ gone_on program (known_of before prefetched) → IsUnderWay program after prefetched reported new
-still_under_way program before after prefetched reported old new way more come settles =
-    let count : length after ≡ length before + length more.added = ap (λ (l : List ReadAnswer). length l) more.follow ∙ length-append before more.added in
-    let front : take reported after ≡ take reported before = front_stays reported before after way.within more in
-    record {
-      within = omega (arith, way.within, count);
-      ahead = settles ∙ way.ahead ∙ ap (λ (l : List ReadAnswer). gone_on program (known_of l prefetched)) (sym front);
-      come = come;
-    }
 
 -- after a call that was not: all reads are reported
 pub under_way : (program : ProgramTree) (reads prefetched : List ReadAnswer) (reported : ℕ) (progress : Progress) → reported ≡ length reads →

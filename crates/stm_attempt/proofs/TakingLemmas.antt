@@ -1,7 +1,7 @@
 -- The steps by which a list is taken from the prefetched answers, by what the code has at hand.
-use Rattle.std.proofs.Common.{◌≡◌, ◌≤◌, ◌<◌, ◌+◌, ◌-◌, ℕ, false, List, [], ◌∷◌, ◌++◌, length, map, take, drop, get_or, String, sym, ◌∙◌, ap, subst, arith}
+use Rattle.std.proofs.Common.{◌≡◌, ◌≤◌, ◌+◌, ◌-◌, ℕ, false, List, [], ◌∷◌, ◌++◌, length, map, take, drop, get_or, String, sym, ◌∙◌, ap, subst, arith}
 use Rattle.std.specs.Prelude.{Option, None, Some, option_map, string_bytes}
-use Rattle.std.proofs.lemmas.List.{map_push, take_rest, take_more}
+use Rattle.std.proofs.lemmas.List.{take_rest}
 use Rattle.std.proofs.lemmas.Slice.Eq.{bytes_eq-Decides}
 use Rattle.stm_history.specs.declared.key_state.ReadAnswer.{ReadAnswer}
 use Rattle.stm_program.specs.Syntax.{ProgramTree}
@@ -94,13 +94,3 @@ starts_taking program taken prefetched keys found none same reported =
 pub listed_are_distinct : (program : ProgramTree) (answers : List ReadAnswer) → Fits program → program.prefetch ≡ map (λ (a : ReadAnswer). a.key) answers
     → HaveDistinctKeys answers
 listed_are_distinct program answers fits same = once-have_distinct answers (ap has_repeat (sym same) ∙ list_once program fits)
-
--- one of its keys is copied
-pub one_key_more : {A : Type 0} (listed : List (String A)) (i : ℕ) (next : String A) (keys after : List (List ℕ)) (key : List ℕ) → i < length listed
-    → next ≡ get_or listed i next → keys ≡ map string_bytes (take i listed) → key ≡ string_bytes next → after ≡ keys ++ key ∷ []
-    → after ≡ map string_bytes (take (i + 1) listed)
-one_key_more listed i next keys after key below at so_far is pushed =
-    let more : take (i + 1) listed ≡ take i listed ++ next ∷ [] =
-    take_more listed i next below ∙ ap (λ (k : String _). take i listed ++ k ∷ []) (sym at) in
-    pushed ∙ ap (λ (l : List (List ℕ)). l ++ key ∷ []) so_far ∙ ap (λ (k : List ℕ). map string_bytes (take i listed) ++ k ∷ []) is
-    ∙ sym (map_push string_bytes (take i listed) next) ∙ ap (map string_bytes) (sym more)

@@ -6,7 +6,7 @@ use Rattle.std.specs.List.{list_any, AllByRecursion}
 use Rattle.std.proofs.lemmas.Grind.{flat_map-append}
 use Rattle.std.proofs.lemmas.List.{append-nil}
 use Rattle.std.proofs.Math.Seq.{take-suc}
-use Rattle.std.proofs.lemmas.List.Elements.{Contains-append_left, Contains-append_right, Contains-append_cases, Contains-push_cases}
+use Rattle.std.proofs.lemmas.List.Elements.{Contains-append_left, Contains-append_right, Contains-append_cases}
 use Rattle.stm_world.specs.World.{World}
 use Rattle.stm_schedules.specs.declared.outcome.Outcome.{Outcome}
 use Rattle.stm_schedules.specs.declared.moves.Move.{Move}
@@ -17,12 +17,6 @@ use Rattle.stm_explore.specs.Gathering.{AreDistinct, Gathers}
 
 pub none_in_nothing : (it : Outcome) → Contains (let none : List Outcome = [] in none) it → ⊥
 none_in_nothing it c = omega (arith, c.1)
-
-pub gathers_nothing : (found : List Outcome) → Gathers [] found found
-gathers_nothing found = record {
-  each = λ it. (λ c. inl c, λ either. elim either [ inl c ↦ c | inr none ↦ absurd (none_in_nothing it none) ]);
-  distinct = λ are. are;
-}
 
 each_then : (xs ys a b c : List Outcome) → Gathers xs a b → Gathers ys b c → (it : Outcome) →
     Contains c it ↔ (Contains a it ⊎ Contains (xs ++ ys) it)
@@ -51,23 +45,6 @@ gathers_then xs ys a b c first second = record {
 }
 
 -- ---- one outcome ----
-
-one_of_one : (it other : Outcome) → Contains (it ∷ []) other → it ≡ other
-one_of_one it other c = of_cases (Contains-push_cases [] it other c)
-  where
-    of_cases : Contains (let none : List Outcome = [] in none) other ⊎ (it ≡ other) → it ≡ other
-    of_cases (inl none) = absurd (none_in_nothing other none)
-    of_cases (inr e) = e
-
-pub gathers_found : (it : Outcome) (found : List Outcome) → Contains found it → Gathers (it ∷ []) found found
-gathers_found it found there = record {
-  each = λ other. (λ c. inl c, of_either other);
-  distinct = λ are. are;
-}
-  where
-    of_either : (other : Outcome) → Contains found other ⊎ Contains (it ∷ []) other → Contains found other
-    of_either other (inl c) = c
-    of_either other (inr c) = subst (λ (o : Outcome). Contains found o) (one_of_one it other c) there
 
 differs_from_all : (it : Outcome) (found : List Outcome) (x : Outcome) → AllByRecursion (λ y. x ≢ y) found → x ≢ it → AllByRecursion (λ y. x ≢ y) (found ++ it ∷ [])
 differs_from_all it [] x all other = (other, tt)
@@ -105,12 +82,6 @@ pub whole_here : (ms : List Move) (w : World) (ends : Ends) (it : Outcome) (old 
     it ≡ shown w ends → Gathers (it ∷ []) old new → Gathers (outcome_if_whole ms w ends) old new
 whole_here [] w ends it old new none is gathers = subst (λ (o : Outcome). Gathers (o ∷ []) old new) is gathers
 whole_here (m ∷ ms) w ends it old new none is gathers = absurd (cc)
-
--- a move can be made: there is none
-pub more_here : (ms : List Move) (w : World) (ends : Ends) (found : List Outcome) → list_any (λ (m : Move). true) ms ≡ true →
-    Gathers (outcome_if_whole ms w ends) found found
-more_here [] w ends found more = absurd (cc)
-more_here (m ∷ ms) w ends found more = gathers_nothing found
 
 -- ---- the places of a layer ----
 

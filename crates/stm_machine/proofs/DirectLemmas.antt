@@ -1,5 +1,5 @@
 -- What is run at once: expressions and statements that read no key.
-use Rattle.std.proofs.Common.{◌≡◌, refl, sym, ◌∙◌, ap, subst, ℕ, List, [], ◌∷◌, inl, inr}
+use Rattle.std.proofs.Common.{◌≡◌, refl, sym, ◌∙◌, ap, subst, ℕ, List}
 use Rattle.std.specs.Prelude.{Bool, true, false, Option, None, Some, Result, Ok, Err, IfSome}
 use Rattle.stm_program.specs.Syntax as tree
 use Rattle.stm_program.specs.Syntax.{Expression, Statement}
@@ -13,15 +13,13 @@ use Rattle.stm_steps.specs.Session.{Session, with_variable, with_output, with_wr
 use Rattle.stm_steps.specs.Outcome.{Outcome, Gives, and_then, given}
 use Rattle.stm_steps.specs.Steps.{get_key}
 use Rattle.stm_steps.specs.Meaning.{evaluate, run_statement}
-use Rattle.stm_machine.specs.declared.focus.Item.TheVariants.{Value as ValueItem, Nothing}
+use Rattle.stm_machine.specs.declared.focus.Item.TheVariants.{Value as ValueItem}
 use Rattle.stm_machine.specs.declared.focus.Focus.{Focus}
-use Rattle.stm_machine.specs.declared.focus.Focus.TheVariants.{Evaluate, Give}
+use Rattle.stm_machine.specs.declared.focus.Focus.TheVariants.{Give}
 use Rattle.stm_machine.specs.declared.frame.Frame.{Frame}
-use Rattle.stm_machine.specs.Frames.{top_of, below_top}
-use Rattle.stm_machine.specs.State.{state_of}
 use Rattle.stm_machine.specs.Moves.{at_get}
 use Rattle.stm_machine.specs.Finish.{on_value, onward_of, finish_from}
-use Rattle.stm_machine.specs.Direct.{GivesAtOnce, IsPast, LeadsOn, RunsAtOnce, RunsOrStays, RunsFirst, JumpsOrStays}
+use Rattle.stm_machine.specs.Direct.{GivesAtOnce, IsPast, LeadsOn, RunsAtOnce, RunsOrStays}
 
 -- what an answer that was found is
 pub of_some : {X : Type 0} (P : X → Type 0) (o : Option X) (x : X) → o ≡ Some x → IfSome o P → P x
@@ -144,28 +142,3 @@ has_run false statement s t yes_ran stays = absurd (cc)
 pub has_stayed : (ran : Bool) (statement : Statement) (s t : Session) → ran ≡ false → RunsOrStays ran statement s t → t ≡ s
 has_stayed true statement s t not_ran runs = absurd (cc)
 has_stayed false statement s t not_ran stays = stays
-
--- a machine that jumped over a statement of its innermost part, or stayed
-pub statement_jumps : (ran : Bool) (before after : Frame) (old new frames : List Frame) (s t : Session) → Some before ≡ top_of old → frames ≡ below_top old →
-    new ≡ after ∷ frames → RunsFirst ran before s after t → JumpsOrStays ran (state_of (Give Nothing) old s) (state_of (Give Nothing) new t)
-statement_jumps ran before after [] new frames s t top below put ran_first = absurd (cc)
-statement_jumps true before after (f ∷ fs) new frames s t top below put passes =
-    let same : before ≡ f = cc in
-    inr (record {
-      before = before;
-      after = after;
-      frames = frames;
-      stands = refl;
-      waits = λ i. sym same i ∷ sym below i;
-      passes = passes;
-      left = ap (λ (l : List Frame). state_of (Give Nothing) l t) put;
-    })
-statement_jumps false before after (f ∷ fs) new frames s t top below put stays =
-    let same : before ≡ f = cc in
-    let whole : new ≡ f ∷ fs = put ∙ (λ i. (stays.0 ∙ same) i ∷ below i) in
-    λ i. state_of (Give Nothing) (whole i) (stays.1 i)
-
--- one that jumped over its expression
-pub expression_jumps : (e : Expression) (frames : List Frame) (old new : Focus) (s : Session) → old ≡ Evaluate e → LeadsOn e s new →
-    JumpsOrStays true (state_of old frames s) (state_of new frames s)
-expression_jumps e frames old new s stands leads = inl (record { expression = e; focus = new; stands = stands; leads = leads; left = refl })

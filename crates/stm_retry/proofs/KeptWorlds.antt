@@ -77,7 +77,7 @@ use Rattle.stm_world.specs.Restored.{restored_world}
 use Rattle.stm_world.proofs.Restored.{restored_is_sound}
 use Rattle.stm_world.proofs.Sound.{opened_is_sound, step_is_sound, base_is_reached}
 use Rattle.stm_retry.specs.Returns.{IsStep, IsUnchanged, IsCutShort, OutOfMemoryReturns, RefusalReturns, Returns, is_out_of_memory}
-use Rattle.stm_retry.specs.Kept.{whole_store, whole_world, kept_world, IsKeptBy, compact_kept, KeptReturns, BasesAreReached}
+use Rattle.stm_retry.specs.Kept.{whole_world, kept_world, IsKeptBy, compact_kept, KeptReturns, BasesAreReached}
 use Rattle.stm_retry.proofs.StepLemmas.{fetched_step, step_fetches, listed_step, step_lists}
 use Rattle.stm_retry.proofs.WorldLemmas.{refusal_cases, reports_sound}
 
@@ -614,10 +614,3 @@ state_reported opened m seen (Ok state) x is same reported =
     subst (λ (w : World). IsStateOf w.standing.history state) is
     (state_of_whole opened m state x (subst (λ (g : History). IsStateOf g state) same reported))
 state_reported opened m seen (Err e) x is same reported = tt
-
--- the store stands for the history that the entries replay to
-pub stands_replayed : (opened : Opening) (m seen : World) → IsKeptBy m.standing (whole_world opened m) → whole_world opened m ≡ seen →
-    m.standing ≡ kept (whole_store seen.standing.history.opening seen.entries m.standing)
-stands_replayed opened m seen x is =
-    x.stands ∙ ap (λ (o : Opening). kept (whole_store o m.entries m.standing)) (sym (opens_with opened m))
-    ∙ ap (λ (w : World). kept (whole_store w.standing.history.opening w.entries m.standing)) is

@@ -1,7 +1,6 @@
 -- A world with other runners over what is kept of it.
-use Rattle.std.proofs.Common.{◌≡◌, ◌∙◌, ◌⊎◌, inl, inr, true, false, ℕ, List, Option, Some, None, Result, Ok, Err, sym, ap, subst}
+use Rattle.std.proofs.Common.{◌≡◌, ◌∙◌, false, ℕ, List, Option, Some, None, Result, Ok, Err, sym, ap, subst}
 use Rattle.std.specs.Prelude.{IfOk, IfSome}
-use Rattle.std.proofs.lemmas.Bool.{true≢false}
 use Rattle.std.specs.declared.alloc.AllocError.{AllocError}
 use Rattle.stm_events.specs.declared.event.WorldEvent.TheVariants.{Step}
 use Rattle.stm_events.specs.declared.reply.Reply.{Reply}
@@ -11,8 +10,7 @@ use Rattle.stm_world.specs.Sound.{IsSound}
 use Rattle.stm_world.specs.World.{World, Runner, Slot, Over, runner_at, with_slot, step_live, step}
 use Rattle.stm_world.proofs.Sound.{step_is_sound}
 use Rattle.stm_events.specs.declared.event.WorldEvent.{WorldEvent}
-use Rattle.stm_retry.specs.Returns.{IsStep, OutOfMemoryReturns, Returns, is_out_of_memory, ran_out}
-use Rattle.stm_retry.proofs.WorldLemmas.{refusal_cases}
+use Rattle.stm_retry.specs.Returns.{IsStep}
 use Rattle.stm_retry.specs.Quiet.{is_commit}
 use Rattle.stm_history.specs.Opening.{Opening}
 use Rattle.stm_retry.specs.Kept.{whole_world, IsKeptBy, BasesAreReached}
@@ -67,21 +65,6 @@ quiet_reports id j places slots r q outcome reply there o is made put replied =
 
 -- ---- worlds that share
 
-pub same_places : (w base : World) (places : List Slot) → places ≡ w.runners → base ≡ w → with_places places base ≡ w
-same_places w base places runners is = ap (with_places places) is ∙ ap (λ (l : List Slot). with_places l w) runners
-
-took_by : (event : WorldEvent) (d : Denied) (old new : World) → is_out_of_memory d.cause ≡ false →
-    (((is_out_of_memory d.cause ≡ true) × OutOfMemoryReturns event d.expired old new) ⊎ ((is_out_of_memory d.cause ≡ false) × IsStep (step event old) (Err d) new)) →
-    IsStep (step event old) (Err d) new
-took_by event d old new in_time (inl want) = absurd (true≢false (sym want.0 ∙ in_time))
-took_by event d old new in_time (inr is) = is.1
-
--- an event that memory sufficed for
-pub took : (event : WorldEvent) (reply : Result Reply Denied) (old new : World) → ran_out reply ≡ false → Returns event reply old new →
-    IsStep (step event old) reply new
-took event (Ok reply) old new in_time reports = reports
-took event (Err d) old new in_time reports = took_by event d old new in_time (refusal_cases d.cause event d old new reports)
-
 -- the world after a quiet step is sound
 pub quiet_is_sound : (id : ℕ) (w : World) (o : Option Reply) (reply : Reply) (old new : List Slot) → o ≡ Some reply → IsSound (with_places old w) →
     IfSome o (λ reply. IsStep (step (Step id) (with_places old w)) (Ok reply) (with_places new w)) → IsSound (with_places new w)
@@ -107,7 +90,3 @@ pub shared_step : (id : ℕ) (event : WorldEvent) (w next shared : World) (reply
     is_commit reply ≡ false → shared ≡ with_places next.runners w → IsStep (step event w) reply shared
 shared_step id event w next shared reply is made quiet with_runners =
     record { reply_is = made.reply_is; next_is = made.next_is ∙ shares id event w next reply is made quiet ∙ sym with_runners }
-
--- a world that has the runners of another
-pub other_places : (base w : World) (here places : List Slot) → with_places here base ≡ w → with_places places w ≡ with_places places base
-other_places base w here places is = ap (with_places places) (sym is)

@@ -1,11 +1,8 @@
 -- The replies to a transaction, and the room for them.
-use Rattle.std.proofs.Common.{◌≡◌, ◌≤◌, ◌∙◌, ◌⊎◌, inl, inr, ℕ, suc, List, [], ◌∷◌, ◌++◌, length, map, reverse, Option, Some, None, Result, Ok, Err, IsOk}
-use Rattle.std.proofs.Common.{refl, sym, ap, subst, append_assoc}
-use Rattle.std.proofs.lemmas.List.{reverse-append, map-append}
+use Rattle.std.proofs.Common.{◌≡◌, ◌≤◌, ◌⊎◌, inl, inr, ℕ, suc, List, [], ◌∷◌, length, Option, Some, None, Result, Ok, Err, IsOk, refl, sym, ap, subst}
 use Rattle.stm_history.specs.History.{History, key_now}
 use Rattle.stm_outcome.specs.declared.txn.Txn.{Txn}
 use Rattle.stm_outcome.specs.declared.txn.Op.{Op}
-use Rattle.stm_outcome.specs.declared.answer.OpAnswer.{OpAnswer}
 use Rattle.stm_outcome.specs.declared.answer.FailedCompare.{FailedCompare}
 use Rattle.stm_outcome.specs.declared.answer.TxnAnswer.{TxnAnswer}
 use Rattle.stm_outcome.specs.declared.refusal.Refusal.{Refusal}
@@ -18,18 +15,8 @@ use Rattle.stm_outcome.proofs.Applying.{is_done}
 use Rattle.stm_txn.specs.Standing.{Step, step_of, terms_of, transacted, refusal_of}
 use Rattle.stm_journal.specs.JournalState.{JournalState, JournalStep}
 use Rattle.stm_journal.specs.Entering.{made, entered, or_out_of_memory}
-use Rattle.stm_events.specs.declared.reply.OpReply.{OpReply}
-use Rattle.stm_events.specs.Replies.{op_reply}
 
 -- ---- the replies
-
--- the last answer is replied to next
-pub last_replied : (replies : List OpReply) (rest : List OpAnswer) (answer : OpAnswer) →
-    (replies ++ op_reply answer ∷ []) ++ reverse (map op_reply rest) ≡ replies ++ reverse (map op_reply (rest ++ answer ∷ []))
-last_replied replies rest answer =
-    append_assoc replies (op_reply answer ∷ []) (reverse (map op_reply rest))
-    ∙ ap (λ (l : List OpReply). replies ++ l)
-    (sym (ap (λ (l : List OpReply). reverse l) (map-append op_reply rest (answer ∷ [])) ∙ reverse-append (map op_reply rest) (op_reply answer ∷ [])))
 
 -- ---- the room
 

@@ -1,6 +1,6 @@
 -- What the calls of a world keep and report.
 use Rattle.std.proofs.Common.{◌≡◌, ◌<◌, ◌∙◌, ◌⊎◌, inl, inr, ℕ, ◌+◌, List, [], ◌∷◌, ◌++◌, length, Option, Some, None, Result, Ok, Err, Bool, true, false}
-use Rattle.std.proofs.Common.{cond, refl, sym, ap, subst, get_or, drop, take, append_assoc, OnOk, OnErr}
+use Rattle.std.proofs.Common.{cond, refl, sym, ap, subst, get_or, drop, take, append_assoc}
 use Rattle.std.specs.Prelude.{IsOk, IsTrue, ◌↔◌, nat_eq, nat_lt, slice_get}
 use Rattle.std.specs.declared.alloc.AllocError.{AllocError}
 use Rattle.std.proofs.lemmas.List.{drop_more, take_more}
@@ -192,11 +192,6 @@ refused_sound event d old new sound (inr is) = is_step_sound event (Err d) old n
 pub reports_sound : (event : WorldEvent) (reply : Result Reply Denied) (old new : World) → IsSound old → Returns event reply old new → IsSound new
 reports_sound event (Ok reply) old new sound reported = is_step_sound event (Ok reply) old new sound reported
 reports_sound event (Err d) old new sound reported = refused_sound event d old new sound (refusal_cases d.cause event d old new reported)
-
-pub started_sound : (task : Task) (result : Result ℕ AllocError) (old new : World) → IsSound old → OnOk result (new ≡ (start_runner task old).next) →
-    OnErr result (new ≡ old) → IsSound new
-started_sound task (Ok id) old new sound ok err = subst IsSound (sym ok) (step_is_sound (Start task.program task.level task.limit) old sound)
-started_sound task (Err e) old new sound ok err = subst IsSound (sym err) sound
 
 -- ---- a run of events ----
 

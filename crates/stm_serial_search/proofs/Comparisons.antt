@@ -1,8 +1,7 @@
 -- Events of which each is so, and the programs that are started.
-use Rattle.std.proofs.Common.{◌≡◌, ℕ, zero, suc, ◌+◌, ◌-◌, ◌<◌, ◌≤◌, List, [], ◌∷◌, ◌++◌, length, get_or, drop, Some, None, Bool, true, false, cond}
+use Rattle.std.proofs.Common.{◌≡◌, ℕ, zero, suc, ◌+◌, ◌-◌, ◌<◌, ◌≤◌, List, [], ◌∷◌, ◌++◌, length, drop, Some, None, Bool, true, false, cond}
 use Rattle.std.proofs.Common.{refl, sym, ◌∙◌, ap, subst, append_assoc, append-nil, length-append, arith}
 use Rattle.std.specs.Prelude.{nat_eq, slice_get, Ok}
-use Rattle.std.proofs.Math.Seq.{drop-cons}
 use Rattle.stm_program.specs.Syntax.{ProgramTree}
 use Rattle.stm_events.specs.declared.event.WorldEvent.{WorldEvent}
 use Rattle.stm_events.specs.declared.event.WorldEvent.TheVariants.{Start, Step}
@@ -13,8 +12,6 @@ use Rattle.stm_world.specs.World.{World, Runner, Slot, Live, live_in, runner_at,
 use Rattle.stm_world.proofs.Slots.{equal_numbers, differ, runner_there, runner_new, runner_old, count_grows, no_runner}
 use Rattle.stm_schedules.specs.Scenarios.{up_to_last_start, after_last_start}
 use Rattle.stm_schedules.proofs.Splits.{scenarios_are_split}
-use Rattle.stm_serial.specs.Asked.{is_orderly, AreOrderly}
-use Rattle.stm_serial.specs.Serial.{is_foreign, AreForeign}
 use Rattle.stm_serial_search.specs.Search.{AreProgramsOf, program_started, programs_started}
 use Rattle.stm_serial_search.specs.Started.{is_step, HaveNoStep, StartedAreThose}
 
@@ -25,60 +22,15 @@ abbrev pub EachIs : (WorldEvent → Bool) → List WorldEvent → Type 0
 EachIs is [] = Unit {0}
 EachIs is (e ∷ es) = (is e ≡ true) × EachIs is es
 
-one_more_is : (is : WorldEvent → Bool) (events : List WorldEvent) (i : ℕ) (d : WorldEvent) → i < length events → is (get_or events i d) ≡ true →
-    EachIs is (drop (suc i) events) → EachIs is (drop i events)
-one_more_is is [] i d within here rest = absurd (omega arith)
-one_more_is is (e ∷ es) zero d within here rest = (here, rest)
-one_more_is is (e ∷ es) (suc i) d within here rest = one_more_is is es i d (omega arith) here rest
-
 -- where those from here on are so, all are
 pub record SoFar (is : WorldEvent → Bool) (i : ℕ) (events : List WorldEvent) : Type 0 where
   pub all : EachIs is (drop i events) → EachIs is events
-
-pub one_passed : (is : WorldEvent → Bool) (i : ℕ) (events : List WorldEvent) (e : WorldEvent) → i < length events → e ≡ get_or events i e → is e ≡ true →
-    SoFar is i events → SoFar is (i + 1) events
-one_passed is i events e within at here so_far =
-    let next : i + 1 ≡ suc i = omega arith in
-    record {
-      all = λ rest. so_far.all
-          (one_more_is is events i e within (sym (ap is at) ∙ here) (subst (λ (k : ℕ). EachIs is (drop k events)) next rest));
-    }
-
-none_left : (is : WorldEvent → Bool) (events : List WorldEvent) (i : ℕ) → length events ≤ i → EachIs is (drop i events)
-none_left is [] zero most = tt
-none_left is [] (suc i) most = tt
-none_left is (e ∷ es) zero most = absurd (omega arith)
-none_left is (e ∷ es) (suc i) most = none_left is es i (omega arith)
-
-orderly : (events : List WorldEvent) → EachIs is_orderly events → AreOrderly events
-orderly [] are = tt
-orderly (e ∷ es) are = (are.0, orderly es are.1)
-
-foreign : (events : List WorldEvent) → EachIs is_foreign events → AreForeign events
-foreign [] are = tt
-foreign (e ∷ es) are = (are.0, foreign es are.1)
 
 -- ---- the programs that are started
 
 -- those of these events are these, and then those of the events from here on
 pub record StartedSoFar (programs : List ProgramTree) (i : ℕ) (events : List WorldEvent) : Type 0 where
   pub all : programs ++ programs_started (drop i events) ≡ programs_started events
-
-next_event : (events : List WorldEvent) (i : ℕ) (e : WorldEvent) → i < length events → e ≡ get_or events i e → drop i events ≡ e ∷ drop (i + 1) events
-next_event events i e within at =
-    let next : i + 1 ≡ suc i = omega arith in
-    drop-cons events i e within ∙ ap (λ (x : WorldEvent). x ∷ drop (suc i) events) (sym at) ∙ ap (λ (n : ℕ). e ∷ drop n events) (sym next)
-
-pub one_started : (before after : List ProgramTree) (events : List WorldEvent) (i : ℕ) (e : WorldEvent) → i < length events → e ≡ get_or events i e →
-    after ≡ before ++ program_started e → StartedSoFar before i events → StartedSoFar after (i + 1) events
-one_started before after events i e within at pushed so_far =
-    let rest : List ProgramTree = programs_started (drop (i + 1) events) in
-    record {
-      all = ap (λ (ps : List ProgramTree). ps ++ rest) pushed
-          ∙ append_assoc before (program_started e) rest
-          ∙ ap (λ (es : List WorldEvent). before ++ programs_started es) (sym (next_event events i e within at))
-          ∙ so_far.all;
-    }
 
 -- ---- they are those of the runners
 

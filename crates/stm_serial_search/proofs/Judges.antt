@@ -122,9 +122,3 @@ module _ {A : Type 0} (f : A → A) where
       ap₂ (λ (ys : List A) (y : A). slice_set ys i y) is value
       ∙ one_more xs i d within
       ∙ sym (ap (λ (n : ℕ). map f (take n xs) ++ drop n xs) step)
-
-  pub all_put : (xs : List A) (i : ℕ) → length xs ≤ i → map f (take i xs) ++ drop i xs ≡ map f xs
-  all_put [] zero all = refl
-  all_put [] (suc i) all = refl
-  all_put (x ∷ xs) zero all = absurd (omega (arith, all))
-  all_put (x ∷ xs) (suc i) all = ap (λ (ys : List A). f x ∷ ys) (all_put xs i (omega (arith, all)))

@@ -36,6 +36,7 @@ pub fn right_replies_are_one()
 
 /// Later events are run from the world that earlier ones lead to: their replies stand after the earlier ones, and so do
 /// their lines in a log. So what holds of every list of events holds at each point within one.
+#[tactic(auto, using(crate::proofs::Joined::runs_go_on))]
 pub fn runs_go_on()
     ensures { RunsGoOn }
 {}
@@ -54,12 +55,14 @@ pub fn keys_are_read_once()
 
 /// No call of a store and no commit is refused as `OutOfMemory` by its definition, so that no right reply refuses an event
 /// as out of memory, or ends a run by it. Only code runs out of memory, and its contracts say what is left then.
+#[tactic(auto, using(crate::proofs::NeverOutOfMemory::never_out_of_memory))]
 pub fn out_of_memory_is_never_right()
     ensures { NeverOutOfMemory }
 {}
 
 /// Where a right reply refuses an event, the cause is `BadLimit` for a start, `NoRunner` for a step, and a cause of the store for any other
 /// event; where it ends a run by a refusal, the cause is one of the store. A world gives no other.
+#[tactic(auto, using(crate::proofs::Causes::causes_of_worlds))]
 pub fn causes_are_of_the_event()
     ensures { CausesOfWorlds }
 {}
@@ -70,6 +73,7 @@ pub fn causes_are_of_the_event()
 /// some expiries.
 ///
 /// In a sound world the revision that a runner's next fetch names is one that the store has reached.
+#[tactic(auto, using(crate::proofs::Sound::worlds_are_sound))]
 pub fn worlds_are_sound()
     ensures { WorldsAreSound }
 {}
@@ -81,12 +85,14 @@ pub fn restored_worlds_are_sound()
 
 /// In a sound world, where the program of the runner that is stepped has come to its end at a level that compares, and no compare of its commit
 /// fails, each value and modification revision that it has read is that of its key now, also where the store refuses the commit.
+#[tactic(auto, using(crate::proofs::ReadsNow::reads_are_now))]
 pub fn commits_read_what_is_now()
     ensures { CommitsReadWhatIsNow }
 {}
 
 /// From any sound world, also one that has run before, events only append entries: these are legal, each at its
 /// point, from the store as it was, and replay to the store as it is.
+#[tactic(auto, using(crate::proofs::Appending::events_append))]
 pub fn events_append()
     ensures { EventsAppend }
 {}
@@ -95,6 +101,7 @@ pub fn events_append()
 /// of the answers are those of the list and then the others that the run reads, in the order of its first reads.
 ///
 /// The answers that a commit was made on are such, and the headline says so of each.
+#[tactic(auto, using(crate::proofs::Asked::answers_are_the_reads))]
 pub fn answers_are_the_reads()
     ensures { AnswersAreTheReads }
 {}

@@ -1,6 +1,6 @@
 -- At a serializable level all that is read is of the base revision.
 use Rattle.std.proofs.Common.{◌≡◌, ◌∙◌, ◌≤◌, ℕ, Bool, true, false, cond, List, [], ◌∷◌, ◌++◌, Option, Some, None, refl, sym, ap, subst, arith}
-use Rattle.std.specs.Prelude.{nat_eq, nat_lt, ◌==◌, bytes_eq}
+use Rattle.std.specs.Prelude.{nat_lt, ◌==◌, bytes_eq}
 use Rattle.std.proofs.lemmas.Slice.Eq.{bytes_eq-Decides}
 use Rattle.std.proofs.lemmas.Bool.Decides.{nat_tests}
 use Rattle.std.proofs.lemmas.Option.{cond_some}
@@ -8,9 +8,9 @@ use Rattle.stm_history.specs.declared.key_state.ReadAnswer.{ReadAnswer}
 use Rattle.stm_program.specs.declared.level.Level.{Level}
 use Rattle.stm_program.specs.Levels.{is_serializable}
 use Rattle.stm_compile.specs.Answers.{answer_in}
-use Rattle.stm_attempt.specs.Fetches.{AllShow, HaveOneBase, base_of, at_of}
+use Rattle.stm_attempt.specs.Fetches.{AllShow, HaveOneBase}
 use Rattle.stm_closures.specs.TransactionState.{TransactionState}
-use Rattle.stm_closures.specs.Transactions.{IsFetched, IsOfBase, IsAnswerOf, IsAnswered, is_serving, serving_only, served}
+use Rattle.stm_closures.specs.Transactions.{IsOfBase, IsAnswerOf, IsAnswered, is_serving, serving_only, served}
 
 all_show : (revision : ℕ) (reads : List ReadAnswer) (a : ReadAnswer) → AllShow revision reads → a.of_rev ≡ revision → AllShow revision (reads ++ a ∷ [])
 all_show revision [] a shown same = (same, tt)
@@ -40,15 +40,6 @@ of_option reads (Some a) taken is =
 -- what was read again and serves
 pub served_is_of_base : (reads again : List ReadAnswer) (key : List ℕ) (taken : ReadAnswer) → served reads again key ≡ Some taken → IsOfBase reads taken
 served_is_of_base reads again key taken is = of_option reads (answer_in key again) taken is
-
-fetched_at : (reads : List ReadAnswer) (key : List ℕ) (a : ReadAnswer) → HaveOneBase reads → IsFetched key (base_of reads) a → IsOfBase reads a
-fetched_at [] key a base is = let shown = is.shown in let carries = is.carries in omega (arith, shown, carries)
-fetched_at (first ∷ reads) key a (some, others) is =
-    let not_zero : nat_eq first.of_rev 0 ≡ false = grind (arith, nat_tests, some) in
-    is.shown ∙ ap (λ (b : Bool). cond b a.revision first.of_rev) not_zero
-
-at_base : (level : Level) (reads : List ReadAnswer) → is_serializable level ≡ true → at_of level reads ≡ base_of reads
-at_base level reads is = ap (λ (b : Bool). cond b (base_of reads) 0) is
 
 key_by : (key : List ℕ) (first : ReadAnswer) (test : Bool) (rest : Option ReadAnswer) (a : ReadAnswer) → bytes_eq first.key key ≡ test
     → cond test (Some first) rest ≡ Some a → (rest ≡ Some a → a.key ≡ key) → a.key ≡ key

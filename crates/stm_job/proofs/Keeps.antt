@@ -291,16 +291,3 @@ joins size id v other w s rule at apart there = with_views size s (set (set s.vi
     both_empty no_passes = ap₂ (λ (l m : List ℕ). l ++ m)
         (rule.idle id v at (none_first v.past w.past v.left w.left no_passes))
         (rule.idle other w theirs (none_second v.past w.past v.left w.left no_passes))
-
--- what the seats know after a split
-pub knows_kept : (v : View) → 2 ≤ v.left → Knows v → Knows (kept v)
-knows_kept v enough known = (
-  less v.past v.left v.size.seats known.0,
-  λ (whole : IsWhole (kept v)). absurd (not_whole v.past v.left v.size.seats enough known.0 whole.0),
-)
-  where
-    less : (past left seats : ℕ) → past + left ≤ seats → past + (left - 1) ≤ seats
-    less past left seats h = omega arith
-
-    not_whole : (past left seats : ℕ) → 2 ≤ left → past + left ≤ seats → past + (left - 1) ≡ seats → ⊥
-    not_whole past left seats a b c = omega arith

@@ -1,10 +1,10 @@
 -- The list of a program: its limits, its copies, and when two programs are the same.
-use Rattle.std.proofs.Common.{◌≡◌, ℕ, ◌≤◌, ◌-◌, Bool, true, false, not, List, [], ◌∷◌, ◌++◌, length, map, take, drop, get_or, String, refl, sym, ap}
+use Rattle.std.proofs.Common.{◌≡◌, ℕ, ◌≤◌, ◌-◌, Bool, true, false, List, [], ◌∷◌, ◌++◌, length, map, take, drop, get_or, String, refl, sym, ap}
 use Rattle.std.proofs.Common.{◌∙◌, ◌↔◌, IsTrue, arith}
-use Rattle.std.specs.Prelude.{◌&&◌, ◌||◌, nat_lt, bytes_eq, string_bytes}
+use Rattle.std.specs.Prelude.{◌||◌, bytes_eq, string_bytes}
 use Rattle.std.specs.List.{AllZip, IsDistinct, AllByRecursion, list_any}
 use Rattle.std.proofs.lemmas.List.{take_rest}
-use Rattle.std.proofs.lemmas.Bool.{le-ltb, ltb-false}
+use Rattle.std.proofs.lemmas.Bool.{le-ltb, ltb-false, Decides.nat_tests}
 use Rattle.stm_program.specs.declared.limits.TheConstants.{MAX_PREFETCH}
 use Rattle.stm_program.specs.Syntax.{Block, ProgramTree}
 use Rattle.stm_program.specs.Limits.{is_no_key, has_repeat, ListFits, fits_with}
@@ -18,45 +18,28 @@ pub record ListParts (keys : List (List ℕ)) : Type 0 where
   pub named : list_any is_no_key keys ≡ false
   pub once : has_repeat keys ≡ false
 
-no_parts : (many unnamed repeated : Bool) → (not many && not unnamed && not repeated) ≡ true → (many ≡ false) × (unnamed ≡ false) × (repeated ≡ false)
-no_parts true unnamed repeated h = absurd (cc)
-no_parts false true repeated h = absurd (cc)
-no_parts false false true h = absurd (cc)
-no_parts false false false h = (refl, refl, refl)
-
 pub list_parts : (keys : List (List ℕ)) → ListFits keys → ListParts keys
-list_parts keys fits =
-    let parts = no_parts (nat_lt MAX_PREFETCH (length keys)) (list_any is_no_key keys) (has_repeat keys) fits in
-    record { few = ltb-false MAX_PREFETCH (length keys) parts.0; named = parts.1; once = parts.2 }
-
-all_parts : (many unnamed repeated : Bool) → many ≡ false → unnamed ≡ false → repeated ≡ false → (not many && not unnamed && not repeated) ≡ true
-all_parts many unnamed repeated first second third =
-    ap (λ b. not b && not unnamed && not repeated) first ∙ ap (λ b. not b && not repeated) second ∙ ap not third
+list_parts keys fits = grind (arith, nat_tests, ltb-false)
 
 pub list_whole : (keys : List (List ℕ)) → ListParts keys → ListFits keys
-list_whole keys parts =
-    all_parts (nat_lt MAX_PREFETCH (length keys)) (list_any is_no_key keys) (has_repeat keys) (le-ltb MAX_PREFETCH (length keys) parts.few) parts.named parts.once
+list_whole keys parts = grind (arith, nat_tests, le-ltb)
 
 -- the statements of a program fit, whatever its list is
 pub statements_fit : (keys : List (List ℕ)) (rest : Type 0) → fits_with keys rest → rest
-statements_fit [] rest h = h
-statements_fit (key ∷ keys) rest h = h.1
+statements_fit keys rest h = grind (arith, nat_tests)
 
 -- a program with a list that fits
 pub fits_behind : (keys : List (List ℕ)) (rest : Type 0) → ListFits keys → rest → fits_with keys rest
-fits_behind [] rest list h = h
-fits_behind (key ∷ keys) rest list h = (list, h)
+fits_behind keys rest list h = grind (arith, nat_tests)
 
 -- the empty list fits
 pub list_of_program : (keys : List (List ℕ)) (rest : Type 0) → fits_with keys rest → ListFits keys
-list_of_program [] rest h = refl
-list_of_program (key ∷ keys) rest h = h.0
+list_of_program keys rest h = grind (arith, nat_tests)
 
 -- ---- distinct keys
 
 neither : (b c : Bool) → (b || c) ≡ false → (b ≡ false) × (c ≡ false)
-neither true c h = absurd (cc)
-neither false c h = (refl, h)
+neither b c h = grind (arith, nat_tests)
 
 apart : (key : List ℕ) (later : List (List ℕ)) → list_any (bytes_eq key) later ≡ false → AllByRecursion (λ other. bytes_eq key other ≡ false) later
 apart key [] none = tt

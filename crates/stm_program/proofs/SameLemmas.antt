@@ -1,7 +1,7 @@
 -- Programs that are the same, and those of which `==` holds.
-use Rattle.std.proofs.Common.{◌≡◌, List, [], ◌∷◌, ◌<◌, ◌↔◌, length, Bool, true, false, IsTrue, refl, sym, ◌∙◌, arith}
+use Rattle.std.proofs.Common.{◌≡◌, List, [], ◌∷◌, ◌<◌, ◌↔◌, length, Bool, true, false, IsTrue, refl, sym, arith}
 use Rattle.std.specs.Prelude.{◌==◌}
-use Rattle.std.specs.Cmp.{unsigned_Decides}
+use Rattle.std.proofs.lemmas.Bool.Decides.{nat_tests}
 use Rattle.stm_program.specs.Syntax.{Statement, ProgramTree}
 use Rattle.stm_program.specs.BlockView.{block_of}
 use Rattle.stm_program.specs.SameProgram.{same_program}
@@ -10,10 +10,7 @@ use Rattle.stm_program.specs.SameProgramLaws.{same_program-equal}
 -- two lists of statements, of which the first is empty
 pub both_empty : (ls rs : List Statement) (b : Bool) → length ls < 1 → b ≡ (length rs == 0) → IsTrue b ↔ (block_of ls ≡ block_of rs)
 both_empty [] [] b below is_empty = (λ holds. refl, λ e. is_empty)
-both_empty [] (r ∷ rs) b below is_empty = (λ holds. absurd (clash holds), λ e. absurd (cc))
-  where
-    clash : IsTrue b → ⊥
-    clash holds = let none : length (r ∷ rs) ≡ 0 = (unsigned_Decides (length (r ∷ rs)) 0).0 (sym is_empty ∙ holds) in omega (arith, none)
+both_empty [] (r ∷ rs) b below is_empty = grind (arith, nat_tests)
 both_empty (l ∷ ls) rs b below is_empty = absurd (omega arith)
 
 -- a test that holds exactly where two programs are the same is `==`

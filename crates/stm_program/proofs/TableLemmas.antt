@@ -4,6 +4,7 @@ use Rattle.std.proofs.Common.{arith, Bor}
 use Rattle.std.specs.Prelude.{bytes_eq}
 use Rattle.std.specs.Map.{values_of}
 use Rattle.std.proofs.Math.Seq.{take-suc}
+use Rattle.std.proofs.lemmas.Bool.Decides.{nat_tests}
 use Rattle.indexmap.specs.IndexMap.{insert_entry}
 use Rattle.stm_history.specs.declared.change.Change.{Change}
 use Rattle.stm_history.specs.History.{key_of}
@@ -34,15 +35,7 @@ pub record HasLatest (es : List Entry) (ws : List Change) : Type 0 where
 writes-inserted : (es : List Entry) (k : Bor (List ℕ)) (v : Bor Change) → k.now ≡ key_of v.now → IsKeyed es →
     writes_in (insert_entry same_key es k v) ≡ with_write v.now (writes_in es)
 writes-inserted [] k v is_key keyed = refl
-writes-inserted (e ∷ es) k v is_key keyed =
-    by (same_key k e.0) (writes-inserted es k v is_key keyed.1)
-    ∙ ap (λ b. cond b (v.now ∷ writes_in es) (e.1.now ∷ with_write v.now (writes_in es)))
-    (ap (λ t. bytes_eq t e.0.now) is_key ∙ ap (bytes_eq (key_of v.now)) keyed.0)
-  where
-    by : (b : Bool) → writes_in (insert_entry same_key es k v) ≡ with_write v.now (writes_in es) →
-        writes_in (cond b ((e.0, v) ∷ es) (e ∷ insert_entry same_key es k v)) ≡ cond b (v.now ∷ writes_in es) (e.1.now ∷ with_write v.now (writes_in es))
-    by true rest = refl
-    by false rest = ap (λ ws. e.1.now ∷ ws) rest
+writes-inserted (e ∷ es) k v is_key keyed = grind (arith, nat_tests, with_write, writes-inserted es k v is_key keyed.1)
 
 -- and stands under its key
 keyed-inserted : (es : List Entry) (k : Bor (List ℕ)) (v : Bor Change) → k.now ≡ key_of v.now → IsKeyed es → IsKeyed (insert_entry same_key es k v)

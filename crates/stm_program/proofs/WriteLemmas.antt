@@ -1,8 +1,9 @@
 -- The last write of a key, and what a write more makes of it.
-use Rattle.std.proofs.Common.{◌≡◌, ℕ, List, [], ◌∷◌, ◌++◌, reverse, find, Option, Some, None, Bool, true, false, cond, refl, sym, ◌∙◌, ap}
-use Rattle.std.specs.Prelude.{bytes_eq, is_some, ◌||◌}
+use Rattle.std.proofs.Common.{◌≡◌, ℕ, List, [], ◌∷◌, ◌++◌, reverse, find, Option, Some, None, Bool, true, false, cond, refl, sym, ap, arith}
+use Rattle.std.specs.Prelude.{bytes_eq, ◌||◌}
 use Rattle.std.proofs.lemmas.List.{reverse-append}
 use Rattle.std.proofs.lemmas.Slice.Eq.{bytes_eq-Decides}
+use Rattle.std.proofs.lemmas.Bool.Decides.{nat_tests}
 use Rattle.stm_history.specs.declared.change.Change.{Change}
 use Rattle.stm_history.specs.History.{key_of}
 use Rattle.stm_program.specs.Writes.{last_write, is_written}
@@ -24,8 +25,7 @@ bytes_eq-flip a b = elim (bytes_eq a b) as (λ c. bytes_eq a b ≡ c → c ≡ b
 
 chosen_fits : (p : Change → Bool) (b : Bool) (w x : Change) (rest : Option Change) → p w ≡ b → (rest ≡ Some x → p x ≡ true) →
     cond b (Some w) rest ≡ Some x → p x ≡ true
-chosen_fits p true w x rest fits deeper found = let same : w ≡ x = cc in ap p (sym same) ∙ fits
-chosen_fits p false w x rest fits deeper found = deeper found
+chosen_fits p b w x rest fits deeper found = grind (arith, nat_tests)
 
 -- what a search finds passes its test
 found_fits : (p : Change → Bool) (ws : List Change) (x : Change) → find p ws ≡ Some x → p x ≡ true
@@ -48,13 +48,9 @@ pub last_write-more : (key : List ℕ) (ws : List Change) (w : Change) →
 unfolding last_write
 last_write-more key ws w = ap (find (λ v. bytes_eq (key_of v) key)) (reverse-append ws (w ∷ []))
 
-or_some : (b : Bool) (w : Change) (rest : Option Change) → is_some (cond b (Some w) rest) ≡ (b || is_some rest)
-or_some true w rest = refl
-or_some false w rest = refl
-
 -- a key is written by a list with one more write where that write is of it, or one before is
 pub is_written-more : (key : List ℕ) (ws : List Change) (w : Change) → is_written key (ws ++ w ∷ []) ≡ (bytes_eq (key_of w) key || is_written key ws)
-is_written-more key ws w = ap is_some (last_write-more key ws w) ∙ or_some (bytes_eq (key_of w) key) w (last_write key ws)
+is_written-more key ws w = grind (arith, nat_tests, last_write-more)
 
 -- the first of two that is there
 abbrev pub or_else : Option Change → Option Change → Option Change
@@ -63,18 +59,12 @@ or_else (Some w) other = Some w
 
 find-append : (p : Change → Bool) (xs ys : List Change) → find p (xs ++ ys) ≡ or_else (find p xs) (find p ys)
 find-append p [] ys = refl
-find-append p (x ∷ xs) ys = by (p x) (find-append p xs ys)
-  where
-    by : (b : Bool) → find p (xs ++ ys) ≡ or_else (find p xs) (find p ys)
-        → cond b (Some x) (find p (xs ++ ys)) ≡ or_else (cond b (Some x) (find p xs)) (find p ys)
-    by true e = refl
-    by false e = e
+find-append p (x ∷ xs) ys = grind (arith, nat_tests, find-append p xs ys)
 
 -- of two lists of writes the second is looked at first
 pub last_write-append : (key : List ℕ) (xs ys : List Change) → last_write key (xs ++ ys) ≡ or_else (last_write key ys) (last_write key xs)
 unfolding last_write
-last_write-append key xs ys =
-    ap (find (λ v. bytes_eq (key_of v) key)) (reverse-append xs ys) ∙ find-append (λ v. bytes_eq (key_of v) key) (reverse ys) (reverse xs)
+last_write-append key xs ys = grind (arith, nat_tests, reverse-append, find-append)
 
 pub last_write-one : (key : List ℕ) (w : Change) → last_write key (w ∷ []) ≡ cond (bytes_eq (key_of w) key) (Some w) None
 unfolding last_write

@@ -1,10 +1,10 @@
 -- What copies of the tables, of the lists and of the tournament keep.
-use Rattle.std.proofs.Common.{◌≡◌, ℕ, ◌+◌, cond, List, [], ◌∷◌, map, Option, Some, None, IsSome, unwrap_or, String, string_bytes}
-use Rattle.std.proofs.Common.{refl, sym, ap, subst, ◌∙◌, inl, inr}
+use Rattle.std.proofs.Common.{◌≡◌, ℕ, cond, List, [], ◌∷◌, map, Option, Some, IsSome, unwrap_or, String, string_bytes, arith, refl, sym, ap, ◌∙◌, inl, inr}
 use Rattle.std.specs.List.{AllZip}
 use Rattle.std.specs.Map.{lookup}
 use Rattle.std.specs.Str.{bytes_eq}
 use Rattle.std.specs.FinMap as finmap
+use Rattle.std.proofs.lemmas.Bool.Decides.{nat_tests}
 use Rattle.indexmap.specs.IndexMap.{IndexMap, get_by_text}
 use Rattle.stm_lists.specs.Lists.{Lists, list_at, entries_at}
 use Rattle.stm_lists.specs.Clones.{AreClones, IsListClone, AreListClones}
@@ -14,11 +14,9 @@ use Rattle.stm_leases.specs.LeaseLog.{Term}
 use Rattle.stm_leases.specs.Leases.{Leases}
 use Rattle.stm_leases.specs.declared.lease.Lease.{Lease}
 use Rattle.stm_leases.specs.declared.lease.Attachment.{Attachment}
-use Rattle.stm_leases.specs.declared.tournament.DueAt.{DueAt}
 use Rattle.stm_leases.specs.declared.tournament.Tournament.{Tournament}
 use Rattle.stm_leases.specs.Due.{IsTimed}
 use Rattle.stm_leases.specs.Kept.{Holds, AreInStep, term_in, view_of}
-use Rattle.stm_leases.specs.Tournament.{ArePlayedBut, node_in, slot_of}
 
 -- ---- the table of attached keys
 
@@ -28,9 +26,7 @@ pub same_bytes : {A : Type 0} (es fs : List (String A × Attachment))
 same_bytes [] [] p = refl
 same_bytes [] (f ∷ fs) p = absurd p
 same_bytes (e ∷ es) [] p = absurd p
-same_bytes (e ∷ es) (f ∷ fs) p =
-    ap (λ (key : List ℕ). (key, f.1) ∷ map by_bytes fs) p.0.0 ∙ ap (λ (place : Attachment). (string_bytes e.0, place) ∷ map by_bytes fs) p.0.1
-    ∙ ap (λ more. by_bytes e ∷ more) (same_bytes es fs p.1)
+same_bytes (e ∷ es) (f ∷ fs) p = grind (arith, nat_tests, same_bytes es fs p.1)
 
 -- where a key is looked for by its bytes
 found_by : {A : Type 0} (es : List (String A × Attachment)) (key : List ℕ)
@@ -64,11 +60,7 @@ module _ {A S R : Type 0} (leases new_leases : IndexMap ℕ Lease S) (attached n
 
   -- contracts see the same, but for the room
   pub view_copied : (spare : ℕ) (now : Leases) → view_of leases attached spare ≡ now → view_of new_leases new_attached 0 ≡ record now { spare = 0 }
-  view_copied spare now seen =
-      ap (λ (live : List (ℕ × Term)). tables live (map attached_text new_attached.entries)) (ap (map live_term) same)
-      ∙ ap (λ (attached : List (List ℕ × ℕ)). tables (map live_term leases.entries) attached)
-      (shown_by new_attached.entries ∙ ap (map with_lease) bytes ∙ sym (shown_by attached.entries))
-      ∙ ap (λ (s : Leases). record s { spare = 0 }) seen
+  view_copied spare now seen = grind (arith, nat_tests, shown_by)
 
 -- ---- the lists of keys
 
@@ -97,14 +89,10 @@ module _ {A : Type 0} where
 
   -- the same of lists that may not be there
   listed_cloned : (list copy : Option (List (ℕ × String A))) → IsListClone SameText list copy → IsSome list → IsSome copy
-  listed_cloned None copy p some = absurd (cc)
-  listed_cloned (Some xs) None p some = absurd p
-  listed_cloned (Some xs) (Some ys) p some = refl
+  listed_cloned list copy p some = grind (arith, nat_tests)
 
   entries_cloned : (list copy : Option (List (ℕ × String A))) → IsListClone SameText list copy → AreClones SameText (unwrap_or list []) (unwrap_or copy [])
-  entries_cloned None copy p = subst (λ (o : Option (List (ℕ × String A))). AreClones SameText [] (unwrap_or o [])) (sym p) tt
-  entries_cloned (Some xs) None p = absurd p
-  entries_cloned (Some xs) (Some ys) p = p
+  entries_cloned list copy p = grind (arith, nat_tests)
 
   pub in_step_copied : (list_of new_list_of : ℕ → Option ℕ) (place_of new_place_of : List ℕ → Option Attachment) (keys copies : Lists (String A))
       → ((id : ℕ) → new_list_of id ≡ list_of id) → ((key : List ℕ) → new_place_of key ≡ place_of key) → AreListClones SameText keys copies
@@ -132,18 +120,5 @@ module _ {A : Type 0} where
 -- ---- the tournament
 
 module _ (due copy : Tournament) (nodes : copy.nodes.items ≡ due.nodes.items) (slots : copy.slots ≡ due.slots) where
-  slot_copied : (slot : ℕ) → slot_of copy slot ≡ slot_of due slot
-  slot_copied slot =
-      ap (λ (xs : List (Option DueAt)). node_in xs (copy.slots + slot)) nodes ∙ ap (λ (n : ℕ). node_in due.nodes.items (n + slot)) slots
-
   pub timed_copied : (table new : ℕ → Option Lease) → ((id : ℕ) → new id ≡ table id) → IsTimed table due → IsTimed new copy
-  timed_copied table new same timed =
-      record {
-        played = subst (λ (xs : List (Option DueAt)). ArePlayedBut xs copy.slots 0) (sym nodes)
-            (subst (λ (n : ℕ). ArePlayedBut due.nodes.items n 0) (sym slots) timed.played);
-        within = λ id lease is. rw slots (timed.within id lease (sym (same id) ∙ is));
-        entered = λ id lease is. slot_copied lease.keys ∙ timed.entered id lease (sym (same id) ∙ is);
-        only = λ slot d is.
-            let had = timed.only slot d (sym (slot_copied slot) ∙ is) in
-            (had.0, same d.id ∙ had.1, had.2, had.3);
-      }
+  timed_copied table new same timed = grind (arith, nat_tests)

@@ -1,7 +1,7 @@
 -- How each change of the tables and the lists keeps them in step.
 use Rattle.std.proofs.Common.{◌≡◌, ◌≢◌, ◌⊎◌, ℕ, false, cond, List, [], ◌∷◌, ◌++◌, length, Option, Some, None, IsSome, unwrap_or, String, string_bytes, nat_eq}
-use Rattle.std.proofs.Common.{refl, sym, ap, subst, ◌∙◌, inl, inr}
-use Rattle.std.proofs.lemmas.Bool.{cases_Bool, cases_eq, eq-eqb, ne_eqb}
+use Rattle.std.proofs.Common.{refl, sym, ap, subst, ◌∙◌, inl, inr, arith}
+use Rattle.std.proofs.lemmas.Bool.{cases_Bool, cases_eq, eq-eqb, ne_eqb, Decides.nat_tests}
 use Rattle.std.proofs.lemmas.Option.{same_Some}
 use Rattle.std.proofs.lemmas.Slice.Eq.{bytes_eq-Decides}
 use Rattle.std.specs.Str.{bytes_eq}
@@ -30,20 +30,12 @@ module _ {A : Type 0} where
   -- another key stays where one entry leaves
   holds-without : (node gone : ℕ) (key : List ℕ) (text : String A) (before after : List (ℕ × String A)) → (string_bytes text ≡ key → ⊥)
       → Holds (before ++ (gone, text) ∷ after) node key → Holds (before ++ after) node key
-  holds-without node gone key text before after differs h =
-      elim (holds-parts node key before ((gone, text) ∷ after) h) [
-        | inl left ↦ holds-left node key before after left
-        | inr right ↦ elim right [ inl here ↦ absurd (differs here.1) | inr there ↦ holds-right node key before after there ]
-      ]
+  holds-without node gone key text before after differs h = grind (arith, nat_tests, holds-parts, holds-left, holds-right)
 
   -- and what stands without the entry stands with it
   holds-with : (node gone : ℕ) (key : List ℕ) (text : String A) (before after : List (ℕ × String A)) → Holds (before ++ after) node key
       → Holds (before ++ (gone, text) ∷ after) node key
-  holds-with node gone key text before after h =
-      elim (holds-parts node key before after h) [
-        | inl left ↦ holds-left node key before ((gone, text) ∷ after) left
-        | inr right ↦ holds-right node key before ((gone, text) ∷ after) (inr right)
-      ]
+  holds-with node gone key text before after h = grind (arith, nat_tests, holds-parts, holds-left, holds-right)
 
   -- the place of a node that holds a key
   pub record IsKeyPlace (keys : Lists (String A)) (list node : ℕ) (key : List ℕ) : Type 0 where
@@ -62,8 +54,7 @@ module _ {A : Type 0} where
       ]
 
   there : (o : Option (List (ℕ × String A))) → IsSome o → o ≡ Some (unwrap_or o [])
-  there None some = absurd (cc)
-  there (Some xs) some = refl
+  there o some = grind (arith, nat_tests)
 
   pub key-place : (keys : Lists (String A)) (list node : ℕ) (key : List ℕ) → HasList keys list → Holds (entries_at keys list) node key
       → IsKeyPlace keys list node key
@@ -156,48 +147,15 @@ module _ {A : Type 0} where
     -- a lease without keys ends, and its list with it
     pub removed : (id list : ℕ) → list_of id ≡ Some list → ((key : List ℕ) (place : Attachment) → place_of key ≡ Some place → place.lease ≢ id)
         → Updates keys new_keys list None → ((q : ℕ) → new_list_of q ≡ cond (nat_eq id q) None (list_of q)) → AreInStep new_list_of place_of new_keys
-    removed id list live no_keys updates lists =
-        record {
-          listed = λ q l is. still_there list l None updates (other_list q l is) (in_step.listed q l (old q l is));
-          own = λ q r l is also. in_step.own q r l (old q l is) (old r l also);
-          placed = λ key place is.
-              let had = in_step.placed key place is in
-              let now : new_list_of place.lease ≡ Some had.0 = list_else id None lists place.lease (no_keys key place is) ∙ had.1 in
-              (had.0, now, rw (same_entries list had.0 None updates (other_list place.lease had.0 now)) had.2);
-          held = λ q l node key is holds. in_step.held q l node key (old q l is) (rw (same_entries list l None updates (other_list q l is)) at holds);
-        }
-      where
-        not_id : (q l : ℕ) → new_list_of q ≡ Some l → q ≢ id
-        not_id q l is same = let none = sym (list_here id None lists) ∙ ap new_list_of (sym same) ∙ is in absurd (cc)
-
-        old : (q l : ℕ) → new_list_of q ≡ Some l → list_of q ≡ Some l
-        old q l is = sym (list_else id None lists q (not_id q l is)) ∙ is
-
-        other_list : (q l : ℕ) → new_list_of q ≡ Some l → l ≢ list
-        other_list q l is same = not_id q l is (in_step.own q id list (old q l is ∙ ap Some same) live)
+    removed id list live no_keys updates lists = grind (arith, nat_tests, still_there, list_else, same_entries, list_here)
 
     -- every list stays, as where a list that was just made is dropped again
     pub lists_stay : ((l : ℕ) → list_at new_keys l ≡ list_at keys l) → AreInStep list_of place_of new_keys
-    lists_stay same =
-        record {
-          listed = λ q l is. subst IsSome (sym (same l)) (in_step.listed q l is);
-          own = in_step.own;
-          placed = λ key place is.
-              let had = in_step.placed key place is in
-              (had.0, had.1, subst (λ (xs : List (ℕ × String A)). Holds xs place.node key) (sym (ap (λ o. unwrap_or o []) (same had.0))) had.2);
-          held = λ q l node key is holds.
-              in_step.held q l node key is (subst (λ (xs : List (ℕ × String A)). Holds xs node key) (ap (λ o. unwrap_or o []) (same l)) holds);
-        }
+    lists_stay same = grind (arith, nat_tests)
 
     -- the lists of the ids stay
     pub same_lists : ((q : ℕ) → new_list_of q ≡ list_of q) → AreInStep new_list_of place_of keys
-    same_lists same =
-        record {
-          listed = λ q l is. in_step.listed q l (sym (same q) ∙ is);
-          own = λ q r l is also. in_step.own q r l (sym (same q) ∙ is) (sym (same r) ∙ also);
-          placed = λ key place is. let had = in_step.placed key place is in (had.0, same place.lease ∙ had.1, had.2);
-          held = λ q l node key is holds. in_step.held q l node key (sym (same q) ∙ is) holds;
-        }
+    same_lists same = grind (arith, nat_tests)
 
     -- a lease to which no key is attached has an empty list
     pub no_entries : (id list : ℕ) → list_of id ≡ Some list → ((key : List ℕ) (place : Attachment) → place_of key ≡ Some place → place.lease ≢ id)
@@ -347,7 +305,4 @@ module _ {A : Type 0} where
 pub dropped_again : {A : Type 0} (old made dropped : Lists (String A)) (list : ℕ) → list_at old list ≡ None → Updates old made list (Some [])
     → Updates made dropped list None →
     (l : ℕ) → list_at dropped l ≡ list_at old l
-dropped_again old made dropped list fresh making dropping l = elim (cases_eq l list) [
-  | inl same ↦ ap (list_at dropped) same ∙ dropping.changed ∙ sym fresh ∙ ap (list_at old) (sym same)
-  | inr differs ↦ dropping.others l differs ∙ making.others l differs
-]
+dropped_again old made dropped list fresh making dropping l = grind (arith, nat_tests, cases_eq)

@@ -1,13 +1,13 @@
 -- The keys on a lease are those that are attached to it, and a lease has one list of keys.
-use Rattle.std.proofs.Common.{◌≡◌, ℕ, zero, suc, ◌<◌, Bool, true, false, cond, ◌&&◌, T, is_some, nat_eq, List, [], ◌∷◌, length, map, get_or, Option, Some, None}
+use Rattle.std.proofs.Common.{◌≡◌, ℕ, zero, suc, ◌<◌, Bool, true, cond, ◌&&◌, T, is_some, List, [], ◌∷◌, length, map, get_or, Option, Some, None}
 use Rattle.std.proofs.Common.{Contains, refl, sym, ap, subst, ◌∙◌, inl, inr, arith}
-use Rattle.std.proofs.lemmas.Bool.{eqb-true}
+use Rattle.std.proofs.lemmas.Bool.{eqb-true, Decides.nat_tests}
 use Rattle.std.proofs.lemmas.Cmp.{nat_list_cmp_total, nat_eq_equiv}
 use Rattle.std.proofs.lemmas.Map.Views.{list_any-from_Contains, Contains-from_any}
 use Rattle.std.specs.Cmp.{eq_by_cmp_equiv}
 use Rattle.std.specs.Cmp.Lexicographic.{slice_cmp}
 use Rattle.std.specs.declared.cmp.Ordering.{Ordering}
-use Rattle.std.specs.declared.cmp.Ordering.TheVariants.{Less, Equal, Greater}
+use Rattle.std.specs.declared.cmp.Ordering.TheVariants.{Less, Equal}
 use Rattle.std.specs.List.{list_any}
 use Rattle.std.specs.Ordering.{nat_cmp, eq_by_cmp, is_lt, is_eq}
 use Rattle.std.specs.FinMap as finmap
@@ -17,18 +17,13 @@ use Rattle.stm_leases.proofs.DueLaws.{IsAmong}
 
 -- texts of a sorted list ascend
 parts : (a b : Bool) → T (a && b) → (a ≡ true) × T b
-parts true b t = (refl, t)
-parts false b t = absurd t
+parts a b t = grind (arith, nat_tests)
 
 less : (o : Ordering) → is_lt o ≡ true → o ≡ Less
-less Less is = refl
-less Equal is = absurd (cc)
-less Greater is = absurd (cc)
+less o is = grind (arith, nat_tests)
 
 tied : (o : Ordering) → is_eq o ≡ true → o ≡ Equal
-tied Less is = absurd (cc)
-tied Equal is = refl
-tied Greater is = absurd (cc)
+tied o is = grind (arith, nat_tests)
 
 sorted-ascends : (es : List (List ℕ × ℕ)) → T (finmap.is_sorted (slice_cmp nat_cmp) es) → IsAscending (map (λ (e : List ℕ × ℕ). e.0) es)
 sorted-ascends [] sorted = tt
@@ -50,12 +45,7 @@ module _ (attached : Attached) (id : ℕ) where
       (λ x tie. ap (λ (k : List ℕ). is_on id (finmap.get attached k)) (sym (finmap.slice_cmp-IsAntisymmetric finmap.nat_cmp-IsAntisymmetric key x tie)))
 
   attaches : (o : Option ℕ) → is_some (cond (is_on id o) o None) ≡ true → o ≡ Some id
-  attaches None is = absurd (cc)
-  attaches (Some lease) is = by_test (nat_eq lease id) refl is
-    where
-      by_test : (b : Bool) → nat_eq lease id ≡ b → is_some (cond b (Some lease) None) ≡ true → Some lease ≡ Some id
-      by_test true same is = ap Some (eqb-true lease id same)
-      by_test false same is = absurd (cc)
+  attaches o is = grind (arith, nat_tests, eqb-true)
 
   is_attached : (o : Option ℕ) → o ≡ Some id → is_some (cond (is_on id o) o None) ≡ true
   is_attached o is = subst (λ (p : Option ℕ). is_some (cond (is_on id p) p None) ≡ true) (sym is) (ap (λ b. is_some (cond b (Some id) None)) (nat_eq_equiv.refl id))
@@ -91,12 +81,10 @@ among-contains (x ∷ xs) key among = elim among [
 ]
 
 irreflexive : (key : List ℕ) → slice_cmp nat_cmp key key ≡ Less → ⊥
-irreflexive key less = let same : eq_by_cmp (slice_cmp nat_cmp) key key ≡ true = (eq_by_cmp_equiv nat_list_cmp_total).refl key in
-    let differs : eq_by_cmp (slice_cmp nat_cmp) key key ≡ false = ap is_eq less in absurd (cc)
+irreflexive key less = grind (arith, nat_tests, less, nat_list_cmp_total)
 
 rest_ascends : (x : List ℕ) (xs : List (List ℕ)) → IsAscending (x ∷ xs) → IsAscending xs
-rest_ascends x [] ascending = tt
-rest_ascends x (y ∷ ys) ascending = ascending.1
+rest_ascends x xs ascending = grind (arith, nat_tests)
 
 -- the first of an ascending list is below the rest
 below_rest : (x : List ℕ) (xs : List (List ℕ)) (key : List ℕ) → IsAscending (x ∷ xs) → IsAmong key xs → slice_cmp nat_cmp x key ≡ Less
@@ -118,10 +106,7 @@ same_first x y xs ys up_x up_y x_in y_in = elim x_in [
 -- members of the rest are members of the other rest, where the first ones are the same
 in_rest : (x y : List ℕ) (xs ys : List (List ℕ)) → x ≡ y → IsAscending (x ∷ xs) → ((key : List ℕ) → IsAmong key (x ∷ xs) → IsAmong key (y ∷ ys))
     → (key : List ℕ) → IsAmong key xs → IsAmong key ys
-in_rest x y xs ys same up into key among = elim (into key (inr among)) [
-  | inl here ↦ absurd (irreflexive key (subst (λ (k : List ℕ). slice_cmp nat_cmp k key ≡ Less) (same ∙ here) (below_rest x xs key up among)))
-  | inr there ↦ there
-]
+in_rest x y xs ys same up into key among = grind (arith, nat_tests, irreflexive, below_rest)
 
 unique : (xs ys : List (List ℕ)) → IsAscending xs → IsAscending ys → ((key : List ℕ) → IsAmong key xs → IsAmong key ys)
     → ((key : List ℕ) → IsAmong key ys → IsAmong key xs) → xs ≡ ys

@@ -1,7 +1,7 @@
 -- The keys of a lease: no key twice on its list, and ascending once they are sorted.
 use Rattle.std.proofs.Common.{◌≡◌, ◌↔◌, ℕ, zero, suc, ◌+◌, ◌<◌, false, List, [], ◌∷◌, map, length, get_or, Option, Some, None, option_map, Contains, String}
 use Rattle.std.proofs.Common.{string_bytes, refl, sym, ap, subst, ◌∙◌, inl, inr, arith, IsSorted, IsTrue, is_some}
-use Rattle.std.proofs.lemmas.Bool.{cases_Bool}
+use Rattle.std.proofs.lemmas.Bool.{cases_Bool, Decides.nat_tests}
 use Rattle.std.proofs.lemmas.Cmp.{nat_list_cmp_total}
 use Rattle.std.proofs.lemmas.List.{get_or-map, length-map}
 use Rattle.std.proofs.lemmas.List.Sorted.{IsPermutation-map, Contains-permutation, IsPermutation-sym}
@@ -9,10 +9,9 @@ use Rattle.std.proofs.lemmas.Map.Keys.{IsDistinct-IsPermutation, apart_from_dist
 use Rattle.std.proofs.lemmas.Map.Text.{is_eq-slice_cmp}
 use Rattle.std.proofs.lemmas.Option.{same_Some}
 use Rattle.std.proofs.lemmas.Slice.Eq.{bytes_eq-Decides}
-use Rattle.std.specs.Cmp.{both_ways}
 use Rattle.std.specs.Cmp.Lexicographic.{slice_cmp}
 use Rattle.std.specs.declared.cmp.Ordering.{Ordering}
-use Rattle.std.specs.declared.cmp.Ordering.TheVariants.{Less, Equal, Greater}
+use Rattle.std.specs.declared.cmp.Ordering.TheVariants.{Less}
 use Rattle.std.specs.List.{IsDistinct, AllByRecursion}
 use Rattle.std.specs.List.Sorted.{IsPermutation}
 use Rattle.std.specs.Ordering.{nat_cmp, is_lt, is_eq, ordering_reverse}
@@ -26,9 +25,7 @@ use Rattle.stm_leases.specs.Kept.{Holds, AreInStep}
 
 -- what is neither above nor equal is below
 below : (r s : Ordering) → r ≡ ordering_reverse s → is_lt s ≡ false → is_eq r ≡ false → r ≡ Less
-below r Less flips no_fall differs = absurd (cc)
-below r Equal flips no_fall differs = let is = ap is_eq flips in absurd (cc)
-below r Greater flips no_fall differs = flips
+below r s flips no_fall differs = grind (arith, nat_tests)
 
 -- texts that do not fall and differ ascend
 ascending : (keys : List (List ℕ)) → ((k : ℕ) (d : List ℕ) → suc k < length keys → slice_cmp nat_cmp (get_or keys k d) (get_or keys (suc k) d) ≡ Less)
@@ -41,16 +38,12 @@ contains-cons : {X : Type 0} (x y : X) (xs : List X) → Contains xs y → Conta
 contains-cons x y xs c = (suc c.0, omega (arith, c.1), c.2)
 
 bytes_flip : (x y : List ℕ) → bytes_eq x y ≡ bytes_eq y x
-bytes_flip x y =
-    both_ways (bytes_eq x y) (bytes_eq y x)
-    (λ t. (bytes_eq-Decides y x).1 (sym ((bytes_eq-Decides x y).0 t)))
-    (λ t. (bytes_eq-Decides x y).1 (sym ((bytes_eq-Decides y x).0 t)))
+bytes_flip x y = grind (arith, nat_tests, bytes_eq-Decides)
 
 -- the place of a key that is attached to a lease
 pub placed_at : (place_of : List ℕ → Option Attachment) (id : ℕ) (key : List ℕ) (o : Option Attachment) → place_of key ≡ o
     → option_map (λ (p : Attachment). p.lease) o ≡ Some id → (p : Attachment) × (place_of key ≡ Some p) × (p.lease ≡ id)
-placed_at place_of id key None found same = absurd (cc)
-placed_at place_of id key (Some p) found same = (p, found, same_Some p.lease id same)
+placed_at place_of id key o found same = grind (arith, nat_tests, same_Some)
 
 module _ {A : Type 0} where
   -- a key is among the texts exactly where a node holds it
@@ -163,11 +156,7 @@ module _ {A : Type 0} where
   pub none-attach : (s : Leases) (list_of : ℕ → Option ℕ) (place_of : List ℕ → Option Attachment) (keys : Lists (String A)) (id : ℕ)
       → AreInStep list_of place_of keys → ((key : List ℕ) → lease_of s key ≡ option_map (λ (p : Attachment). p.lease) (place_of key)) → list_of id ≡ None
       → ¬ HasKeys (lease_of s) id
-  none-attach s list_of place_of keys id in_step seen none has =
-      let place = placed_at place_of id has.0 (place_of has.0) refl (sym (seen has.0) ∙ has.1) in
-      let had = in_step.placed has.0 place.0 place.1 in
-      let never : Some had.0 ≡ None = sym had.1 ∙ ap list_of place.2 ∙ none in
-      absurd (cc)
+  none-attach s list_of place_of keys id in_step seen none has = grind (arith, nat_tests, placed_at)
 
   -- the sorted texts of a lease's list are the keys of the lease
   pub sorted-keys : (s : Leases) (list_of : ℕ → Option ℕ) (place_of : List ℕ → Option Attachment) (keys : Lists (String A)) (id list : ℕ)

@@ -1,7 +1,6 @@
 -- What the root of a played tournament holds.
-use Rattle.std.proofs.Common.{◌≡◌, ◌≢◌, ◌⊎◌, ℕ, zero, suc, ◌+◌, ◌-◌, ◌*◌, ◌/◌, ◌<◌, ◌≤◌, Bool, true, false, cond, ◌&&◌, ◌||◌, nat_eq, nat_lt, List, Option}
-use Rattle.std.proofs.Common.{Some, None, refl, sym, ap, subst, ◌∙◌, inl, inr, arith}
-use Rattle.std.proofs.lemmas.Bool.{cases_lt, cases_eq, eqb-true, eqb-false, ltb-true, ltb-false}
+use Rattle.std.proofs.Common.{◌≡◌, ◌⊎◌, ℕ, zero, suc, ◌+◌, ◌-◌, ◌*◌, ◌/◌, ◌<◌, ◌≤◌, List, Option, Some, None, refl, sym, ap, subst, ◌∙◌, inl, inr, arith}
+use Rattle.std.proofs.lemmas.Bool.{cases_lt, cases_eq, eqb-true, eqb-false, ltb-true, ltb-false, Decides.nat_tests}
 use Rattle.std.proofs.lemmas.List.{get_or_past}
 use Rattle.std.proofs.lemmas.Option.{same_Some}
 use Rattle.stm_leases.specs.declared.tournament.DueAt.{DueAt}
@@ -17,37 +16,10 @@ pub record IsEarlier (one other chosen : DueAt) : Type 0 where
   pub over_other : NoLater chosen other
 
 chosen : (one other : DueAt) → IsEarlier one other (first_of one other)
-chosen one other =
-    by_tests (nat_lt other.moment one.moment) (nat_eq other.moment one.moment) (nat_lt other.id one.id) refl refl refl
-  where
-    by_tests : (less equal lower : Bool) → nat_lt other.moment one.moment ≡ less → nat_eq other.moment one.moment ≡ equal → nat_lt other.id one.id ≡ lower →
-        IsEarlier one other (cond (less || (equal && lower)) other one)
-    by_tests true equal lower l e w =
-        let lt = ltb-true other.moment one.moment l in
-        record { among = inr refl; over_one = (omega arith, λ same. omega arith); over_other = (omega arith, λ same. omega arith) }
-    by_tests false true true l e w =
-        let eq = eqb-true other.moment one.moment e in
-        let lt = ltb-true other.id one.id w in
-        record { among = inr refl; over_one = (omega arith, λ same. omega arith); over_other = (omega arith, λ same. omega arith) }
-    by_tests false true false l e w =
-        let eq = eqb-true other.moment one.moment e in
-        let ge = ltb-false other.id one.id w in
-        record { among = inl refl; over_one = (omega arith, λ same. omega arith); over_other = (omega arith, λ same. omega arith) }
-    by_tests false false lower l e w =
-        let ge = ltb-false other.moment one.moment l in
-        let ne = eqb-false other.moment one.moment e in
-        record { among = inl refl; over_one = (omega arith, λ same. omega arith); over_other = (ge, λ same. absurd (ne (sym same))) }
+chosen one other = grind (arith, nat_tests, ltb-true, eqb-true, ltb-false, eqb-false)
 
 no_later-trans : (a b c : DueAt) → NoLater a b → NoLater b c → NoLater a c
-no_later-trans a b c p q = (
-  omega (arith, p.0, q.0),
-  λ same.
-      let first : a.moment ≡ b.moment = omega (arith, p.0, q.0) in
-      let second : b.moment ≡ c.moment = omega (arith, p.0, q.0) in
-      let x = p.1 first in
-      let y = q.1 second in
-      omega arith,
-)
+no_later-trans a b c p q = grind (arith, nat_tests)
 
 -- what a child holds, the winner is no later than
 pub record HasLead (o : Option DueAt) (d : DueAt) : Type 0 where
@@ -55,41 +27,17 @@ pub record HasLead (o : Option DueAt) (d : DueAt) : Type 0 where
   pub is : o ≡ Some lead
   pub no_later : NoLater lead d
 
-won_left : (o r : Option DueAt) (d : DueAt) → o ≡ Some d → HasLead (winner o r) d
-won_left None r d is = absurd (cc)
-won_left (Some a) None d is = record { lead = a; is = refl; no_later = subst (NoLater a) (same_Some a d is) (omega arith, λ same. omega arith) }
-won_left (Some a) (Some b) d is = record { lead = first_of a b; is = refl; no_later = subst (NoLater (first_of a b)) (same_Some a d is) (chosen a b).over_one }
-
 won_right : (o r : Option DueAt) (d : DueAt) → r ≡ Some d → HasLead (winner o r) d
-won_right None r d is = record { lead = d; is = is; no_later = (omega arith, λ same. omega arith) }
-won_right (Some a) None d is = absurd (cc)
-won_right (Some a) (Some b) d is =
-    record { lead = first_of a b; is = refl; no_later = subst (NoLater (first_of a b)) (same_Some b d is) (chosen a b).over_other }
+won_right o r d is = grind (arith, nat_tests, same_Some, chosen)
 
 -- the winner is one of the two
 won_from : (o r : Option DueAt) (d : DueAt) → winner o r ≡ Some d → (o ≡ Some d) ⊎ (r ≡ Some d)
-won_from None r d is = inr is
-won_from (Some a) None d is = inl is
-won_from (Some a) (Some b) d is = elim (chosen a b).among [
-  | inl left ↦ inl (ap Some (sym left) ∙ is)
-  | inr right ↦ inr (ap Some (sym right) ∙ is)
-]
+won_from o r d is = grind (arith, nat_tests, chosen)
 
 module _ (xs : Nodes) (slots : ℕ) (played : ArePlayedBut xs slots 0) where
   -- the node above has a lead over what a node holds
   above : (k : ℕ) (d : DueAt) → 2 ≤ k → k < 2 * slots → node_in xs k ≡ Some d → HasLead (node_in xs (k / 2)) d
-  above k d inner within is = by_side (cases_eq k (2 * (k / 2)))
-    where
-      parent : node_in xs (k / 2) ≡ winner (node_in xs (2 * (k / 2))) (node_in xs (2 * (k / 2) + 1))
-      parent = played.won (k / 2) (omega arith) (omega arith) (omega arith)
-
-      by_side : (k ≡ 2 * (k / 2)) ⊎ (k ≢ 2 * (k / 2)) → HasLead (node_in xs (k / 2)) d
-      by_side (inl even) = subst (λ (o : Option DueAt). HasLead o d) (sym parent)
-          (won_left (node_in xs (2 * (k / 2))) (node_in xs (2 * (k / 2) + 1)) d (ap (node_in xs) (sym even) ∙ is))
-      by_side (inr odd) =
-          let place : k ≡ 2 * (k / 2) + 1 = omega arith in
-          subst (λ (o : Option DueAt). HasLead o d) (sym parent)
-          (won_right (node_in xs (2 * (k / 2))) (node_in xs (2 * (k / 2) + 1)) d (ap (node_in xs) (sym place) ∙ is))
+  above k d inner within is = grind (arith, nat_tests, cases_eq, won_right, same_Some, chosen)
 
   -- the root has a lead over what any node holds
   root_leads : (fuel k : ℕ) (d : DueAt) → k ≤ fuel → 1 ≤ k → k < 2 * slots → node_in xs k ≡ Some d → HasLead (node_in xs 1) d

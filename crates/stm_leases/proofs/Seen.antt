@@ -1,7 +1,7 @@
 -- What callers see of the tables, and what each change of a table makes of it.
-use Rattle.std.proofs.Common.{◌≡◌, ◌≢◌, ℕ, ◌-◌, Bool, true, false, cond, is_some, not, IsTrue, List, length, Option, Some, None, option_map}
+use Rattle.std.proofs.Common.{◌≡◌, ◌≢◌, ℕ, ◌-◌, Bool, true, false, cond, is_some, IsTrue, List, length, Option, Some, None, option_map, arith}
 use Rattle.std.proofs.Common.{String, nat_eq, refl, sym, ap, subst, ◌∙◌}
-use Rattle.std.proofs.lemmas.Bool.{true≢false, eqb-true}
+use Rattle.std.proofs.lemmas.Bool.{true≢false, eqb-true, Decides.nat_tests}
 use Rattle.std.proofs.lemmas.Cmp.{nat_list_cmp_total}
 use Rattle.std.proofs.lemmas.Option.{same_Some}
 use Rattle.std.specs.Cmp.{eq_by_cmp_equiv}
@@ -10,39 +10,26 @@ use Rattle.std.specs.Map.{lookup, keys_of}
 use Rattle.std.specs.Str.{bytes_eq}
 use Rattle.std.specs.FinMap as finmap
 use Rattle.indexmap.specs.IndexMap.{IndexMap, get, get_by_text, ContainsKey}
-use Rattle.stm_lists.specs.Lists.{Lists, entries_at}
+use Rattle.stm_lists.specs.Lists.{Lists}
 use Rattle.stm_leases.specs.LeaseLog.{LogItem, Term, term_of}
 use Rattle.stm_leases.specs.Leases.{Leases, StandsFor, IsLive, AttachedToLive, lease_of}
 use Rattle.stm_leases.specs.declared.lease.Lease.{Lease}
 use Rattle.stm_leases.specs.declared.lease.Attachment.{Attachment}
 use Rattle.stm_leases.specs.Live.{Live, is_id, is_ttl, is_live_in, AreInRange, grant_refusal}
-use Rattle.stm_leases.specs.declared.errors.GrantError.TheVariants.{LeaseIdOutOfRange, TtlOutOfRange, LeaseExists}
-use Rattle.stm_leases.specs.Kept.{term_in, view_of, list_in, AllInRange, AreInStep, Holds}
+use Rattle.stm_leases.specs.Kept.{term_in, view_of, list_in, AllInRange, AreInStep}
 use Rattle.stm_leases.proofs.Tables.{get-live, get-attached, live-insert, live-remove, attached-insert, attached-remove, log-insert, log-remove, log-renew}
 use Rattle.stm_leases.proofs.Tables.{len-entries}
 use Rattle.stm_leases.proofs.Ordered.{placed_at}
-
-through_list : (b : Bool) (o p : Option Lease)
-    → option_map (λ (l : Lease). l.keys) (cond b o p) ≡ cond b (option_map (λ (l : Lease). l.keys) o) (option_map (λ (l : Lease). l.keys) p)
-through_list true o p = refl
-through_list false o p = refl
 
 -- a change of the table at one id changes the list of that id
 pub list-updates : {S : Type 0} (old new : IndexMap ℕ Lease S) (id : ℕ) (o : Option Lease)
     → ((q : ℕ) → get nat_eq new q ≡ cond (nat_eq id q) o (get nat_eq old q)) → (q : ℕ)
     → list_in new q ≡ cond (nat_eq id q) (option_map (λ (l : Lease). l.keys) o) (list_in old q)
-list-updates old new id o updates q = ap (option_map (λ (l : Lease). l.keys)) (updates q) ∙ through_list (nat_eq id q) o (get nat_eq old q)
+list-updates old new id o updates q = grind (arith, nat_tests)
 
 -- what a grant that only memory can refuse is for
 pub may-grant : (live : Live) (id ttl : ℕ) → grant_refusal live id ttl ≡ None → (IsTrue (is_id id) × IsTrue (is_ttl ttl)) × (is_live_in live id ≡ false)
-may-grant live id ttl = by_tests (is_id id) (is_ttl ttl) (is_live_in live id)
-  where
-    by_tests : (i t l : Bool) → cond (not i) (Some LeaseIdOutOfRange) (cond (not t) (Some TtlOutOfRange) (cond l (Some LeaseExists) None)) ≡ None
-        → (IsTrue i × IsTrue t) × (l ≡ false)
-    by_tests true true false none = ((refl, refl), refl)
-    by_tests true true true none = absurd (cc)
-    by_tests true false l none = absurd (cc)
-    by_tests false t l none = absurd (cc)
+may-grant live id ttl = grind (arith, nat_tests)
 
 -- what holds of each lease of the table, and of one more, holds of each lease after it
 pub one-more : {S : Type 0} (old new : IndexMap ℕ Lease S) (id : ℕ) (now : Lease)
@@ -63,20 +50,12 @@ same-range old new same all id lease is = all id lease (ap (lookup (nat_eq id)) 
 -- what is left after a removal was there before
 pub left-lease : {S : Type 0} (old new : IndexMap ℕ Lease S) (id q : ℕ) (l : Lease) → ((n : ℕ) → get nat_eq new n ≡ cond (nat_eq id n) None (get nat_eq old n))
     → get nat_eq new q ≡ Some l → get nat_eq old q ≡ Some l
-left-lease old new id q l updates is = by_test (nat_eq id q) (sym (updates q) ∙ is)
-  where
-    by_test : (b : Bool) → cond b None (get nat_eq old q) ≡ Some l → get nat_eq old q ≡ Some l
-    by_test true found = absurd (cc)
-    by_test false found = found
+left-lease old new id q l updates is = grind (arith, nat_tests)
 
 -- a renewal keeps the list of each id
 pub list-renewed : {S : Type 0} (old new : IndexMap ℕ Lease S) (id : ℕ) (was now : Lease) → get nat_eq old id ≡ Some was → now.keys ≡ was.keys
     → ((q : ℕ) → get nat_eq new q ≡ cond (nat_eq id q) (Some now) (get nat_eq old q)) → (q : ℕ) → list_in new q ≡ list_in old q
-list-renewed old new id was now found same updates q = list-updates old new id (Some now) updates q ∙ by_test (nat_eq id q) refl
-  where
-    by_test : (b : Bool) → nat_eq id q ≡ b → cond b (Some now.keys) (list_in old q) ≡ list_in old q
-    by_test false is = refl
-    by_test true is = ap Some same ∙ sym (ap (option_map (λ (l : Lease). l.keys)) (ap (get nat_eq old) (sym (eqb-true id q is)) ∙ found))
+list-renewed old new id was now found same updates q = grind (arith, nat_tests, list-updates, eqb-true)
 
 module _ {A S R : Type 0} (leases : IndexMap ℕ Lease S) (attached : IndexMap (String A) Attachment R) (spare : ℕ) (now : Leases)
     (seen : view_of leases attached spare ≡ now) where
@@ -87,11 +66,7 @@ module _ {A S R : Type 0} (leases : IndexMap ℕ Lease S) (attached : IndexMap (
   lease_of-now key = ap (λ (s : Leases). finmap.get s.attached key) (sym seen) ∙ get-attached leases attached spare key
 
   pub contains-now : (id : ℕ) → finmap.contains_key now.live id ≡ is_some (get nat_eq leases id)
-  contains-now id = ap is_some (live-now id) ∙ by_lease (get nat_eq leases id)
-    where
-      by_lease : (o : Option Lease) → is_some (option_map term_in o) ≡ is_some o
-      by_lease None = refl
-      by_lease (Some l) = refl
+  contains-now id = grind (arith, nat_tests, live-now)
 
   -- ids and times to live in range, as callers see them
   pub range-now : AllInRange leases → AreInRange now.live
@@ -115,17 +90,7 @@ module _ {A S R : Type 0} (leases : IndexMap ℕ Lease S) (attached : IndexMap (
 
   -- a key is attached to a live lease
   pub attach-on-live : {B : Type 0} (keys : Lists (String B)) → AreInStep (list_in leases) (get_by_text attached) keys → AttachedToLive now
-  attach-on-live keys in_step key id is = by_lease (get nat_eq leases place.0.lease) refl had.1
-    where
-      place : (p : Attachment) × (get_by_text attached key ≡ Some p) × (p.lease ≡ id)
-      place = placed_at (get_by_text attached) id key (get_by_text attached key) refl (sym (lease_of-now key) ∙ is)
-
-      had : (list : ℕ) × (list_in leases place.0.lease ≡ Some list) × Holds (entries_at keys list) place.0.node key
-      had = in_step.placed key place.0 place.1
-
-      by_lease : (o : Option Lease) → get nat_eq leases place.0.lease ≡ o → option_map (λ (l : Lease). l.keys) o ≡ Some had.0 → IsLive now id
-      by_lease None found same = absurd (cc)
-      by_lease (Some l) found same = subst (λ (n : ℕ). IsLive now n) place.2 (live-found place.0.lease l found)
+  attach-on-live keys in_step key id is = grind (arith, nat_tests, placed_at, lease_of-now, live-found)
 
   -- the leases after a change of their table
   pub inserted-view : (new : IndexMap ℕ Lease S) (id : ℕ) (l : Lease) → ((q : ℕ) → get nat_eq new q ≡ cond (nat_eq id q) (Some l) (get nat_eq leases q))

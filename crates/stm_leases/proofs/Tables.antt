@@ -1,12 +1,12 @@
 -- From the tables to what contracts see of them.
 use Rattle.std.proofs.Common.{◌≡◌, ℕ, ◌+◌, Bool, true, false, cond, is_some, List, [], ◌∷◌, map, length, Option, Some, None, option_map, String, string_bytes}
-use Rattle.std.proofs.Common.{nat_eq, refl, sym, ap, subst, ◌∙◌, arith}
-use Rattle.std.proofs.lemmas.Bool.{eqb-true, eq-eqb}
+use Rattle.std.proofs.Common.{nat_eq, refl, sym, ap, ◌∙◌, arith}
+use Rattle.std.proofs.lemmas.Bool.{eqb-true, eq-eqb, Decides.nat_tests}
 use Rattle.std.proofs.lemmas.Cmp.{nat_cmp_total, nat_eq_equiv, nat_list_cmp_total}
 use Rattle.std.proofs.lemmas.Map.Text.{is_eq-slice_cmp}
 use Rattle.std.proofs.lemmas.Map.Keys.{IsDistinct-head, IsDistinct-tail}
 use Rattle.std.proofs.lemmas.Slice.Eq.{bytes_eq-Decides}
-use Rattle.std.specs.Cmp.{IsTotalOrder, Equal-is, both_ways, eq_by_cmp_equiv}
+use Rattle.std.specs.Cmp.{IsTotalOrder}
 use Rattle.std.specs.declared.cmp.Ordering.{Ordering}
 use Rattle.std.specs.Cmp.Lexicographic.{slice_cmp}
 use Rattle.std.specs.List.{IsDistinct, AllByRecursion}
@@ -23,41 +23,18 @@ use Rattle.stm_leases.specs.Kept.{term_in, view_of}
 
 -- `==` on numbers, by their order
 pub test_number : (x y : ℕ) → eq_by_cmp nat_cmp x y ≡ nat_eq x y
-test_number x y =
-    both_ways (eq_by_cmp nat_cmp x y) (nat_eq x y)
-    (λ t. eq-eqb x y (finmap.nat_cmp-IsAntisymmetric x y ((Equal-is (nat_cmp x y)).0 t)))
-    (λ t. subst (λ (z : ℕ). eq_by_cmp nat_cmp x z ≡ true) (eqb-true x y t) (by_itself x))
-  where
-    by_itself : (z : ℕ) → eq_by_cmp nat_cmp z z ≡ true
-    by_itself z = (eq_by_cmp_equiv nat_cmp_total).refl z
+test_number x y = grind (arith, nat_tests, eq-eqb, eqb-true, nat_cmp_total)
 
 module _ {X Y : Type 0} (f : X → Y) where
   pub find-numbers : (es : List (ℕ × X)) (q : ℕ) → finmap.find nat_cmp q (map (λ (e : ℕ × X). (e.0, f e.1)) es) ≡ option_map f (lookup (nat_eq q) es)
   find-numbers [] q = refl
-  find-numbers (e ∷ es) q =
-      ap (λ b. cond b (Some (f e.1)) (finmap.find nat_cmp q (map (λ (e : ℕ × X). (e.0, f e.1)) es))) (test_number q e.0)
-      ∙ by_test (nat_eq q e.0) (find-numbers es q)
-    where
-      by_test : (b : Bool) → finmap.find nat_cmp q (map (λ (e : ℕ × X). (e.0, f e.1)) es) ≡ option_map f (lookup (nat_eq q) es)
-          → cond b (Some (f e.1)) (finmap.find nat_cmp q (map (λ (e : ℕ × X). (e.0, f e.1)) es)) ≡ option_map f (cond b (Some e.1) (lookup (nat_eq q) es))
-      by_test true rest = refl
-      by_test false rest = rest
+  find-numbers (e ∷ es) q = grind (arith, nat_tests, test_number, find-numbers es q)
 
   pub find-texts : {A : Type 0} (es : List (String A × X)) (q : List ℕ)
       → finmap.find (slice_cmp nat_cmp) q (map (λ (e : String A × X). (string_bytes e.0, f e.1)) es) ≡ option_map f
       (lookup (λ k. bytes_eq q (string_bytes k)) es)
   find-texts [] q = refl
-  find-texts {A} (e ∷ es) q =
-      ap (λ b. cond b (Some (f e.1)) (finmap.find (slice_cmp nat_cmp) q (map (λ (e : String A × X). (string_bytes e.0, f e.1)) es)))
-      (is_eq-slice_cmp q (string_bytes e.0))
-      ∙ by_test (bytes_eq q (string_bytes e.0)) (find-texts es q)
-    where
-      by_test : (b : Bool) → finmap.find (slice_cmp nat_cmp) q (map (λ (e : String A × X). (string_bytes e.0, f e.1)) es) ≡ option_map f
-          (lookup (λ k. bytes_eq q (string_bytes k)) es)
-          → cond b (Some (f e.1)) (finmap.find (slice_cmp nat_cmp) q (map (λ (e : String A × X). (string_bytes e.0, f e.1)) es)) ≡ option_map f
-          (cond b (Some e.1) (lookup (λ k. bytes_eq q (string_bytes k)) es))
-      by_test true rest = refl
-      by_test false rest = rest
+  find-texts {A} (e ∷ es) q = grind (arith, nat_tests, is_eq-slice_cmp, find-texts es q)
 
 -- a map that answers as another does after an insertion or a removal is that map
 module _ {K X : Type 0} {R : K → K → Ordering} (o : IsTotalOrder R) (same : finmap.IsAntisymmetric R) where
@@ -69,18 +46,13 @@ module _ {K X : Type 0} {R : K → K → Ordering} (o : IsTotalOrder R) (same : 
   is_remove m n k answers = finmap.same_map o same n (finmap.remove m k) (λ q. answers q ∙ sym (finmap.get-remove o m k q))
 
 through : {X Y : Type 0} (f : X → Y) (b : Bool) (v w : Option X) → option_map f (cond b v w) ≡ cond b (option_map f v) (option_map f w)
-through f true v w = refl
-through f false v w = refl
+through f b v w = grind (arith, nat_tests)
 
 flipped : (x y : ℕ) → nat_eq x y ≡ eq_by_cmp nat_cmp y x
 flipped x y = nat_eq_equiv.symm x y ∙ sym (test_number y x)
 
 bytes_flipped : (x y : List ℕ) → bytes_eq x y ≡ eq_by_cmp (slice_cmp nat_cmp) y x
-bytes_flipped x y =
-    both_ways (bytes_eq x y) (bytes_eq y x)
-    (λ t. (bytes_eq-Decides y x).1 (sym ((bytes_eq-Decides x y).0 t)))
-    (λ t. (bytes_eq-Decides x y).1 (sym ((bytes_eq-Decides y x).0 t)))
-    ∙ sym (is_eq-slice_cmp y x)
+bytes_flipped x y = grind (arith, nat_tests, bytes_eq-Decides, is_eq-slice_cmp)
 
 module _ {A S R : Type 0} (leases : IndexMap ℕ Lease S) (attached : IndexMap (String A) Attachment R) (spare : ℕ) where
   pub get-live : (id : ℕ) → finmap.get (view_of leases attached spare).live id ≡ option_map term_in (get nat_eq leases id)

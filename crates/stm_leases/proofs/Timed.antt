@@ -1,10 +1,10 @@
 -- How each change of the table keeps the tournament in time with it, and what its first is.
-use Rattle.std.proofs.Common.{◌≡◌, ◌≢◌, ◌⊎◌, ℕ, ◌+◌, ◌<◌, ◌≤◌, Bool, true, false, cond, nat_eq, nat_lt, is_some, List, String, Option, Some, None, option_map}
+use Rattle.std.proofs.Common.{◌≡◌, ◌≢◌, ◌⊎◌, ℕ, ◌+◌, ◌<◌, ◌≤◌, true, false, cond, nat_eq, is_some, List, String, Option, Some, None, option_map}
 use Rattle.std.proofs.Common.{refl, sym, ap, ◌∙◌, inl, inr, arith}
-use Rattle.std.proofs.lemmas.Bool.{cases_eq, cases_lt, eqb-true, eqb-false, eq-eqb, ne_eqb, ltb-false}
+use Rattle.std.proofs.lemmas.Bool.{cases_eq, cases_lt, eqb-true, eqb-false, eq-eqb, ne_eqb, ltb-false, Decides.nat_tests}
 use Rattle.std.proofs.lemmas.Option.{same_Some}
 use Rattle.std.specs.FinMap as finmap
-use Rattle.std.specs.Prelude.{Result, Ok, Err, OnOk, is_err}
+use Rattle.std.specs.Prelude.{Result, OnOk, is_err}
 use Rattle.std.specs.declared.alloc.AllocError.{AllocError}
 use Rattle.indexmap.specs.IndexMap.{IndexMap, get}
 use Rattle.stm_lists.specs.Lists.{Lists, list_at, HasList}
@@ -29,22 +29,11 @@ abbrev entry_of : ℕ → Lease → DueAt
 entry_of id lease = record { moment = lease.renewed + lease.ttl; id = id }
 
 says : (id : ℕ) (lease : Lease) (d : DueAt) → due_in id lease ≡ Some d → Says id lease d
-says id lease d is = by_test (nat_lt (lease.renewed + lease.ttl) 18446744073709551616) is
-  where
-    by_test : (b : Bool) → cond {A = Option DueAt} b (Some (entry_of id lease)) None ≡ Some d → Says id lease d
-    by_test false same = absurd (cc)
-    by_test true same =
-        let entries : entry_of id lease ≡ d = same_Some (entry_of id lease) d same in
-        record { same_id = sym (ap (λ (x : DueAt). x.id) entries); moment = sym (ap (λ (x : DueAt). x.moment) entries) }
+says id lease d is = grind (arith, nat_tests, same_Some)
 
 said : (id : ℕ) (lease : Lease) → lease.renewed + lease.ttl < 18446744073709551616
     → due_in id lease ≡ Some (record { moment = lease.renewed + lease.ttl; id = id })
-said id lease fits = by_test (nat_lt (lease.renewed + lease.ttl) 18446744073709551616) refl
-  where
-    by_test : (b : Bool) → nat_lt (lease.renewed + lease.ttl) 18446744073709551616 ≡ b →
-        cond {A = Option DueAt} b (Some (entry_of id lease)) None ≡ Some (entry_of id lease)
-    by_test true is = refl
-    by_test false is = let above = ltb-false (lease.renewed + lease.ttl) 18446744073709551616 is in absurd (omega arith)
+said id lease fits = grind (arith, nat_tests, ltb-false)
 
 -- when the lease that a change leaves at an id falls due
 abbrev pub due_left : ℕ → Option Lease → Option DueAt
@@ -58,67 +47,20 @@ pub retimed : (table new : ℕ → Option Lease) (before after : Tournament) (id
     slot_of after slot ≡ due_left id left → ((other : ℕ) → other ≢ slot → slot_of after other ≡ slot_of before other) →
     ((q : ℕ) (lease : Lease) → table q ≡ Some lease → (lease.keys ≡ slot → id ≡ q) × (id ≡ q → lease.keys ≡ slot)) → IsTimed new after
 retimed table new before after id slot left timed played fits more updates mine written kept apart =
-    record {
-      played = played;
-      within = λ q lease is. within_case q lease (nat_eq id q) refl (sym (updates q) ∙ is);
-      entered = λ q lease is. entered_case q lease (nat_eq id q) refl (sym (updates q) ∙ is);
-      only = λ s d is. only_case s d is (cases_eq s slot);
-    }
-  where
-    within_case : (q : ℕ) (lease : Lease) (b : Bool) → nat_eq id q ≡ b → cond b left (table q) ≡ Some lease → lease.keys < after.slots
-    within_case q lease true test is = let place = mine lease is in omega arith
-    within_case q lease false test is = let had = timed.within q lease is in omega arith
-
-    entered_case : (q : ℕ) (lease : Lease) (b : Bool) → nat_eq id q ≡ b → cond b left (table q) ≡ Some lease → slot_of after lease.keys ≡ due_in q lease
-    entered_case q lease true test is =
-        ap (slot_of after) (mine lease is) ∙ written ∙ ap (due_left id) is ∙ ap (λ (n : ℕ). due_in n lease) (eqb-true id q test)
-    entered_case q lease false test is =
-        kept lease.keys (λ same. eqb-false id q test ((apart q lease is).0 same)) ∙ timed.entered q lease is
-
-    here : (d : DueAt) (o : Option Lease) → left ≡ o → due_left id o ≡ Some d
-        → (lease : Lease) × (new d.id ≡ Some lease) × (due_in d.id lease ≡ Some d) × (lease.keys ≡ slot)
-    here d None is same = absurd (cc)
-    here d (Some lease) is same =
-        let ids : d.id ≡ id = (says id lease d same).same_id in (
-          lease,
-          updates d.id ∙ ap (λ b. cond b left (table d.id)) (eq-eqb id d.id (sym ids)) ∙ is,
-          ap (λ (n : ℕ). due_in n lease) ids ∙ same,
-          mine lease is,
-        )
-
-    only_case : (s : ℕ) (d : DueAt) → slot_of after s ≡ Some d → (s ≡ slot) ⊎ (s ≢ slot)
-        → (lease : Lease) × (new d.id ≡ Some lease) × (due_in d.id lease ≡ Some d) × (lease.keys ≡ s)
-    only_case s d is (inl same) =
-        let found = here d left refl (sym written ∙ ap (slot_of after) (sym same) ∙ is) in
-        (found.0, found.1, found.2, found.3 ∙ sym same)
-    only_case s d is (inr differs) =
-        let had = timed.only s d (sym (kept s differs) ∙ is) in
-        let other : id ≢ d.id = λ same. differs (sym had.3 ∙ (apart d.id had.0 had.1).1 same) in
-        (had.0, updates d.id ∙ ap (λ b. cond b left (table d.id)) (ne_eqb id d.id other) ∙ had.1, had.2, had.3)
+    grind (arith, nat_tests, cases_eq, eqb-true, eqb-false, says, eq-eqb, ne_eqb)
 
 -- the same slots of the same leases
 pub still_timed : (table : ℕ → Option Lease) (before after : Tournament) → IsTimed table before → IsPlayed after → before.slots ≤ after.slots →
     ((other : ℕ) → slot_of after other ≡ slot_of before other) → IsTimed table after
-still_timed table before after timed played more kept = record {
-  played = played;
-  within = λ id lease is. let had = timed.within id lease is in omega arith;
-  entered = λ id lease is. kept lease.keys ∙ timed.entered id lease is;
-  only = λ slot d is. timed.only slot d (sym (kept slot) ∙ is);
-}
+still_timed table before after timed played more kept = grind (arith, nat_tests)
 
 -- the same slots of a table that has the same leases
 pub same_timed : (table new : ℕ → Option Lease) (due : Tournament) → ((id : ℕ) → new id ≡ table id) → IsTimed table due → IsTimed new due
-same_timed table new due same timed = record {
-  played = timed.played;
-  within = λ id lease is. timed.within id lease (sym (same id) ∙ is);
-  entered = λ id lease is. timed.entered id lease (sym (same id) ∙ is);
-  only = λ slot d is. let had = timed.only slot d is in (had.0, same d.id ∙ had.1, had.2, had.3);
-}
+same_timed table new due same timed = grind (arith, nat_tests)
 
 -- what holds on success holds where the call did not fail
 pub on_ok : {P : Type 0} (r : Result (Unit {0}) AllocError) → OnOk r P → is_err r ≡ false → P
-on_ok (Ok done) holds well = holds
-on_ok (Err e) holds well = absurd (cc)
+on_ok r holds well = grind (arith, nat_tests)
 
 -- the slot of a live lease is its own
 pub own_slot : {A S : Type 0} (leases : IndexMap ℕ Lease S) (place_of : List ℕ → Option Attachment) (keys : Lists (String A)) (id : ℕ) (was : Lease) →

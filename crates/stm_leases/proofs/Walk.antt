@@ -3,6 +3,7 @@ use Rattle.std.proofs.Common.{◌≡◌, ℕ, ◌<◌, List, [], ◌∷◌, ◌+
 use Rattle.std.proofs.Common.{arith, length-append}
 use Rattle.std.proofs.lemmas.List.{append-nil, append_assoc, map-append, length-map}
 use Rattle.std.proofs.lemmas.Option.{same_Some}
+use Rattle.std.proofs.lemmas.Bool.Decides.{nat_tests}
 use Rattle.stm_lists.specs.Lists.{Lists, Place, list_at, entries_at, HasList, HasNode, StandsAt, first_node}
 
 module _ {A : Type 0} where
@@ -16,13 +17,11 @@ module _ {A : Type 0} where
 
   pub walk-start : (lists : Lists (String A)) (list : ℕ) (texts : List (String A)) (next : Option ℕ) → texts ≡ [] → next ≡ first_node (entries_at lists list)
       → IsWalked lists list texts next
-  walk-start lists list texts next none first =
-      record { passed = []; rest = entries_at lists list; split = refl; taken = ap (map string_bytes) none; next_is = first }
+  walk-start lists list texts next none first = grind (arith, nat_tests)
 
   -- a list that is there
   there : (o : Option (List (ℕ × String A))) → IsSome o → o ≡ Some (unwrap_or o [])
-  there None some = absurd (cc)
-  there (Some xs) some = refl
+  there o some = grind (arith, nat_tests)
 
   -- the place of the next node
   pub record IsNextPlace (lists : Lists (String A)) (list : ℕ) (texts : List (String A)) (node : ℕ) : Type 0 where
@@ -74,20 +73,9 @@ module _ {A : Type 0} where
   -- the texts that are left to take
   pub walk-length : (lists : Lists (String A)) (list : ℕ) (texts : List (String A)) (node : ℕ) → IsNextPlace lists list texts node
       → length texts < length (entries_at lists list)
-  walk-length lists list texts node found =
-      let place = found.place in
-      let entries : entries_at lists list ≡ place.before ++ (node, place.value) ∷ place.after = ap (λ (l : ℕ). entries_at lists l) (sym found.here)
-      ∙ ap (λ o. unwrap_or o []) found.stands.stands in
-      let lengths = ap length entries ∙ length-append place.before ((node, place.value) ∷ place.after) in
-      let counts = sym (length-map texts string_bytes) ∙ ap length found.taken ∙ length-map place.before (λ e. string_bytes e.1) in
-      omega arith
+  walk-length lists list texts node found = grind (arith, nat_tests, length-append, length-map)
 
   -- at the end all texts are taken
   pub walk-end : (lists : Lists (String A)) (list : ℕ) (texts : List (String A)) (next : Option ℕ) → IsWalked lists list texts next → next ≡ None
       → map string_bytes texts ≡ map (λ e. string_bytes e.1) (entries_at lists list)
-  walk-end lists list texts next walked is = by_rest walked.rest walked.split (sym walked.next_is ∙ is)
-    where
-      by_rest : (rest : List (ℕ × String A)) → entries_at lists list ≡ walked.passed ++ rest → first_node rest ≡ None
-          → map string_bytes texts ≡ map (λ e. string_bytes e.1) (entries_at lists list)
-      by_rest [] split none = walked.taken ∙ ap (map (λ e. string_bytes e.1)) (sym (split ∙ append-nil walked.passed))
-      by_rest (entry ∷ rest) split none = absurd (cc)
+  walk-end lists list texts next walked is = grind (arith, nat_tests, append-nil)

@@ -1,8 +1,9 @@
 -- What copies of the chains and of the revisions keep.
-use Rattle.std.proofs.Common.{◌≡◌, ℕ, ◌+◌, ◌≤◌, length, Bool, true, false, cond, List, [], ◌∷◌, map, reverse, Option, Some, is_some, String, refl, sym, ap, subst, ◌∙◌}
+use Rattle.std.proofs.Common.{◌≡◌, ℕ, ◌+◌, ◌≤◌, length, Bool, cond, List, [], ◌∷◌, map, reverse, Option, Some, is_some, String, refl, arith}
 use Rattle.std.specs.Prelude.{bytes_eq, string_bytes}
 use Rattle.std.specs.List.{AllZip}
 use Rattle.std.specs.Map.{lookup, keys_of}
+use Rattle.std.proofs.lemmas.Bool.Decides.{nat_tests}
 use Rattle.stm_history.specs.Opening.{Opening}
 use Rattle.stm_history.specs.History.{key_after}
 use Rattle.stm_keys.specs.declared.event.Event.{Event}
@@ -19,24 +20,19 @@ pub names_copied : {A : Type 0} (es fs : List (String A × Chain)) → AllZip Is
 names_copied [] [] p = refl
 names_copied [] (f ∷ fs) p = absurd p
 names_copied (e ∷ es) [] p = absurd p
-names_copied (e ∷ es) (f ∷ fs) p =
-    ap (λ (name : List ℕ). name ∷ map string_bytes (keys_of fs)) p.0.0 ∙ ap (λ more. string_bytes e.0 ∷ more) (names_copied es fs p.1)
+names_copied (e ∷ es) (f ∷ fs) p = grind (arith, nat_tests, names_copied es fs p.1)
 
 -- the versions that one of two look-ups finds
 versions_by : (b : Bool) (x y : Chain) (more rest : Option Chain) → x.versions ≡ y.versions → versions_in more ≡ versions_in rest
     → versions_in (cond b (Some x) more) ≡ versions_in (cond b (Some y) rest)
-versions_by true x y more rest same others = same
-versions_by false x y more rest same others = others
+versions_by b x y more rest same others = grind (arith, nat_tests)
 
 pub versions_copied : {A : Type 0} (es fs : List (String A × Chain)) (key : List ℕ) → AllZip IsChainCopy es fs
     → versions_in (lookup (λ k. bytes_eq key (string_bytes k)) fs) ≡ versions_in (lookup (λ k. bytes_eq key (string_bytes k)) es)
 versions_copied [] [] key p = refl
 versions_copied [] (f ∷ fs) key p = absurd p
 versions_copied (e ∷ es) [] key p = absurd p
-versions_copied (e ∷ es) (f ∷ fs) key p =
-    ap (λ name. versions_in (cond (bytes_eq key name) (Some f.1) (lookup (λ k. bytes_eq key (string_bytes k)) fs))) p.0.0
-    ∙ versions_by (bytes_eq key (string_bytes e.0)) f.1 e.1 (lookup (λ k. bytes_eq key (string_bytes k)) fs)
-    (lookup (λ k. bytes_eq key (string_bytes k)) es) p.0.1 (versions_copied es fs key p.1)
+versions_copied (e ∷ es) (f ∷ fs) key p = grind (arith, nat_tests, versions_by, versions_copied es fs key p.1)
 
 -- what contracts see of these fields
 abbrev pub contents_of : Opening → ℕ → ℕ → List (List Event) → List (List ℕ) → Contents
@@ -57,16 +53,7 @@ module _ (opening next : Opening) (floor present : ℕ) (recorded copies : List 
     (names copy_names : List (List ℕ)) (alike : next ≡ opening) (same : copies ≡ recorded)
     (versions : (key : List ℕ) → versions_in (copied key) ≡ versions_in (chains key)) (same_names : copy_names ≡ names) where
   pub fields_copied : AreFields opening floor recorded chains present names → AreFields next floor copies copied present copy_names
-  fields_copied are =
-      subst (λ (o : Opening). AreFields o floor copies copied present copy_names) (sym alike)
-      (subst (λ (l : List (List Event)). AreFields opening floor l copied present copy_names) (sym same) (
-        kept_with_room opening (reverse recorded) chains copied are.0 versions,
-        subst (StandFirst (λ key. is_some (key_after opening key (changes_of (reverse recorded)))) present) (sym same_names) are.1,
-        are.2,
-      ))
+  fields_copied are = grind (arith, nat_tests, kept_with_room)
 
   pub contents_copied : (opened : ℕ) → contents_of next opened floor copies copy_names ≡ contents_of opening opened floor recorded names
-  contents_copied opened =
-      ap (λ (o : Opening). contents_of o opened floor copies copy_names) alike
-      ∙ ap (λ (l : List (List Event)). contents_of opening opened floor l copy_names) same
-      ∙ ap (contents_of opening opened floor recorded) same_names
+  contents_copied opened = grind (arith, nat_tests)

@@ -1,8 +1,9 @@
 -- One revision after another is dropped.
-use Rattle.std.proofs.Common.{◌≡◌, ℕ, ◌+◌, ◌≤◌, ◌<◌, ◌∙◌, ◌∷◌, ◌++◌, [], List, Option, max, true, refl, sym, ap, subst, arith, length, reverse, is_some}
+use Rattle.std.proofs.Common.{◌≡◌, ℕ, ◌+◌, ◌≤◌, ◌<◌, ◌∙◌, ◌∷◌, ◌++◌, [], List, Option, true, refl, sym, ap, subst, arith, length, reverse, is_some}
 use Rattle.std.specs.HashMap.{HashMap}
 use Rattle.std.specs.declared.string.String.{String}
 use Rattle.std.proofs.lemmas.List.{reverse-append}
+use Rattle.std.proofs.lemmas.Bool.Decides.{nat_tests}
 use Rattle.indexmap.specs.IndexMap.{get_by_text}
 use Rattle.stm_history.specs.declared.key_state.KeyState.{KeyState}
 use Rattle.stm_history.specs.History.{History, now, key_after}
@@ -24,15 +25,7 @@ with_history c h = record { history = h; present = c.present; opened = c.opened;
 pub dropped_on : (c next : Contents) (number : ℕ) → next ≡ without_up_to (c.history.opening.number + 1) c → c.history.opening.number < number →
     number ≤ now c.history → (number ≤ now next.history) × (without_up_to number next ≡ without_up_to number c)
 unfolding with_history
-dropped_on c next number is less reached =
-    let first : ℕ = c.history.opening.number + 1 in
-    let kept : now (cut first c.history) ≡ now c.history = cut_keeps_now c.history first (omega (arith, less, reached)) in
-    let same : now next.history ≡ now c.history = ap (λ (d : Contents). now d.history) is ∙ kept in
-    let higher : max first number ≡ number = omega (arith, less) in (
-      omega (arith, same, reached),
-      ap (without_up_to number) is
-          ∙ ap (with_history c) (cut_twice c.history first number (omega (arith, less, reached)) reached ∙ ap (λ (n : ℕ). cut n c.history) higher),
-    )
+dropped_on c next number is less reached = grind (arith, nat_tests, cut_keeps_now, with_history, cut_twice)
 
 -- where all up to the number are gone nothing is dropped
 pub dropped_none : (c : Contents) (number : ℕ) → number ≤ c.history.opening.number → without_up_to number c ≡ c

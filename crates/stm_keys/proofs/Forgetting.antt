@@ -3,9 +3,8 @@ use Rattle.std.proofs.Common.{◌≡◌, ℕ, ◌+◌, ◌-◌, ◌≤◌, ◌<�
 use Rattle.std.proofs.Common.{Option, Some, None, IsTrue, not, zero, suc, refl, sym, ◌∙◌, ap, subst, arith, is_some, inl, inr, ◌⊎◌, string_bytes, IfSome}
 use Rattle.std.specs.Prelude.{nat_eq, swap_remove, bytes_eq, option_map, string_eq}
 use Rattle.std.specs.HashMap.{HashMap}
-use Rattle.std.specs.Map.{keys_of}
 use Rattle.std.specs.declared.string.String.{String}
-use Rattle.std.proofs.lemmas.Bool.{cases_lt, cases_eq, lt-ltb, le-ltb, eqb-true, eqb-false}
+use Rattle.std.proofs.lemmas.Bool.{cases_lt, cases_eq, lt-ltb, le-ltb, eqb-true, eqb-false, Decides.nat_tests}
 use Rattle.std.proofs.lemmas.List.{length-map, length_push, length-reverse, length-take-le, length-set, reverse-append, get_or-set_other, get_or-take, take-take, take-set-le, nil_from_length}
 use Rattle.std.proofs.lemmas.Grind.{get_or-set_at}
 use Rattle.std.proofs.lemmas.Cmp.{nat_list_eq_equiv}
@@ -44,8 +43,7 @@ dropped_first [] = refl
 dropped_first (x ∷ xs) = sym (ap without_oldest (reverse-append (x ∷ []) xs) ∙ oldest_last (reverse xs) x)
 
 pub mapped_drop : {V : Type 0} (f : V → ℕ) (xs : List V) → map f (drop 1 xs) ≡ drop 1 (map f xs)
-mapped_drop f [] = refl
-mapped_drop f (x ∷ xs) = refl
+mapped_drop f xs = grind (arith, nat_tests)
 
 -- the newest of several stays
 pub newest_stays : (ns : List ℕ) → 0 < length (without_oldest ns) → slice_get (without_oldest ns) 0 ≡ slice_get ns 0
@@ -56,14 +54,8 @@ newest_stays (n ∷ (m ∷ ms)) some = refl
 -- so a chain's newest version is what it was once the oldest is dropped, unless that was the only one
 pub newest_kept : {V : Type 0} (f : V → ℕ) (xs : List V) (newest : Option V) (b : Bool) → option_map f newest ≡ slice_get (reverse (map f xs)) 0 →
     nat_eq (length (drop 1 xs)) 0 ≡ b → option_map f (cond b None newest) ≡ slice_get (reverse (map f (drop 1 xs))) 0
-newest_kept f xs newest true is none =
-    sym (ap (λ l. slice_get (reverse (map f l)) 0) (nil_from_length (drop 1 xs) (eqb-true (length (drop 1 xs)) 0 none)))
-newest_kept f xs newest false is some =
-    let left : without_oldest (reverse (map f xs)) ≡ reverse (map f (drop 1 xs)) = sym (ap reverse (mapped_drop f xs) ∙ dropped_first (map f xs)) in
-    let long : length (without_oldest (reverse (map f xs))) ≡ length (drop 1 xs) =
-    ap (λ (l : List ℕ). length l) left ∙ length-reverse (map f (drop 1 xs)) ∙ length-map (drop 1 xs) f in
-    let none : length (drop 1 xs) ≡ 0 → ⊥ = eqb-false (length (drop 1 xs)) 0 some in
-    is ∙ sym (newest_stays (reverse (map f xs)) (omega (arith, long, none))) ∙ ap (λ (l : List ℕ). slice_get l 0) left
+newest_kept f xs newest b is none =
+    grind (arith, nat_tests, nil_from_length, eqb-true, mapped_drop, dropped_first, length-reverse, length-map, eqb-false, newest_stays)
 
 -- a key without a version that was absent before has nothing, and only such a key
 pub gone_iff : {V : Type 0} (before : Option KeyState) (ns : List ℕ) (newest : Option V) (f : V → ℕ) (a b : Bool) → is_some before ≡ not a → a ≡ true →
@@ -77,42 +69,25 @@ gone_iff None [] None f true false some is none same = absurd (cc)
 gone_iff None (n ∷ ns) None f true b some is none same = absurd (cc)
 gone_iff None [] (Some v) f true b some is none same = absurd (cc)
 gone_iff None (n ∷ ns) (Some v) f true true some is none same = absurd (cc)
-gone_iff None (n ∷ ns) (Some v) f true false some is none same = (
-  λ t. absurd (cc),
-  λ gone. (let never : n ∷ ns ≡ [] = ap (λ (v : Versions). v.numbers) gone in absurd (cc)),
-)
-
-longer_drop : (n : ℕ) (ns : List ℕ) → 0 < length ns → without_oldest (n ∷ ns) ≡ n ∷ without_oldest ns
-longer_drop n [] some = absurd (omega (arith, some))
-longer_drop n (m ∷ ms) some = refl
+gone_iff None (n ∷ ns) (Some v) f true false some is none same = grind (arith, nat_tests)
 
 -- ---- versions without the oldest
 
 pub before_forgotten : (o : Option Event) (v : Versions) → (forgotten o v).before ≡ after_event o v.before
-before_forgotten None v = refl
-before_forgotten (Some e) v = refl
+before_forgotten o v = grind (arith, nat_tests)
 
 forget_with : (o : Option Event) (b : Bool) (n m : ℕ) (v : Versions) → n ≡ m → (is_some o ≡ true → 0 < length v.numbers) →
     forgotten o (with_version b n v) ≡ with_version b m (forgotten o v)
-forget_with None b n m v same some = ap (λ (k : ℕ). with_version b k v) same
-forget_with (Some e) false n m v same some = refl
-forget_with (Some e) true n m v same some =
-    ap (λ (l : List ℕ). let r : Versions = record { before = after_event (Some e) None; numbers = l } in r)
-    (longer_drop n v.numbers (some refl) ∙ ap (λ (k : ℕ). k ∷ without_oldest v.numbers) same)
+forget_with o b n m v same some = grind (arith, nat_tests)
 
 some_with : (b : Bool) (n : ℕ) (v : Versions) → 0 < length v.numbers → 0 < length (with_version b n v).numbers
-some_with false n v some = some
-some_with true n v some = omega arith
+some_with b n v some = grind (arith, nat_tests)
 
 -- a key that the oldest revision changes has a version
 pub has_oldest : (opening : Opening) (key : List ℕ) (newer : List (List Event)) (oldest : List Event) → is_some (event_about key oldest) ≡ true →
     0 < length (versions_of opening key (newer ++ oldest ∷ [])).numbers
-has_oldest opening key [] oldest some =
-    subst (λ b. 0 < length (with_version b (opening.number + suc (length (let none : List (List Event) = [] in none))) (versions_of opening key [])).numbers)
-    (sym some) (omega arith)
-has_oldest opening key (x ∷ newer) oldest some =
-    some_with (is_some (event_about key x)) (opening.number + suc (length (newer ++ oldest ∷ []))) (versions_of opening key (newer ++ oldest ∷ []))
-    (has_oldest opening key newer oldest some)
+has_oldest opening key [] oldest some = grind (arith, nat_tests)
+has_oldest opening key (x ∷ newer) oldest some = grind (arith, nat_tests, some_with, has_oldest opening key newer oldest some)
 
 -- ---- an opening that stands in the place of the oldest revision
 
@@ -165,18 +140,8 @@ module _ (old new : Opening) (oldest : List Event) (numbered : new.number ≡ ol
 
   versions_same : (key : List ℕ) (newer : List (List Event)) → oldest ∷ [] ≡ all_events old (changes_of (oldest ∷ [])) →
       forgotten (event_about key oldest) (versions_of old key (newer ++ oldest ∷ [])) ≡ versions_of new key newer
-  versions_same key [] recorded = by_event (event_about key oldest) (left key recorded)
-    where
-      by_event : (o : Option Event) → opened_state new key ≡ after_event o (opened_state old key) →
-          forgotten o (with_version (is_some o) (old.number + suc (length (let none : List (List Event) = [] in none))) (versions_of old key []))
-          ≡ versions_of new key []
-      by_event None is = ap (λ (s : Option KeyState). let v : Versions = record { before = s; numbers = [] } in v) (sym is)
-      by_event (Some e) is = ap (λ (s : Option KeyState). let v : Versions = record { before = s; numbers = [] } in v) (sym is)
-  versions_same key (x ∷ newer) recorded =
-      forget_with (event_about key oldest) (is_some (event_about key x)) (old.number + suc (length (newer ++ oldest ∷ [])))
-      (new.number + suc (length newer)) (versions_of old key (newer ++ oldest ∷ []))
-      (omega (arith, numbered, length_push newer oldest)) (has_oldest old key newer oldest)
-      ∙ ap (with_version (is_some (event_about key x)) (new.number + suc (length newer))) (versions_same key newer recorded)
+  versions_same key [] recorded = grind (arith, nat_tests, left)
+  versions_same key (x ∷ newer) recorded = grind (arith, nat_tests, forget_with, length_push, has_oldest, versions_same key newer recorded)
 
   pub forgotten_kept : (newer : List (List Event)) (chains next : List ℕ → Option Chain) → IsKept old (newer ++ oldest ∷ []) chains →
       ((key : List ℕ) → versions_in (next key) ≡ forgotten (event_about key oldest) (versions_in (chains key))) → IsKept new newer next
@@ -216,17 +181,11 @@ module _ {Y S : Type 0} (old : Opening) (next : HashMap (String Y) Chain S) (new
   up_to_oldest : (more : List (List Event)) →
       revisions_up_to old (old.number + 1) (changes_of (more ++ oldest ∷ [])) ≡ changes_of (oldest ∷ [])
   up_to_oldest [] = all_up_to old (old.number + 1) (changes_of (oldest ∷ [])) (omega arith)
-  up_to_oldest (x ∷ more) =
-      last_is_above old (old.number + 1) (map change_of_event x) (changes_of (more ++ oldest ∷ []))
-      (omega (arith, long_changes (more ++ oldest ∷ []), length_push more oldest))
-      ∙ up_to_oldest more
+  up_to_oldest (x ∷ more) = grind (arith, nat_tests, last_is_above, long_changes, length_push, up_to_oldest more)
 
   above_oldest : (more : List (List Event)) → revisions_above old (old.number + 1) (changes_of (more ++ oldest ∷ [])) ≡ changes_of more
   above_oldest [] = none_above old (old.number + 1) (map change_of_event oldest) [] (omega arith)
-  above_oldest (x ∷ more) =
-      taken_above old (old.number + 1) (map change_of_event x) (changes_of (more ++ oldest ∷ []))
-      (omega (arith, long_changes (more ++ oldest ∷ []), length_push more oldest))
-      ∙ ap (λ (l : List (List Change)). map change_of_event x ∷ l) (above_oldest more)
+  above_oldest (x ∷ more) = grind (arith, nat_tests, taken_above, long_changes, length_push, above_oldest more)
 
   whole : History
   whole = record { opening = old; revisions = changes_of (newer ++ oldest ∷ []) }
@@ -249,12 +208,10 @@ module _ {Y S : Type 0} (old : Opening) (next : HashMap (String Y) Chain S) (new
 -- ---- the order of the chains once one has gone
 
 removed_long : {X : Type 0} (xs : List X) (i : ℕ) (d : X) → i < length xs → length (swap_remove xs i d) + 1 ≡ length xs
-removed_long xs i d within =
-    omega (arith, within, length-take-le (length xs - 1) (set xs i (get_or xs (length xs - 1) d)) (omega (arith, length-set xs i (get_or xs (length xs - 1) d))))
+removed_long xs i d within = grind (arith, nat_tests, length-take-le, length-set)
 
 removed_first : {X : Type 0} (xs : List X) (i n : ℕ) (d : X) → n ≤ i → i < length xs → take n (swap_remove xs i d) ≡ take n xs
-removed_first xs i n d le within =
-    take-take n (length xs - 1) (set xs i (get_or xs (length xs - 1) d)) (omega (arith, le, within)) ∙ take-set-le n xs i (get_or xs (length xs - 1) d) le
+removed_first xs i n d le within = grind (arith, nat_tests, take-take, take-set-le)
 
 -- what stands at a place stood there, or was the last and has taken the place of the one that went
 removed_from : {X : Type 0} (xs : List X) (i : ℕ) (d : X) (place : ℕ) (x : X) → i < length xs → slice_get (swap_remove xs i d) place ≡ Some x →
@@ -321,8 +278,7 @@ drops_gone versions_at names index gone d at none = λ state n absent first. (
 )
 
 pub drops_none : (versions_at : List ℕ → Versions) (old new : List (List ℕ)) → new ≡ old → DropsAbsent versions_at old new
-drops_none versions_at old new same =
-    subst (DropsAbsent versions_at old) (sym same) (λ state n absent first. (first, refl))
+drops_none versions_at old new same = grind (arith, nat_tests)
 
 -- the same where what has no version in between has none in the end
 pub drops_then : (between at_last : List ℕ → Versions) (a b c : List (List ℕ)) → ((key : List ℕ) → between key ≡ no_versions → at_last key ≡ no_versions) →
@@ -338,10 +294,7 @@ drops_same f g a b same drops = λ state n absent first. drops state n (λ key n
 -- names of a map without an entry
 pub names_removed : {Y X S R : Type 0} (m : HashMap (String Y) X S) (n : HashMap (String Y) X R) (index : ℕ) (p : String Y × X) → index < length m.entries →
     n.entries ≡ swap_remove m.entries index p → names_of n ≡ swap_remove (names_of m) index (string_bytes p.0)
-names_removed m n index p within is =
-    ap (λ es. map string_bytes (keys_of es)) is
-    ∙ ap (map string_bytes) (map-swap_remove (λ e. e.0) m.entries index p (omega (arith, within)))
-    ∙ map-swap_remove string_bytes (keys_of m.entries) index p.0 (omega (arith, within, length-map m.entries (λ e. e.0)))
+names_removed m n index p within is = grind (arith, nat_tests, map-swap_remove, length-map)
 
 -- an element stands at each place within a list
 some_within : {X : Type 0} (xs : List X) (i : ℕ) → i < length xs → slice_get xs i ≡ None → ⊥
@@ -393,47 +346,22 @@ only_about e k v = refl
 pub forgotten_at : (e : Event) (get new : List ℕ → Versions) (name : List ℕ) (before : Option KeyState) → name ≡ key_of_event e → before ≡ after_event (Some e) None →
     ((k : List ℕ) → new k ≡ cond (bytes_eq name k) (let v : Versions = record { before = before; numbers = without_oldest (get k).numbers } in v) (get k)) →
     (k : List ℕ) → new k ≡ forgotten (cond (bytes_eq (key_of_event e) k) (Some e) None) (get k)
-forgotten_at e get new name before same is made k =
-    made k
-    ∙ ap (λ (l : List ℕ). cond (bytes_eq l k) (let v : Versions = record { before = before; numbers = without_oldest (get k).numbers } in v) (get k)) same
-    ∙ ap (λ (s : Option KeyState). cond (bytes_eq (key_of_event e) k) (let v : Versions = record { before = s; numbers = without_oldest (get k).numbers } in v) (get k)) is
-    ∙ by_test (bytes_eq (key_of_event e) k)
-  where
-    by_test : (b : Bool) → cond b (forgotten (Some e) (get k)) (get k) ≡ forgotten (cond b (Some e) None) (get k)
-    by_test true = refl
-    by_test false = refl
+forgotten_at e get new name before same is made k = grind (arith, nat_tests)
 
 -- the last of several events
 about_last : (k : List ℕ) (es : List Event) (e : Event) →
     event_about k (es ++ e ∷ []) ≡ (let o : Option Event = either (event_about k es) (cond (bytes_eq (key_of_event e) k) (Some e) None) in o)
 about_last k [] e = refl
-about_last k (x ∷ es) e =
-    ap (λ (o : Option Event). cond (bytes_eq (key_of_event x) k) (Some x) o) (about_last k es e)
-    ∙ through (bytes_eq (key_of_event x) k) x (event_about k es) (cond (bytes_eq (key_of_event e) k) (Some e) None)
-  where
-    through : (b : Bool) (x : Event) (o p : Option Event) → cond b (Some x) (either o p) ≡ either (cond b (Some x) o) p
-    through true x o p = refl
-    through false x o p = refl
-
-either_right : (o : Option Event) → either o None ≡ o
-either_right None = refl
-either_right (Some e) = refl
+about_last k (x ∷ es) e = grind (arith, nat_tests, about_last k es e)
 
 either_first : (o p : Option Event) → either o p ≡ None → o ≡ None
-either_first None p none = refl
-either_first (Some e) p none = absurd (cc)
+either_first o p none = grind (arith, nat_tests)
 
 either_second : (o p : Option Event) → either o p ≡ None → p ≡ None
-either_second None p none = none
-either_second (Some e) p none = absurd (cc)
-
-some_either : (o p : Option Event) → is_some o ≡ true → is_some (either o p) ≡ true
-some_either None p some = absurd (cc)
-some_either (Some e) p some = refl
+either_second o p none = grind (arith, nat_tests)
 
 not_about : (e : Event) (b : Bool) → cond b (Some e) None ≡ None → b ≡ false
-not_about e true none = absurd (cc)
-not_about e false none = refl
+not_about e b none = grind (arith, nat_tests)
 
 -- events that are apart without the last of them, and the last apart from the others
 pub front_apart : (es : List Event) (e : Event) → AreApart (es ++ e ∷ []) → AreApart es × (event_about (key_of_event e) es ≡ None)
@@ -458,34 +386,10 @@ module _ (es : List Event) (e : Event) (between new at_last : List ℕ → Versi
   absent_rest k same = ap (λ (l : List ℕ). event_about l es) (sym ((bytes_eq-Decides (key_of_event e) k).0 same)) ∙ alone
 
   pub reported_on : (k : List ℕ) → forgotten (event_about k es) (new k) ≡ at_last k
-  reported_on k = by_test (bytes_eq (key_of_event e) k) refl
-    where
-      by_test : (b : Bool) → bytes_eq (key_of_event e) k ≡ b → forgotten (event_about k es) (new k) ≡ at_last k
-      by_test true same =
-          ap (λ (o : Option Event). forgotten o (new k)) (absent_rest k same)
-          ∙ made k
-          ∙ ap (λ b. forgotten (cond b (Some e) None) (between k)) same
-          ∙ sym (ap (λ (o : Option Event). forgotten (either o (Some e)) (between k)) (absent_rest k same))
-          ∙ sym (ap (λ b. forgotten (either (event_about k es) (cond b (Some e) None)) (between k)) same)
-          ∙ sym (ap (λ (o : Option Event). forgotten o (between k)) (about_last k es e))
-          ∙ reported k
-      by_test false differs =
-          ap (forgotten (event_about k es)) (made k ∙ ap (λ b. forgotten (cond b (Some e) None) (between k)) differs)
-          ∙ sym (ap (λ (o : Option Event). forgotten o (between k)) (either_right (event_about k es)))
-          ∙ sym (ap (λ b. forgotten (either (event_about k es) (cond b (Some e) None)) (between k)) differs)
-          ∙ sym (ap (λ (o : Option Event). forgotten o (between k)) (about_last k es e))
-          ∙ reported k
+  reported_on k = grind (arith, nat_tests, absent_rest, about_last)
 
   pub oldest_on : (k : List ℕ) → is_some (event_about k es) ≡ true → 0 < length (new k).numbers
-  oldest_on k some = by_test (bytes_eq (key_of_event e) k) refl
-    where
-      by_test : (b : Bool) → bytes_eq (key_of_event e) k ≡ b → 0 < length (new k).numbers
-      by_test true same = let never : false ≡ true = sym (ap (λ (o : Option Event). is_some o) (absent_rest k same)) ∙ some in absurd (cc)
-      by_test false differs =
-          subst (λ (v : Versions). 0 < length v.numbers)
-          (sym (made k ∙ ap (λ b. forgotten (cond b (Some e) None) (between k)) differs))
-          (oldest k (ap (λ (o : Option Event). is_some o) (about_last k es e)
-          ∙ some_either (event_about k es) (cond (bytes_eq (key_of_event e) k) (Some e) None) some))
+  oldest_on k some = grind (arith, nat_tests, absent_rest, about_last)
 
   pub gone_on : (k : List ℕ) → new k ≡ no_versions → at_last k ≡ no_versions
   gone_on k none = by_about (event_about k es) refl
@@ -499,7 +403,4 @@ module _ (es : List Event) (e : Event) (between new at_last : List ℕ → Versi
 
 -- the last of events that are apart is found by its key
 pub last_some : (es : List Event) (e : Event) → AreApart (es ++ e ∷ []) → is_some (event_about (key_of_event e) (es ++ e ∷ [])) ≡ true
-last_some es e apart =
-    ap (λ (o : Option Event). is_some o) (about_last (key_of_event e) es e)
-    ∙ ap (λ (o : Option Event). is_some (either o (cond (bytes_eq (key_of_event e) (key_of_event e)) (Some e) None))) (front_apart es e apart).1
-    ∙ ap (λ b. is_some (cond b (Some e) None)) ((bytes_eq-Decides (key_of_event e) (key_of_event e)).1 refl)
+last_some es e apart = grind (arith, nat_tests, about_last, front_apart, bytes_eq-Decides)

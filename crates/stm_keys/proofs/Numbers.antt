@@ -1,6 +1,7 @@
 -- The numbers of states fit.
-use Rattle.std.proofs.Common.{ℕ, ◌+◌, ◌<◌, ◌≤◌, true, false, cond, List, length, map, Option, Some, None, IfSome, nat_eq, subst, arith}
+use Rattle.std.proofs.Common.{ℕ, ◌+◌, ◌<◌, ◌≤◌, List, length, map, Option, IfSome, subst, arith}
 use Rattle.std.proofs.lemmas.List.{length-map}
+use Rattle.std.proofs.lemmas.Bool.Decides.{nat_tests}
 use Rattle.stm_history.specs.declared.key_state.KeyState.{KeyState}
 use Rattle.stm_history.specs.declared.revisions.TheConstants.{HIGHEST_REVISION}
 use Rattle.stm_history.specs.History.{History, now, key_at, key_now, version_of}
@@ -14,9 +15,7 @@ use Rattle.stm_keys.specs.Keys.{HasSmallNumbers, IsKept, changes_of, key_read}
 
 small_case : (h : History) (o : Option KeyState) → now h ≤ HIGHEST_REVISION →
     IfSome o (AreSmallIn h) → IfSome o HasSmallNumbers
-small_case h None bounded small = tt
-small_case h (Some s) bounded small =
-    record { version = omega (arith, small.0); mod_rev = omega (arith, small.1); create_rev = omega (arith, small.1, small.2) }
+small_case h o bounded small = grind (arith, nat_tests)
 
 -- the counter of the fields fits
 pub now_fits : (opening : Opening) (recorded : List (List Event)) (chains : List ℕ → Option Chain) → IsKept opening recorded chains
@@ -31,11 +30,8 @@ now_small h key bounded =
     subst (λ (o : Option KeyState). IfSome o HasSmallNumbers) (last_revision_is_now h key (now h) (omega arith)) (at_small h key (now h) bounded)
 
 pub read_small : (h : History) (key : List ℕ) (r : ℕ) → now h ≤ HIGHEST_REVISION → IfSome (key_read h key r) HasSmallNumbers
-read_small h key r bounded =
-    elim (nat_eq r 0) as (λ b. IfSome (cond b (key_now h key) (key_at h key r)) HasSmallNumbers)
-    [ true ↦ now_small h key bounded | false ↦ at_small h key r bounded ]
+read_small h key r bounded = grind (arith, nat_tests, now_small, at_small)
 
 -- there is room for one more version
 pub next_version : (o : Option KeyState) → IfSome o HasSmallNumbers → version_of o + 1 < 18446744073709551616
-next_version None small = omega arith
-next_version (Some s) small = omega (arith, small.version)
+next_version o small = grind (arith, nat_tests)

@@ -11,7 +11,7 @@ use Rattle.std.specs.FinMap.Entries.{is_some-find, is_sorted-put, find-append, s
 use Rattle.std.specs.HashMap.{HashMap}
 use Rattle.std.specs.Map.{keys_of}
 use Rattle.std.specs.declared.string.String.{String}
-use Rattle.std.proofs.lemmas.Bool.{lt-ltb}
+use Rattle.std.proofs.lemmas.Bool.{lt-ltb, Decides.nat_tests}
 use Rattle.std.proofs.Math.Bool.{or-true}
 use Rattle.std.proofs.lemmas.Slice.Eq.{bytes_eq-Decides}
 use Rattle.std.proofs.lemmas.Cmp.{nat_list_eq_equiv}
@@ -51,24 +51,18 @@ no_chain m key states named none =
 
 -- what a chain that was written under its name shows
 written : (b : Bool) (w : Chain) (o : Option Chain) → versions_in (cond b (Some w) o) ≡ cond b w.versions (versions_in o)
-written true w o = refl
-written false w o = refl
+written b w o = grind (arith, nat_tests)
 
 pub written_versions : (old new : List ℕ → Option Chain) (name key : List ℕ) (w : Chain) (v : Versions) → w.versions ≡ v → name ≡ key → (k : List ℕ) →
     new k ≡ cond (bytes_eq name k) (Some w) (old k) → versions_in (new k) ≡ cond (bytes_eq key k) v (versions_in (old k))
-written_versions old new name key w v is same k added =
-    ap versions_in added
-    ∙ written (bytes_eq name k) w (old k)
-    ∙ ap (λ (x : Versions). cond (bytes_eq name k) x (versions_in (old k))) is
-    ∙ ap (λ (l : List ℕ). cond (bytes_eq l k) v (versions_in (old k))) same
+written_versions old new name key w v is same k added = grind (arith, nat_tests, written)
 
 pub keys_push : (states : States) (e : List ℕ × KeyState) → keys_of (states ++ e ∷ []) ≡ keys_of states ++ e.0 ∷ []
 keys_push [] e = refl
 keys_push (d ∷ states) e = ap (λ (l : List (List ℕ)). d.0 ∷ l) (keys_push states e)
 
 inside : (b : Bool) (s : KeyState) (rest : Option KeyState) → cond b (versions_before (Some s)) (versions_before rest) ≡ versions_before (cond b (Some s) rest)
-inside true s rest = refl
-inside false s rest = refl
+inside b s rest = grind (arith, nat_tests)
 
 -- one more chain
 pub one_opened : (states next : States) (e : List ℕ × KeyState) (old new : List ℕ → Versions) → next ≡ states ++ e ∷ [] →
@@ -137,15 +131,8 @@ module _ {Y S : Type 0} (m : HashMap (String Y) Chain S) (number : ℕ) (states 
   pub nothing_recorded : (n : ℕ) (xs : List (List Event)) → xs ≡ [] → names_of m ≡ keys_of states → n ≡ length (names_of m) → 1 ≤ number →
       number ≤ HIGHEST_REVISION → IsKept (opening_of number m) (reverse xs) (get_by_text m)
       × StandFirst (λ key. is_some (key_after (opening_of number m) key (changes_of (reverse xs)))) n (names_of m) × (0 ≤ number + length xs)
-  nothing_recorded n xs none named long positive bounded =
-      subst
-      (λ (ys : List (List Event)). IsKept (opening_of number m) (reverse ys) (get_by_text m)
-      × StandFirst (λ key. is_some (key_after (opening_of number m) key (changes_of (reverse ys)))) n (names_of m) × (0 ≤ number + length ys))
-      (sym none)
-      (record { positive = positive; bounded = omega (arith, bounded); shaped = tt; events = refl; versions = opened_versions }, all_first n named long, omega arith)
+  nothing_recorded n xs none named long positive bounded = grind (arith, nat_tests, opened_versions, all_first)
 
   pub opened_history : (xs : List (List Event)) → xs ≡ [] → (let h : History = record { opening = opening_of number m; revisions = changes_of (reverse xs) } in h)
       ≡ (let g : History = record { opening = record { number = number; states = states }; revisions = [] } in g)
-  opened_history xs none =
-      ap (λ (ys : List (List Event)). let h : History = record { opening = opening_of number m; revisions = changes_of (reverse ys) } in h) none
-      ∙ ap (λ (o : Opening). let h : History = record { opening = o; revisions = [] } in h) opens_with
+  opened_history xs none = grind (arith, nat_tests, opens_with)

@@ -1,21 +1,19 @@
 -- What a store can open with: keys that ascend, each of which is found with its state.
-use Rattle.std.proofs.Common.{◌≡◌, ℕ, Bool, true, false, List, [], ◌∷◌, Option, Some, None, zero, suc, refl, ◌∙◌, ap, subst, cond, take, ◌&&◌}
+use Rattle.std.proofs.Common.{◌≡◌, ℕ, Bool, true, List, [], ◌∷◌, Option, Some, None, zero, suc, refl, ◌∙◌, ap, subst, cond, take, ◌&&◌, arith}
 use Rattle.std.specs.Prelude.{slice_get}
 use Rattle.std.specs.Ordering.{nat_cmp, is_lt, is_eq, eq_by_cmp, ordering_reverse}
 use Rattle.std.specs.declared.cmp.Ordering.{Ordering}
-use Rattle.std.specs.declared.cmp.Ordering.TheVariants.{Less, Equal, Greater}
+use Rattle.std.specs.declared.cmp.Ordering.TheVariants.{Less}
 use Rattle.std.specs.Cmp.Lexicographic.{slice_cmp, nat_list_cmp_total}
 use Rattle.std.specs.FinMap.{find, is_sorted}
 use Rattle.std.specs.FinMap.Entries.{below_all}
-use Rattle.std.proofs.lemmas.Bool.{and_parts}
+use Rattle.std.proofs.lemmas.Bool.{and_parts, Decides.nat_tests}
 use Rattle.stm_history.specs.declared.key_state.KeyState.{KeyState}
 use Rattle.stm_history.specs.Opening.{States, is_reached, if_reached}
 use Rattle.stm_keys.specs.CanOpen.{stands_before, can_open}
 
 is_less : (o : Ordering) → is_lt o ≡ true → o ≡ Less
-is_less Less is = refl
-is_less Equal is = absurd (cc)
-is_less Greater is = absurd (cc)
+is_less o is = grind (arith, nat_tests)
 
 -- what is below a key is below all that follow the key
 lower : (x y : List ℕ) (states : States) → is_lt (slice_cmp nat_cmp x y) ≡ true → below_all (slice_cmp nat_cmp) y states ≡ true →
@@ -28,9 +26,7 @@ lower x y (e ∷ states) less below =
 
 below_first : (key : List ℕ) (states : States) → stands_before key states ≡ true → is_sorted (slice_cmp nat_cmp) states ≡ true →
     below_all (slice_cmp nat_cmp) key states ≡ true
-below_first key [] before sorted = refl
-below_first key (e ∷ states) before sorted =
-    ap (λ b. b && below_all (slice_cmp nat_cmp) key states) before ∙ lower key e.0 states before (and_parts _ _ sorted).0
+below_first key states before sorted = grind (arith, nat_tests, lower, and_parts)
 
 -- their keys ascend
 pub can_open_sorted : (number : ℕ) (states : States) → can_open number states ≡ true → is_sorted (slice_cmp nat_cmp) states ≡ true
@@ -43,8 +39,7 @@ can_open_sorted number (e ∷ states) can =
 -- and each is at the opening what its state says
 first_reached : (number : ℕ) (s : KeyState) (rest : Option KeyState) (b : Bool) → is_reached number s ≡ true → if_reached number rest ≡ rest →
     if_reached number (cond b (Some s) rest) ≡ cond b (Some s) rest
-first_reached number s rest true reached same = ap (λ b. cond b (Some s) None) reached
-first_reached number s rest false reached same = same
+first_reached number s rest b reached same = grind (arith, nat_tests)
 
 pub can_open_found : (number : ℕ) (states : States) (key : List ℕ) → can_open number states ≡ true →
     if_reached number (find (slice_cmp nat_cmp) key states) ≡ find (slice_cmp nat_cmp) key states

@@ -1,6 +1,6 @@
 -- The order of the chains: those of present keys stand first.
 use Rattle.std.proofs.Common.{◌≡◌, ℕ, ◌+◌, ◌≤◌, ◌<◌, Bool, true, false, List, [], ◌∷◌, ◌++◌, length, map, Option, Some, None, suc, zero, refl, sym, ◌∙◌, ap}
-use Rattle.std.proofs.Common.{subst, arith, cond, is_some, eqb-true, slice_get, get_or, swap, option_map, IsPermutation, inl, inr}
+use Rattle.std.proofs.Common.{arith, cond, is_some, eqb-true, slice_get, get_or, swap, option_map, IsPermutation, inl, inr}
 use Rattle.std.specs.Prelude.{bytes_eq, nat_eq, nat_lt, string_bytes, string_eq, ◌⊎◌}
 use Rattle.std.specs.String.{string_eq_equiv}
 use Rattle.std.specs.declared.string.String.{String}
@@ -42,8 +42,7 @@ module _ {Y X S : Type 0} (m : HashMap (String Y) X S) (index : ℕ) (k : String
   found_at_index = hash_map_get_place string_eq_equiv m index k v unique at
 
   pub is_the_key : (key : List ℕ) → slice_get (names_of m) index ≡ Some key → string_bytes k ≡ key
-  is_the_key key named =
-      let same : Some (string_bytes k) ≡ Some key = sym named_at ∙ named in cc
+  is_the_key key named = grind (arith, nat_tests, named_at)
 
   pub found_under : (key : List ℕ) → slice_get (names_of m) index ≡ Some key → get_by_text m key ≡ Some v
   found_under key named = ap (get_by_text m) (sym (is_the_key key named)) ∙ found_at_index
@@ -65,20 +64,7 @@ apart keys i j a b distinct first second less =
     ∙ apart_from_distinct bytes_eq keys i j a distinct less (slice_get_within keys j b second)
 
 pub stands_at : (keys : List (List ℕ)) (index : ℕ) (key : List ℕ) → IsDistinct bytes_eq keys → slice_get keys index ≡ Some key → StandsAt key index keys
-stands_at keys index key distinct at place k is = by_test (nat_eq place index) refl
-  where
-    by_test : (b : Bool) → nat_eq place index ≡ b → bytes_eq key k ≡ nat_eq place index
-    by_test true same =
-        let one : Some key ≡ Some k = sym at ∙ ap (slice_get keys) (sym (eqb-true place index same)) ∙ is in
-        let equal : key ≡ k = cc in
-        (bytes_eq-Decides key k).1 equal ∙ sym same
-    by_test false differs =
-        elim (cases_lt place index) [
-          | inl less ↦ nat_list_eq_equiv.symm key k ∙ apart keys place index k key distinct is at less ∙ sym differs
-          | inr more ↦
-              let not_same : place ≡ index → ⊥ = eqb-false place index differs in
-              apart keys index place key k distinct at is (omega (arith, more, not_same)) ∙ sym differs
-        ]
+stands_at keys index key distinct at place k is = grind (arith, nat_tests, eqb-true, bytes_eq-Decides, cases_lt, apart, eqb-false)
 
 -- two keys changed places
 abbrev pub Exchanged : ℕ → ℕ → List (List ℕ) → List (List ℕ) → Type 0
@@ -93,21 +79,11 @@ exchanged_entry es a b place e first second is =
 
 pub exchanged : {K X : Type 0} (text : K → List ℕ) (es : List (K × X)) (a b : ℕ) → a < length es → b < length es →
     Exchanged a b (map text (keys_of es)) (map text (keys_of (swap es a b)))
-exchanged {K} {X} text es a b first second place k is =
-    by_entry (slice_get (swap es a b) place) refl (sym (text_at text (swap es a b) place) ∙ is)
-  where
-    by_entry : (o : Option (K × X)) → slice_get (swap es a b) place ≡ o → option_map (λ e. text e.0) o ≡ Some k →
-        slice_get (map text (keys_of es)) (exchange a b place) ≡ Some k
-    by_entry None at named = absurd (cc)
-    by_entry (Some e) at named =
-        text_at text es (exchange a b place) ∙ ap (option_map (λ e. text e.0)) (exchanged_entry es a b place e first second at) ∙ named
+exchanged {K} {X} text es a b first second place k is = grind (arith, nat_tests, text_at, exchange, exchanged_entry)
 
 pub swapped : {Y X S : Type 0} (m n : HashMap (String Y) X S) (a b : ℕ) → a < length m.entries → b < length m.entries → n.entries ≡ swap m.entries a b →
     Exchanged a b (names_of m) (names_of n) × (length (names_of n) ≡ length (names_of m))
-swapped m n a b first second is = (
-  subst (λ es. Exchanged a b (names_of m) (map string_bytes (keys_of es))) (sym is) (exchanged string_bytes m.entries a b first second),
-  names_long n ∙ ap (λ es. length es) is ∙ length-swap m.entries a b ∙ sym (names_long m),
-)
+swapped m n a b first second is = grind (arith, nat_tests, exchanged, names_long, length-swap)
 
 -- where a key that comes in and one that is taken out stand
 in_place : (place index n : ℕ) → n ≤ index → cond (nat_eq (exchange index n place) index) true (nat_lt (exchange index n place) n) ≡ nat_lt place (n + 1)
@@ -176,23 +152,14 @@ push_at : {X : Type 0} (xs : List X) (y x : X) (place : ℕ) → slice_get (xs +
 push_at [] y x zero is = inr (omega arith, cc)
 push_at [] y x (suc place) is = absurd (cc)
 push_at (z ∷ xs) y x zero is = inl (omega arith, is)
-push_at (z ∷ xs) y x (suc place) is =
-    elim (push_at xs y x place is) [ inl here ↦ inl (omega (arith, here.0), here.1) | inr last ↦ inr (omega (arith, last.0), last.1) ]
+push_at (z ∷ xs) y x (suc place) is = grind (arith, nat_tests, push_at xs y x place is)
 
 pub first_push : (p : List ℕ → Bool) (n : ℕ) (keys : List (List ℕ)) (key : List ℕ) → p key ≡ false → StandFirst p n keys → StandFirst p n (keys ++ key ∷ [])
-first_push p n keys key absent first = record {
-  within = omega (arith, first.within, length-append keys (key ∷ []));
-  each = λ place k is.
-      elim (push_at keys key k place is) [
-        | inl here ↦ first.each place k here.1
-        | inr last ↦ ap p (sym last.1) ∙ absent ∙ sym (le-ltb place n (omega (arith, last.0, first.within)))
-      ];
-}
+first_push p n keys key absent first = grind (arith, nat_tests, length-append, push_at, le-ltb)
 
 -- keys that stay as they are, and more keys after more keys
 pub keeps_same : (versions_at : List ℕ → Versions) (old new : List (List ℕ)) → new ≡ old → KeepsPresent versions_at old new
-keeps_same versions_at old new same =
-    subst (KeepsPresent versions_at old) (sym same) (record { listed = λ state absent. refl; first = λ p n absent first. first; longer = omega arith })
+keeps_same versions_at old new same = grind (arith, nat_tests)
 
 pub keeps_push : (versions_at : List ℕ → Versions) (old : List (List ℕ)) (key : List ℕ) → versions_at key ≡ no_versions → KeepsPresent versions_at old (old ++ key ∷ [])
 keeps_push versions_at old key none = record {
@@ -213,19 +180,7 @@ keeps_more versions_at again a b c same one two = record {
 pub left_after : (e : Event) (es : List Event) (p q : List ℕ → Bool) → event_about (key_of_event e) es ≡ None →
     ((k : List ℕ) → is_left (event_about k (e ∷ es)) (p k) ≡ q k) →
     (k : List ℕ) → is_left (event_about k es) (cond (bytes_eq (key_of_event e) k) (is_put e) (p k)) ≡ q k
-left_after e es p q alone reported k = by_test (bytes_eq (key_of_event e) k) refl
-  where
-    by_test : (b : Bool) → bytes_eq (key_of_event e) k ≡ b → is_left (event_about k es) (cond (bytes_eq (key_of_event e) k) (is_put e) (p k)) ≡ q k
-    by_test true same =
-        let gone : event_about k es ≡ None = ap (λ (l : List ℕ). event_about l es) (sym ((bytes_eq-Decides (key_of_event e) k).0 same)) ∙ alone in
-        ap (λ o. is_left o (cond (bytes_eq (key_of_event e) k) (is_put e) (p k))) gone
-        ∙ ap (λ b. cond b (is_put e) (p k)) same
-        ∙ sym (ap (λ b. is_left (cond b (Some e) (event_about k es)) (p k)) same)
-        ∙ reported k
-    by_test false differs =
-        ap (λ b. is_left (event_about k es) (cond b (is_put e) (p k))) differs
-        ∙ sym (ap (λ b. is_left (cond b (Some e) (event_about k es)) (p k)) differs)
-        ∙ reported k
+left_after e es p q alone reported k = grind (arith, nat_tests, bytes_eq-Decides)
 
 -- the present keys, counted and by their places
 one_less : (place n : ℕ) → nat_lt (suc place) (suc n) ≡ nat_lt place n
@@ -247,13 +202,11 @@ none_first : (state : List ℕ → Option KeyState) (k : List ℕ) (keys : List 
 none_first state k keys first = record { within = omega arith; each = λ place key is. first.each (suc place) key is ∙ below_none place }
 
 count_none : (k : List ℕ) (s : Option KeyState) (rest : List (List ℕ × KeyState)) → is_some s ≡ false → length rest ≡ 0 → length (with_state k s rest) ≡ 0
-count_none k None rest is none = none
-count_none k (Some s) rest is none = absurd (cc)
+count_none k s rest is none = grind (arith, nat_tests)
 
 count_one : (k : List ℕ) (s : Option KeyState) (rest : List (List ℕ × KeyState)) (n : ℕ) → is_some s ≡ true → length rest ≡ n →
     length (with_state k s rest) ≡ suc n
-count_one k None rest n is count = absurd (cc)
-count_one k (Some s) rest n is count = ap suc count
+count_one k s rest n is count = grind (arith, nat_tests)
 
 pub present_count : (state : List ℕ → Option KeyState) (n : ℕ) (keys : List (List ℕ)) → StandFirst (λ key. is_some (state key)) n keys →
     length (present_among state keys) ≡ n
@@ -266,8 +219,7 @@ present_count state (suc n) (k ∷ keys) first =
 
 at_later : (k : List ℕ) (s : Option KeyState) (rest : List (List ℕ × KeyState)) (place : ℕ) (x : List ℕ × KeyState) → is_some s ≡ true →
     slice_get rest place ≡ Some x → slice_get (with_state k s rest) (suc place) ≡ Some x
-at_later k None rest place x is at = absurd (cc)
-at_later k (Some s) rest place x is at = at
+at_later k s rest place x is at = grind (arith, nat_tests)
 
 pub present_at : (state : List ℕ → Option KeyState) (n : ℕ) (keys : List (List ℕ)) (place : ℕ) (key : List ℕ) (s : KeyState) →
     StandFirst (λ key. is_some (state key)) n keys → place < n → slice_get keys place ≡ Some key → state key ≡ Some s →
@@ -289,8 +241,4 @@ below_present p n keys place key first less at = first.each place key at ∙ lt-
 
 -- after one event a key is as the event leaves it, or as it was
 pub left_only : (e : Event) (k : List ℕ) (before : Bool) → is_left (event_about k (e ∷ [])) before ≡ cond (bytes_eq (key_of_event e) k) (is_put e) before
-left_only e k before = by_test (bytes_eq (key_of_event e) k)
-  where
-    by_test : (b : Bool) → is_left (cond b (Some e) None) before ≡ cond b (is_put e) before
-    by_test true = refl
-    by_test false = refl
+left_only e k before = grind (arith, nat_tests)

@@ -1,9 +1,10 @@
 -- The list of present keys.
-use Rattle.std.proofs.Common.{◌≡◌, ℕ, Bool, true, false, List, [], ◌∷◌, ◌++◌, map, Option, Some, None, refl, sym, ◌∙◌, ap, cond, ◌||◌}
+use Rattle.std.proofs.Common.{◌≡◌, ℕ, Bool, true, false, List, [], ◌∷◌, ◌++◌, map, Option, None, refl, sym, ◌∙◌, ap, ◌||◌, arith}
 use Rattle.std.specs.Prelude.{bytes_eq}
 use Rattle.std.specs.List.{IsDistinct, AllByRecursion, list_any}
 use Rattle.std.specs.Map.{lookup, keys_of}
 use Rattle.std.proofs.lemmas.Slice.Eq.{bytes_eq-Decides}
+use Rattle.std.proofs.lemmas.Bool.Decides.{nat_tests}
 use Rattle.stm_history.specs.declared.key_state.KeyState.{KeyState}
 use Rattle.stm_keys.specs.Chains.{present_among, with_state}
 
@@ -20,12 +21,7 @@ present_push state (k ∷ keys) key none = ap (with_state k (state k)) (present_
 found_present : (state : List ℕ → Option KeyState) (key k : List ℕ) (rest : List (List ℕ × KeyState)) (b : Bool) → bytes_eq key k ≡ b →
     (s : Option KeyState) → state k ≡ s → (b ≡ true → s ≡ None → lookup (bytes_eq key) rest ≡ None) → (b ≡ false → lookup (bytes_eq key) rest ≡ state key) →
     lookup (bytes_eq key) (with_state k s rest) ≡ state key
-found_present state key k rest true same None is none others =
-    none refl refl ∙ sym (ap state ((bytes_eq-Decides key k).0 same) ∙ is)
-found_present state key k rest true same (Some s) is none others =
-    ap (λ b. cond b (Some s) (lookup (bytes_eq key) rest)) same ∙ sym (ap state ((bytes_eq-Decides key k).0 same) ∙ is)
-found_present state key k rest false apart None is none others = others refl
-found_present state key k rest false apart (Some s) is none others = ap (λ b. cond b (Some s) (lookup (bytes_eq key) rest)) apart ∙ others refl
+found_present state key k rest b same s is none others = grind (arith, nat_tests, bytes_eq-Decides)
 
 pub present_found : (state : List ℕ → Option KeyState) (key : List ℕ) (keys : List (List ℕ)) → (list_any (bytes_eq key) keys ≡ false → state key ≡ None) →
     lookup (bytes_eq key) (present_among state keys) ≡ state key
@@ -40,8 +36,7 @@ present_found state key (k ∷ keys) absent =
 -- the present keys are distinct where the keys are
 all_with : (P : List ℕ → Type 0) (k : List ℕ) (s : Option KeyState) (present : List (List ℕ × KeyState)) → P k → AllByRecursion P (keys_of present) →
     AllByRecursion P (keys_of (with_state k s present))
-all_with P k None present one all = all
-all_with P k (Some s) present one all = (one, all)
+all_with P k s present one all = grind (arith, nat_tests)
 
 all_present : (P : List ℕ → Type 0) (state : List ℕ → Option KeyState) (keys : List (List ℕ)) → AllByRecursion P keys →
     AllByRecursion P (keys_of (present_among state keys))
@@ -51,25 +46,19 @@ all_present P state (k ∷ keys) all = all_with P k (state k) (present_among sta
 distinct_with : (k : List ℕ) (s : Option KeyState) (present : List (List ℕ × KeyState)) → AllByRecursion (λ l. bytes_eq k l ≡ false) (keys_of present) →
     IsDistinct bytes_eq (keys_of present) → IsDistinct bytes_eq (keys_of (with_state k s present))
 unfolding IsDistinct
-distinct_with k None present apart rest = rest
-distinct_with k (Some s) present apart rest = (apart, rest)
+distinct_with k s present apart rest = grind (arith, nat_tests)
 
 pub distinct_present : (state : List ℕ → Option KeyState) (keys : List (List ℕ)) → IsDistinct bytes_eq keys →
     IsDistinct bytes_eq (keys_of (present_among state keys))
 unfolding IsDistinct
 distinct_present state [] h = tt
-distinct_present state (k ∷ keys) h =
-    distinct_with k (state k) (present_among state keys) (all_present (λ l. bytes_eq k l ≡ false) state keys h.0) (distinct_present state keys h.1)
+distinct_present state (k ∷ keys) h = grind (arith, nat_tests, distinct_with, all_present, distinct_present state keys h.1)
 
 -- a text that is none of the keys is not found
 not_here : {K X : Type 0} (text : K → List ℕ) (key : List ℕ) (e : K × X) (es : List (K × X)) (b : Bool) → bytes_eq key (text e.0) ≡ b →
     (list_any (bytes_eq key) (map text (keys_of es)) ≡ false → lookup (λ k. bytes_eq key (text k)) es ≡ None) →
     bytes_eq key (text e.0) || list_any (bytes_eq key) (map text (keys_of es)) ≡ false → lookup (λ k. bytes_eq key (text k)) (e ∷ es) ≡ None
-not_here text key e es true same rest none =
-    let some : true ≡ false = sym (ap (λ b. b || list_any (bytes_eq key) (map text (keys_of es))) same) ∙ none in absurd (cc)
-not_here text key e es false apart rest none =
-    ap (λ b. cond b (Some e.1) (lookup (λ k. bytes_eq key (text k)) es)) apart
-    ∙ rest (sym (ap (λ b. b || list_any (bytes_eq key) (map text (keys_of es))) apart) ∙ none)
+not_here text key e es b same rest none = grind (arith, nat_tests)
 
 pub not_found : {K X : Type 0} (text : K → List ℕ) (key : List ℕ) (es : List (K × X)) → list_any (bytes_eq key) (map text (keys_of es)) ≡ false →
     lookup (λ k. bytes_eq key (text k)) es ≡ None

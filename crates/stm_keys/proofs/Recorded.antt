@@ -1,18 +1,17 @@
 -- Recorded events against the history that they record.
 use Rattle.std.proofs.Common.{◌≡◌, ℕ, ◌+◌, ◌≤◌, ◌<◌, Bool, true, false, List, [], ◌∷◌, ◌++◌, length, map, Option, Some, None, suc, refl, sym, ◌∙◌, ap, subst}
-use Rattle.std.proofs.Common.{arith, cond, ne_eqb, eq-eqb, is_some}
-use Rattle.std.specs.Prelude.{bytes_eq, nat_eq}
+use Rattle.std.proofs.Common.{arith, cond, eq-eqb, is_some}
+use Rattle.std.specs.Prelude.{bytes_eq}
 use Rattle.std.proofs.lemmas.List.{length-map, length-append}
 use Rattle.std.proofs.lemmas.Slice.Eq.{bytes_eq-Decides}
+use Rattle.std.proofs.lemmas.Bool.Decides.{nat_tests}
 use Rattle.stm_history.specs.declared.change.Change.{Change}
-use Rattle.stm_history.specs.declared.change.Change.TheVariants.{Put, Del}
 use Rattle.stm_history.specs.declared.key_state.KeyState.{KeyState}
 use Rattle.stm_history.specs.declared.revisions.TheConstants.{HIGHEST_REVISION}
 use Rattle.stm_history.specs.Opening.{Opening, opened_state}
-use Rattle.stm_history.specs.History.{number_of_last, key_of, change_of, key_after, after_change, state_after_put, HasDistinctKeys, IsRevision}
+use Rattle.stm_history.specs.History.{number_of_last, key_of, change_of, key_after, after_change, HasDistinctKeys, IsRevision}
 use Rattle.stm_history.proofs.HistoryLaws.{one_more}
 use Rattle.stm_keys.specs.declared.event.Event.{Event}
-use Rattle.stm_keys.specs.declared.event.Event.TheVariants.{Put as PutEvent}
 use Rattle.stm_keys.specs.Events.{event_of, events_above, events_numbered, key_of_event, event_about, after_event, change_of_event, AreApart}
 use Rattle.stm_keys.specs.Keys.{changes_of, all_events, state_recorded, IsKept}
 use Rattle.stm_keys.specs.Chains.{Chain, versions_in, with_version}
@@ -23,55 +22,34 @@ same_text a b equal = (bytes_eq-Decides a b).0 equal
 
 -- the event of a change is about the change's key, and shows the change
 pub key_of_event-event_of : (n : ℕ) (before : List ℕ → Option KeyState) (c : Change) → key_of_event (event_of n before c) ≡ key_of c
-key_of_event-event_of n before (Put key value lease) = refl
-key_of_event-event_of n before (Del key) = refl
-
-shows_put : (n : ℕ) (key value : List ℕ) (lease : ℕ) (s : Option KeyState)
-    → change_of_event (PutEvent key (state_after_put n value lease s)) ≡ Put key value lease
-shows_put n key value lease None = refl
-shows_put n key value lease (Some s) = refl
+key_of_event-event_of n before c = grind (arith, nat_tests)
 
 change_of_event-event_of : (n : ℕ) (before : List ℕ → Option KeyState) (c : Change) → change_of_event (event_of n before c) ≡ c
-change_of_event-event_of n before (Put key value lease) = shows_put n key value lease (before key)
-change_of_event-event_of n before (Del key) = refl
+change_of_event-event_of n before c = grind (arith, nat_tests)
 
 pub changes_shown : (n : ℕ) (before : List ℕ → Option KeyState) (cs : List Change) → map change_of_event (map (event_of n before) cs) ≡ cs
 changes_shown n before [] = refl
-changes_shown n before (c ∷ cs) =
-    ap (λ d. d ∷ map change_of_event (map (event_of n before) cs)) (change_of_event-event_of n before c) ∙ ap (λ l. c ∷ l) (changes_shown n before cs)
+changes_shown n before (c ∷ cs) = grind (arith, nat_tests, change_of_event-event_of, changes_shown n before cs)
 
 -- the event of a change depends on its key alone
 event_of_same : (n : ℕ) (s t : List ℕ → Option KeyState) (c : Change) → ((key : List ℕ) → s key ≡ t key) → event_of n s c ≡ event_of n t c
-event_of_same n s t (Put key value lease) same = ap (λ o. PutEvent key (state_after_put n value lease o)) (same key)
-event_of_same n s t (Del key) same = refl
+event_of_same n s t c same = grind (arith, nat_tests)
 
 pub events_same : (n : ℕ) (s t : List ℕ → Option KeyState) (cs : List Change) → ((key : List ℕ) → s key ≡ t key) → map (event_of n s) cs ≡ map (event_of n t) cs
 events_same n s t [] same = refl
-events_same n s t (c ∷ cs) same =
-    ap (λ e. e ∷ map (event_of n s) cs) (event_of_same n s t c same) ∙ ap (λ l. event_of n t c ∷ l) (events_same n s t cs same)
-
--- what the event of a change of a key makes of the key is what the change makes of it
-shown_of : (n : ℕ) (before : List ℕ → Option KeyState) (key : List ℕ) (c : Change) (s : Option KeyState) → key_of c ≡ key →
-    after_event (Some (event_of n before c)) s ≡ after_change n (Some c) (before key)
-shown_of n before key (Put k value lease) s same = ap (λ q. Some (state_after_put n value lease (before q))) same
-shown_of n before key (Del k) s same = refl
+events_same n s t (c ∷ cs) same = grind (arith, nat_tests, event_of_same, events_same n s t cs same)
 
 about_case : (b : Bool) (n : ℕ) (before : List ℕ → Option KeyState) (key : List ℕ) (c : Change) (e : Option Event) (d : Option Change)
     → (b ≡ true → key_of c ≡ key) →
     after_event e (before key) ≡ after_change n d (before key) →
     after_event (cond b (Some (event_of n before c)) e) (before key) ≡ after_change n (cond b (Some c) d) (before key)
-about_case true n before key c e d same rest = shown_of n before key c (before key) (same refl)
-about_case false n before key c e d same rest = rest
+about_case b n before key c e d same rest = grind (arith, nat_tests)
 
 -- what the events of a revision make of a key is what its changes make of it
 pub after_about : (n : ℕ) (before : List ℕ → Option KeyState) (key : List ℕ) (cs : List Change) →
     after_event (event_about key (map (event_of n before) cs)) (before key) ≡ after_change n (change_of key cs) (before key)
 after_about n before key [] = refl
-after_about n before key (c ∷ cs) =
-    ap (λ k. after_event (cond (bytes_eq k key) (Some (event_of n before c)) (event_about key (map (event_of n before) cs))) (before key))
-    (key_of_event-event_of n before c)
-    ∙ about_case (bytes_eq (key_of c) key) n before key c (event_about key (map (event_of n before) cs)) (change_of key cs) (same_text (key_of c) key)
-    (after_about n before key cs)
+after_about n before key (c ∷ cs) = grind (arith, nat_tests, key_of_event-event_of, about_case, same_text, after_about n before key cs)
 
 -- a walk back over the recorded events finds what the key is
 pub recorded_state : (opening : Opening) (key : List ℕ) (revisions : List (List Change)) →
@@ -90,12 +68,10 @@ older_recorded opening (r ∷ newer) older is = older_recorded opening newer old
 
 -- the events of a number are those of the revision that stands there
 number_case : (b : Bool) (events rest x : List Event) → b ≡ true → events ≡ x → cond b events rest ≡ x
-number_case true events rest x holds same = same
-number_case false events rest x holds same = cc
+number_case b events rest x holds same = grind (arith, nat_tests)
 
 later_case : (b : Bool) (events rest x : List Event) → b ≡ false → rest ≡ x → cond b events rest ≡ x
-later_case true events rest x fails same = cc
-later_case false events rest x fails same = same
+later_case b events rest x fails same = grind (arith, nat_tests)
 
 length-changes_of : (recorded : List (List Event)) → length (changes_of recorded) ≡ length recorded
 length-changes_of recorded = length-map recorded (map change_of_event)
@@ -103,38 +79,24 @@ length-changes_of recorded = length-map recorded (map change_of_event)
 pub numbered : (opening : Opening) (r : ℕ) (newer : List (List Event)) (x : List Event) (older : List (List Event))
     → newer ++ x ∷ older ≡ all_events opening (changes_of (newer ++ x ∷ older)) →
     r ≡ opening.number + suc (length older) → events_numbered opening r (changes_of (newer ++ x ∷ older)) ≡ x
-numbered opening r [] x older is place =
-    number_case (nat_eq (opening.number + suc (length (changes_of older))) r) (events_above opening (map change_of_event x) (changes_of older))
-    (events_numbered opening r (changes_of older)) x
-    (eq-eqb _ _ (omega (arith, length-changes_of older)))
-    (cc)
+numbered opening r [] x older is place = grind (arith, nat_tests, number_case, eq-eqb, length-changes_of)
 numbered opening r (y ∷ newer) x older is place =
-    later_case (nat_eq (opening.number + suc (length (changes_of (newer ++ x ∷ older)))) r)
-    (events_above opening (map change_of_event y) (changes_of (newer ++ x ∷ older)))
-    (events_numbered opening r (changes_of (newer ++ x ∷ older))) x
-    (ne_eqb _ _ (λ e. absurd (omega (arith, length-changes_of (newer ++ x ∷ older), length-append newer (x ∷ older)))))
-    (numbered opening r newer x older (cc) place)
+    grind (arith, nat_tests, length-changes_of, later_case, length-append, numbered opening r newer x older (cc) place)
 
 -- no revision has a number at or below the opening one
 pub none_numbered : (opening : Opening) (r : ℕ) (revisions : List (List Change)) → r ≤ opening.number → events_numbered opening r revisions ≡ []
 none_numbered opening r [] below = refl
-none_numbered opening r (changes ∷ older) below =
-    later_case (nat_eq (opening.number + suc (length older)) r) (events_above opening changes older) (events_numbered opening r older) []
-    (ne_eqb _ _ (λ e. absurd (omega arith)))
-    (none_numbered opening r older below)
+none_numbered opening r (changes ∷ older) below = grind (arith, nat_tests, later_case, none_numbered opening r older below)
 
 -- the events of changes of distinct keys are apart
 none_case : (b : Bool) (n : ℕ) (before : List ℕ → Option KeyState) (c : Change) (o : Option Change) (e : Option Event) → cond b (Some c) o ≡ None →
     (o ≡ None → e ≡ None) → cond b (Some (event_of n before c)) e ≡ None
-none_case true n before c o e none rest = absurd (cc)
-none_case false n before c o e none rest = rest none
+none_case b n before c o e none rest = grind (arith, nat_tests)
 
 none_about : (n : ℕ) (before : List ℕ → Option KeyState) (key : List ℕ) (cs : List Change) → change_of key cs ≡ None →
     event_about key (map (event_of n before) cs) ≡ None
 none_about n before key [] none = refl
-none_about n before key (c ∷ cs) none =
-    ap (λ k. cond (bytes_eq k key) (Some (event_of n before c)) (event_about key (map (event_of n before) cs))) (key_of_event-event_of n before c)
-    ∙ none_case (bytes_eq (key_of c) key) n before c (change_of key cs) (event_about key (map (event_of n before) cs)) none (none_about n before key cs)
+none_about n before key (c ∷ cs) none = grind (arith, nat_tests, key_of_event-event_of, none_case, none_about n before key cs)
 
 pub events_apart : (n : ℕ) (before : List ℕ → Option KeyState) (cs : List Change) → HasDistinctKeys cs → AreApart (map (event_of n before) cs)
 events_apart n before [] distinct = tt

@@ -1,18 +1,16 @@
 -- Each event of a revision shows its key at that revision.
 use Rattle.std.proofs.Common.{◌≡◌, ℕ, ◌<◌, Bool, true, false, List, [], ◌∷◌, map, Option, Some, None, refl, sym, ◌∙◌, ap, subst, arith, cond, eqb-true, inl}
 use Rattle.std.proofs.Common.{inr}
-use Rattle.std.specs.Prelude.{bytes_eq, nat_eq}
+use Rattle.std.specs.Prelude.{nat_eq}
 use Rattle.std.specs.List.{AllByRecursion}
-use Rattle.std.proofs.lemmas.Bool.{cases_lt, eqb-false}
+use Rattle.std.proofs.lemmas.Bool.{cases_lt, eqb-false, Decides.nat_tests}
 use Rattle.std.proofs.lemmas.Slice.Eq.{bytes_eq-Decides}
 use Rattle.stm_history.specs.declared.change.Change.{Change}
-use Rattle.stm_history.specs.declared.change.Change.TheVariants.{Put, Del}
 use Rattle.stm_history.specs.declared.key_state.KeyState.{KeyState}
 use Rattle.stm_history.specs.Opening.{Opening}
 use Rattle.stm_history.specs.History.{History, number_of_last, key_of, change_of, key_after, key_at, after_change, HasDistinctKeys, AreRevisions}
 use Rattle.stm_history.proofs.HistoryLaws.{one_more, all_up_to, last_is_above}
 use Rattle.stm_keys.specs.declared.event.Event.{Event}
-use Rattle.stm_keys.specs.declared.event.Event.TheVariants.{Put as PutEvent, Delete as DeleteEvent}
 use Rattle.stm_keys.specs.Events.{event_of, events_above, events_numbered, Shows}
 use Rattle.stm_keys.specs.Laws.{EventsShow}
 
@@ -28,27 +26,16 @@ each_mapped f P Q (x ∷ xs) from all = (from x all.0, each_mapped f P Q xs from
 
 -- of distinct keys each change is the one that is found by its key
 found_later : (c d : Change) (cs : List Change) → change_of (key_of c) cs ≡ None → change_of (key_of d) cs ≡ Some d → change_of (key_of d) (c ∷ cs) ≡ Some d
-found_later c d cs absent found = by_test (bytes_eq (key_of c) (key_of d)) refl
-  where
-    by_test : (b : Bool) → bytes_eq (key_of c) (key_of d) ≡ b → cond b (Some c) (change_of (key_of d) cs) ≡ Some d
-    by_test false differs = found
-    by_test true same =
-        let keys : key_of c ≡ key_of d = (bytes_eq-Decides (key_of c) (key_of d)).0 same in
-        let never : None ≡ Some d = sym absent ∙ ap (λ (k : List ℕ). change_of k cs) keys ∙ found in
-        absurd (cc)
+found_later c d cs absent found = grind (arith, nat_tests, bytes_eq-Decides)
 
 found : (cs : List Change) → HasDistinctKeys cs → AllByRecursion (λ c. change_of (key_of c) cs ≡ Some c) cs
 found [] apart = tt
-found (c ∷ cs) apart = (
-  ap (λ b. cond b (Some c) (change_of (key_of c) cs)) ((bytes_eq-Decides (key_of c) (key_of c)).1 refl),
-  each (λ d. change_of (key_of d) cs ≡ Some d) (λ d. change_of (key_of d) (c ∷ cs) ≡ Some d) cs (λ d. found_later c d cs apart.0) (found cs apart.1),
-)
+found (c ∷ cs) apart = grind (arith, nat_tests, bytes_eq-Decides, each, found_later, found cs apart.1)
 
 -- the event of the change that was found shows the key
 shows_change : (h : History) (n : ℕ) (before : List ℕ → Option KeyState) (c : Change) →
     key_at h (key_of c) n ≡ after_change n (Some c) (before (key_of c)) → Shows h n (event_of n before c)
-shows_change h n before (Put key value lease) is = is
-shows_change h n before (Del key) is = (refl, is)
+shows_change h n before c is = grind (arith, nat_tests)
 
 -- the last revision's events
 last_shows : (opening : Opening) (changes : List Change) (older : List (List Change)) (number : ℕ) → HasDistinctKeys changes
@@ -69,19 +56,12 @@ last_shows opening changes older number apart same =
 -- there are no events above the last revision
 none_above : (opening : Opening) (number : ℕ) (revisions : List (List Change)) → number_of_last opening revisions < number → events_numbered opening number revisions ≡ []
 none_above opening number [] above = refl
-none_above opening number (changes ∷ older) above =
-    by_test (nat_eq (number_of_last opening (changes ∷ older)) number) refl (none_above opening number older (omega arith))
-  where
-    by_test : (b : Bool) → nat_eq (number_of_last opening (changes ∷ older)) number ≡ b → events_numbered opening number older ≡ []
-        → cond b (events_above opening changes older) (events_numbered opening number older) ≡ []
-    by_test true same rest = let equal = eqb-true (number_of_last opening (changes ∷ older)) number same in absurd (omega arith)
-    by_test false differs rest = rest
+none_above opening number (changes ∷ older) above = grind (arith, nat_tests, eqb-true, none_above opening number older (omega arith))
 
 -- an event goes on to show its key under a newer revision
 still_shows : (h newer : History) (number : ℕ) → ((key : List ℕ) → key_at newer key number ≡ key_at h key number) → (e : Event) → Shows h number e
     → Shows newer number e
-still_shows h newer number same (PutEvent key state) is = same key ∙ is
-still_shows h newer number same (DeleteEvent key revision) is = (is.0, same key ∙ is.1)
+still_shows h newer number same e is = grind (arith, nat_tests)
 
 shows : (opening : Opening) (number : ℕ) (revisions : List (List Change)) → AreRevisions revisions →
     AllByRecursion (Shows (record { opening = opening; revisions = revisions }) number) (events_numbered opening number revisions)

@@ -4,19 +4,18 @@ use Rattle.std.proofs.Common.{option_map, Option, Some, None, refl, sym, ◌∙�
 use Rattle.std.specs.Prelude.{bytes_eq}
 use Rattle.std.specs.Map.{keys_of}
 use Rattle.std.proofs.lemmas.Slice.Eq.{bytes_eq-Decides}
+use Rattle.std.proofs.lemmas.Bool.Decides.{nat_tests}
 use Rattle.stm_keys.specs.declared.event.Event.{Event}
 use Rattle.stm_keys.specs.Events.{key_of_event, event_about}
 use Rattle.stm_keys.specs.Chains.{Versions, Chain, versions_in, room_in, with_version}
 
 -- a key that events are about is that of the last one, or one of those before
 last_some : {P : Type 0} (c : Event) (b : Bool) → (b ≡ true → P) → is_some (cond b (Some c) None) ≡ true → P
-last_some c true last some = last refl
-last_some c false last some = absurd (cc)
+last_some c b last some = grind (arith, nat_tests)
 
 first_some : {P : Type 0} (d : Event) (b : Bool) (o p : Option Event) → (is_some (cond b (Some d) o) ≡ true → P) →
     ((is_some o ≡ true → P) → is_some p ≡ true → P) → is_some (cond b (Some d) p) ≡ true → P
-first_some d true o p before rest some = before refl
-first_some d false o p before rest some = rest before some
+first_some d b o p before rest some = grind (arith, nat_tests)
 
 split_some : {P : Type 0} (k : List ℕ) (cs : List Event) (c : Event) → (is_some (event_about k cs) ≡ true → P) → (bytes_eq (key_of_event c) k ≡ true → P) →
     is_some (event_about k (cs ++ c ∷ [])) ≡ true → P
@@ -35,46 +34,19 @@ room_made cs c old new before more room k some =
 pub room_left : (c : Event) (cs : List Event) (old new : List ℕ → ℕ) → event_about (key_of_event c) cs ≡ None →
     ((k : List ℕ) → is_some (event_about k (c ∷ cs)) ≡ true → 0 < old k) → ((k : List ℕ) → bytes_eq (key_of_event c) k ≡ false → new k ≡ old k) →
     (k : List ℕ) → is_some (event_about k cs) ≡ true → 0 < new k
-room_left c cs old new apart room others k some = by_test (bytes_eq (key_of_event c) k) refl
-  where
-    by_test : (b : Bool) → bytes_eq (key_of_event c) k ≡ b → 0 < new k
-    by_test true same =
-        let gone : event_about k cs ≡ None = ap (λ (l : List ℕ). event_about l cs) (sym ((bytes_eq-Decides (key_of_event c) k).0 same)) ∙ apart in
-        let never : false ≡ true = sym (ap is_some gone) ∙ some in absurd (cc)
-    by_test false differs =
-        subst (λ (n : ℕ). 0 < n) (sym (others k differs))
-        (room k (ap (λ b. is_some (cond b (Some c) (event_about k cs))) differs ∙ some))
+room_left c cs old new apart room others k some = grind (arith, nat_tests, bytes_eq-Decides)
 
 -- and the rest of the events adds what is left to add
 pub versions_left : (c : Event) (cs : List Event) (number : ℕ) (old new all : List ℕ → Versions) → event_about (key_of_event c) cs ≡ None →
     ((k : List ℕ) → with_version (is_some (event_about k (c ∷ cs))) number (old k) ≡ all k) →
     ((k : List ℕ) → new k ≡ with_version (bytes_eq (key_of_event c) k) number (old k)) →
     (k : List ℕ) → with_version (is_some (event_about k cs)) number (new k) ≡ all k
-versions_left c cs number old new all apart reported added k = by_test (bytes_eq (key_of_event c) k) refl
-  where
-    by_test : (b : Bool) → bytes_eq (key_of_event c) k ≡ b → with_version (is_some (event_about k cs)) number (new k) ≡ all k
-    by_test true same =
-        let gone : event_about k cs ≡ None = ap (λ (l : List ℕ). event_about l cs) (sym ((bytes_eq-Decides (key_of_event c) k).0 same)) ∙ apart in
-        ap (λ (o : Option Event). with_version (is_some o) number (new k)) gone
-        ∙ added k
-        ∙ ap (λ b. with_version b number (old k)) same
-        ∙ sym (ap (λ b. with_version (is_some (cond b (Some c) (event_about k cs))) number (old k)) same)
-        ∙ reported k
-    by_test false differs =
-        ap (with_version (is_some (event_about k cs)) number) (added k ∙ ap (λ b. with_version b number (old k)) differs)
-        ∙ sym (ap (λ b. with_version (is_some (cond b (Some c) (event_about k cs))) number (old k)) differs)
-        ∙ reported k
+versions_left c cs number old new all apart reported added k = grind (arith, nat_tests, bytes_eq-Decides)
 
 -- a chain that was written under its key, and every other as it was
 module _ (get new : List ℕ → Option Chain) (key : List ℕ) (w : Chain) (written : (k : List ℕ) → new k ≡ cond (bytes_eq key k) (Some w) (get k)) where
   written_case : (P : Option Chain → Option Chain → Type 0) (k : List ℕ) → P (get key) (Some w) → P (get k) (get k) → P (get k) (new k)
-  written_case P k here there = by_test (bytes_eq key k) refl
-    where
-      by_test : (b : Bool) → bytes_eq key k ≡ b → P (get k) (new k)
-      by_test true same =
-          subst (P (get k)) (sym (written k ∙ ap (λ b. cond b (Some w) (get k)) same))
-          (subst (λ (l : List ℕ). P (get l) (Some w)) ((bytes_eq-Decides key k).0 same) here)
-      by_test false differs = subst (P (get k)) (sym (written k ∙ ap (λ b. cond b (Some w) (get k)) differs)) there
+  written_case P k here there = grind (arith, nat_tests, bytes_eq-Decides)
 
   pub versions_kept : w.versions ≡ versions_in (get key) → (k : List ℕ) → versions_in (new k) ≡ versions_in (get k)
   versions_kept same k = written_case (λ o n. versions_in n ≡ versions_in o) k same refl
@@ -85,17 +57,7 @@ module _ (get new : List ℕ → Option Chain) (key : List ℕ) (w : Chain) (wri
   -- what was made of the versions of the key
   pub versions_made : (f : Versions → Versions) → w.versions ≡ f (versions_in (get key)) → (k : List ℕ) →
       versions_in (new k) ≡ cond (bytes_eq key k) (f (versions_in (get k))) (versions_in (get k))
-  versions_made f made k = by_test (bytes_eq key k) refl
-    where
-      by_test : (b : Bool) → bytes_eq key k ≡ b → versions_in (new k) ≡ cond (bytes_eq key k) (f (versions_in (get k))) (versions_in (get k))
-      by_test true same =
-          ap versions_in (written k ∙ ap (λ b. cond b (Some w) (get k)) same)
-          ∙ made
-          ∙ ap (λ (l : List ℕ). f (versions_in (get l))) ((bytes_eq-Decides key k).0 same)
-          ∙ sym (ap (λ b. cond b (f (versions_in (get k))) (versions_in (get k))) same)
-      by_test false differs =
-          ap versions_in (written k ∙ ap (λ b. cond b (Some w) (get k)) differs)
-          ∙ sym (ap (λ b. cond b (f (versions_in (get k))) (versions_in (get k))) differs)
+  versions_made f made k = grind (arith, nat_tests, bytes_eq-Decides)
 
   pub version_added : (number : ℕ) → w.versions ≡ with_version true number (versions_in (get key)) → (k : List ℕ) →
       versions_in (new k) ≡ with_version (bytes_eq key k) number (versions_in (get k))

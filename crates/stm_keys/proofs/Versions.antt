@@ -1,8 +1,8 @@
 -- A chain's versions against their numbers.
-use Rattle.std.proofs.Common.{◌≡◌, ℕ, ◌≤◌, ◌<◌, true, false, List, [], ◌∷◌, length, map, sym, ◌∙◌, ap, subst, arith, ltb}
-use Rattle.std.proofs.Common.{Option, Some, None, IfSome, option_map}
+use Rattle.std.proofs.Common.{◌≡◌, ℕ, ◌≤◌, ◌<◌, true, false, List, [], ◌∷◌, length, map, sym, ◌∙◌, ap, subst, arith, ltb, Option, IfSome, option_map}
 use Rattle.std.specs.List.Sorted.{IsNonDecreasing, IsNonDecreasingBy, IsPartitionPoint}
 use Rattle.std.proofs.lemmas.List.{length-map, get_or-map}
+use Rattle.std.proofs.lemmas.Bool.Decides.{nat_tests}
 
 -- versions rise by what rises once it is read off them
 pub rising_by : {V : Type 0} (f : V → ℕ) (xs : List V) → IsNonDecreasing (map f xs) → IsNonDecreasingBy f xs
@@ -24,5 +24,4 @@ cut_by f (x ∷ xs) count i within cut = (
 
 -- what holds of what is read off a version
 pub if_read : {V : Type 0} (f : V → ℕ) (P : ℕ → Type 0) (o : Option V) → IfSome (option_map f o) P → IfSome o (λ v. P (f v))
-if_read f P None within = tt
-if_read f P (Some v) within = within
+if_read f P o within = grind (arith, nat_tests)

@@ -1,14 +1,13 @@
 -- What the versions of a chain show of its key.
 use Rattle.std.proofs.Common.{◌≡◌, ℕ, ◌+◌, ◌≤◌, ◌<◌, Bool, true, false, List, [], ◌∷◌, ◌++◌, length, map, reverse, take, drop, get_or, Option, Some, None}
-use Rattle.std.proofs.Common.{suc, refl, sym, ◌∙◌, ap, subst, inl, inr}
-use Rattle.std.proofs.Common.{Result, Ok, Err, OnErr, ◌-◌, zero, arith, cond, IfSome, is_some, ne_eqb, eq-eqb, ltb}
+use Rattle.std.proofs.Common.{suc, refl, sym, ◌∙◌, ap, subst, Result, OnErr, ◌-◌, zero, arith, cond, IfSome, is_some, eq-eqb, ltb}
 use Rattle.std.specs.Prelude.{nat_lt, nat_eq, slice_get, string_bytes}
 use Rattle.std.specs.HashMap.{HashMap}
 use Rattle.std.specs.declared.string.String.{String}
 use Rattle.std.specs.Ordering.{nat_cmp}
 use Rattle.std.specs.Cmp.Lexicographic.{slice_cmp}
 use Rattle.std.specs.FinMap.{find}
-use Rattle.std.proofs.lemmas.Bool.{cases_lt, ltb-true, lt-ltb, le-ltb}
+use Rattle.std.proofs.lemmas.Bool.{cases_lt, ltb-true, lt-ltb, le-ltb, Decides.nat_tests}
 use Rattle.std.specs.List.Sorted.{IsNonDecreasing, IsPartitionPoint}
 use Rattle.std.proofs.lemmas.List.{length-map, length-reverse, length-take-le, length-append, reverse-append, get_or_push, get_or_default, take_all, take_more}
 use Rattle.std.proofs.lemmas.List.Sorted.{IsNonDecreasingBy-push, IsNonDecreasingBy-short}
@@ -19,7 +18,6 @@ use Rattle.stm_history.specs.History.{key_after, revisions_up_to}
 use Rattle.stm_history.proofs.HistoryLaws.{all_up_to, last_is_above}
 use Rattle.stm_history.proofs.StatesLaws.{state_found, same_states}
 use Rattle.stm_keys.specs.declared.event.Event.{Event}
-use Rattle.stm_keys.specs.declared.event.Event.TheVariants.{Put as PutEvent, Delete as DeleteEvent}
 use Rattle.stm_keys.specs.Events.{event_about, after_event, change_of_event}
 use Rattle.stm_keys.specs.Keys.{Contents, state_recorded, changes_of, all_events, IsKept}
 use Rattle.stm_keys.specs.Chains.{Versions, Chain, no_versions, versions_in, versions_of, with_version, newest_below, event_from, state_from, found_below, found_now}
@@ -58,24 +56,20 @@ kept_more below count more (n ∷ ns) le all = ((all.0.0, omega (arith, le, all.
 
 kept_with : (b : Bool) (below count : ℕ) (versions : Versions) → AreKept below count versions.numbers →
     AreKept below (suc count) (with_version b (below + suc count) versions).numbers
-kept_with false below count versions all = kept_more below count (suc count) versions.numbers (omega arith) all
-kept_with true below count versions all = ((omega arith, omega arith), kept_more below count (suc count) versions.numbers (omega arith) all)
+kept_with b below count versions all = grind (arith, nat_tests, kept_more)
 
 pub are_kept : (opening : Opening) (key : List ℕ) (recorded : List (List Event)) →
     AreKept opening.number (length recorded) (versions_of opening key recorded).numbers
 are_kept opening key [] = tt
-are_kept opening key (events ∷ older) =
-    kept_with (is_some (event_about key events)) opening.number (length older) (versions_of opening key older) (are_kept opening key older)
+are_kept opening key (events ∷ older) = grind (arith, nat_tests, kept_with, are_kept opening key older)
 
 newest_case : (b : Bool) (below count n : ℕ) (o : Option ℕ) → IsKeptNumber below count n → IfSome o (IsKeptNumber below count) →
     IfSome (cond b (Some n) o) (IsKeptNumber below count)
-newest_case true below count n o here rest = here
-newest_case false below count n o here rest = rest
+newest_case b below count n o here rest = grind (arith, nat_tests)
 
 pub newest_is_kept : (bound below count : ℕ) (numbers : List ℕ) → AreKept below count numbers → IfSome (newest_below bound numbers) (IsKeptNumber below count)
 newest_is_kept bound below count [] all = tt
-newest_is_kept bound below count (n ∷ ns) all =
-    newest_case (nat_lt n bound) below count n (newest_below bound ns) all.0 (newest_is_kept bound below count ns all.1)
+newest_is_kept bound below count (n ∷ ns) all = grind (arith, nat_tests, newest_case, newest_is_kept bound below count ns all.1)
 
 first_is_kept : (below count : ℕ) (numbers : List ℕ) → AreKept below count numbers → IfSome (slice_get numbers 0) (IsKeptNumber below count)
 first_is_kept below count [] all = tt
@@ -85,8 +79,7 @@ first_is_kept below count (n ∷ ns) all = all.0
 newest_first : (below count bound : ℕ) (numbers : List ℕ) → AreKept below count numbers → below + count < bound →
     newest_below bound numbers ≡ slice_get numbers 0
 newest_first below count bound [] all above = refl
-newest_first below count bound (n ∷ ns) all above =
-    ap (λ b. cond b (Some n) (newest_below bound ns)) (lt-ltb n bound (omega (arith, all.0.1, above)))
+newest_first below count bound (n ∷ ns) all above = grind (arith, nat_tests, lt-ltb)
 
 -- the numbers rise from the oldest on
 last_at_most : (below count : ℕ) (numbers : List ℕ) (d : ℕ) → AreKept below count numbers → 0 < length (reverse numbers) →
@@ -108,33 +101,26 @@ rising_with true below count versions all rising =
 
 are_rising : (opening : Opening) (key : List ℕ) (recorded : List (List Event)) → IsNonDecreasing (reverse (versions_of opening key recorded).numbers)
 are_rising opening key [] = IsNonDecreasingBy-short (λ m. m) [] (omega arith)
-are_rising opening key (events ∷ older) =
-    rising_with (is_some (event_about key events)) opening.number (length older) (versions_of opening key older) (are_kept opening key older)
-    (are_rising opening key older)
+are_rising opening key (events ∷ older) = grind (arith, nat_tests, rising_with, are_kept, are_rising opening key older)
 
 -- what a key was before its versions is what it was at the opening
 pub before_with : (b : Bool) (number : ℕ) (versions : Versions) → (with_version b number versions).before ≡ versions.before
-before_with false number versions = refl
-before_with true number versions = refl
+before_with b number versions = grind (arith, nat_tests)
 
 pub before_opened : (opening : Opening) (key : List ℕ) (recorded : List (List Event)) → (versions_of opening key recorded).before ≡ opened_state opening key
 before_opened opening key [] = refl
-before_opened opening key (events ∷ older) =
-    before_with (is_some (event_about key events)) (opening.number + suc (length older)) (versions_of opening key older) ∙ before_opened opening key older
+before_opened opening key (events ∷ older) = grind (arith, nat_tests, before_with, before_opened opening key older)
 
 -- ---- what is found
 
 -- an older revision's events stand where they stood
 skipped : (below : ℕ) (key : List ℕ) (events : List Event) (older : List (List Event)) (o : Option ℕ) → IfSome o (IsKeptNumber below (length older)) →
     event_there below (events ∷ older) key o ≡ event_there below older key o
-skipped below key events older None kept = refl
-skipped below key events older (Some q) kept =
-    ap (λ b. event_about key (cond b events (events_there below q older))) (ne_eqb q (below + suc (length older)) (λ e. absurd (omega (arith, kept.1, e))))
+skipped below key events older o kept = grind (arith, nat_tests)
 
 all_below : (below bound : ℕ) (recorded : List (List Event)) → below + length recorded < bound → recorded_below below bound recorded ≡ recorded
 all_below below bound [] above = refl
-all_below below bound (events ∷ older) above =
-    ap (λ b. cond b (events ∷ older) (recorded_below below bound older)) (lt-ltb (below + suc (length older)) bound (omega (arith, above)))
+all_below below bound (events ∷ older) above = grind (arith, nat_tests, lt-ltb)
 
 -- one more revision, with an event of the key or with none, below the bound or not
 walked_step : (before : Option KeyState) (key : List ℕ) (below bound : ℕ) (events : List Event) (older : List (List Event)) (versions : Versions) →
@@ -144,33 +130,7 @@ walked_step : (before : Option KeyState) (key : List ℕ) (below bound : ℕ) (e
     after_event (event_there below (events ∷ older) key
     (newest_below bound (with_version (is_some (event_about key events)) (below + suc (length older)) versions).numbers)) before
     ≡ state_recorded before key (cond (nat_lt (below + suc (length older)) bound) (events ∷ older) (recorded_below below bound older))
-walked_step before key below bound events older versions reported None about true less =
-    ap (λ (o : Option Event). after_event (event_there below (events ∷ older) key
-    (newest_below bound (with_version (is_some o) (below + suc (length older)) versions).numbers)) before) about
-    ∙ reported
-    ∙ ap (state_recorded before key) (all_below below bound older (omega (arith, ltb-true (below + suc (length older)) bound less)))
-    ∙ sym (ap (λ (o : Option Event). after_event o (state_recorded before key older)) about)
-    ∙ sym (ap (λ b. state_recorded before key (cond b (events ∷ older) (recorded_below below bound older))) less)
-walked_step before key below bound events older versions reported None about false more =
-    ap (λ (o : Option Event). after_event (event_there below (events ∷ older) key
-    (newest_below bound (with_version (is_some o) (below + suc (length older)) versions).numbers)) before) about
-    ∙ reported
-    ∙ sym (ap (λ b. state_recorded before key (cond b (events ∷ older) (recorded_below below bound older))) more)
-walked_step before key below bound events older versions reported (Some e) about true less =
-    ap (λ (o : Option Event). after_event (event_there below (events ∷ older) key
-    (newest_below bound (with_version (is_some o) (below + suc (length older)) versions).numbers)) before) about
-    ∙ ap (λ b. after_event (event_there below (events ∷ older) key (cond b (Some (below + suc (length older))) (newest_below bound versions.numbers))) before) less
-    ∙ ap (λ b. after_event (event_about key (cond b events (events_there below (below + suc (length older)) older))) before)
-    (eq-eqb (below + suc (length older)) (below + suc (length older)) refl)
-    ∙ ap (λ (o : Option Event). after_event o before) about
-    ∙ sym (ap (λ (o : Option Event). after_event o (state_recorded before key older)) about)
-    ∙ sym (ap (λ b. state_recorded before key (cond b (events ∷ older) (recorded_below below bound older))) less)
-walked_step before key below bound events older versions reported (Some e) about false more =
-    ap (λ (o : Option Event). after_event (event_there below (events ∷ older) key
-    (newest_below bound (with_version (is_some o) (below + suc (length older)) versions).numbers)) before) about
-    ∙ ap (λ b. after_event (event_there below (events ∷ older) key (cond b (Some (below + suc (length older))) (newest_below bound versions.numbers))) before) more
-    ∙ reported
-    ∙ sym (ap (λ b. state_recorded before key (cond b (events ∷ older) (recorded_below below bound older))) more)
+walked_step before key below bound events older versions reported o about b less = grind (arith, nat_tests, all_below, ltb-true, eq-eqb)
 
 -- the newest number below a bound leads to what the key was after the revisions below it
 walked : (opening : Opening) (before : Option KeyState) (key : List ℕ) (bound : ℕ) (recorded : List (List Event)) →
@@ -178,21 +138,13 @@ walked : (opening : Opening) (before : Option KeyState) (key : List ℕ) (bound 
     ≡ state_recorded before key (recorded_below opening.number bound recorded)
 walked opening before key bound [] = refl
 walked opening before key bound (events ∷ older) =
-    let found : Option ℕ = newest_below bound (versions_of opening key older).numbers in
-    walked_step before key opening.number bound events older (versions_of opening key older)
-    (ap (λ (o : Option Event). after_event o before) (skipped opening.number key events older found
-    (newest_is_kept bound opening.number (length older) (versions_of opening key older).numbers (are_kept opening key older)))
-    ∙ walked opening before key bound older)
-    (event_about key events) refl (nat_lt (opening.number + suc (length older)) bound) refl
+    grind (arith, nat_tests, walked_step, skipped, newest_is_kept, are_kept, walked opening before key bound older)
 
 -- the same over revisions with the oldest first
 there : (below number : ℕ) (newer : List (List Event)) (events : List Event) (older : List (List Event)) → number ≡ below + suc (length older) →
     events_there below number (newer ++ events ∷ older) ≡ events
 there below number [] events older is = ap (λ b. cond b events (events_there below number older)) (eq-eqb number (below + suc (length older)) is)
-there below number (x ∷ newer) events older is =
-    ap (λ b. cond b x (events_there below number (newer ++ events ∷ older)))
-    (ne_eqb number (below + suc (length (newer ++ events ∷ older))) (λ e. absurd (omega (arith, e, is, length-append newer (events ∷ older)))))
-    ∙ there below number newer events older is
+there below number (x ∷ newer) events older is = grind (arith, nat_tests, length-append, there below number newer events older is)
 
 reported_there : (below : ℕ) (xs : List (List Event)) (key : List ℕ) (o : Option ℕ) → IfSome o (IsKeptNumber below (length xs)) →
     event_from below xs key o ≡ event_there below (reverse xs) key o
@@ -210,57 +162,27 @@ reported_there below xs key (Some q) kept =
 -- what is found below a bound is what a walk over the revisions below it finds
 found_recorded : (opening : Opening) (xs : List (List Event)) (key : List ℕ) (bound : ℕ) (versions : Versions) → versions ≡ versions_of opening key (reverse xs) →
     found_below opening.number xs key bound versions ≡ state_recorded (opened_state opening key) key (recorded_below opening.number bound (reverse xs))
-found_recorded opening xs key bound versions is =
-    let chain : Versions = versions_of opening key (reverse xs) in
-    let kept : AreKept opening.number (length xs) chain.numbers =
-    subst (λ n. AreKept opening.number n chain.numbers) (length-reverse xs) (are_kept opening key (reverse xs)) in
-    ap (found_below opening.number xs key bound) is
-    ∙ ap (λ (o : Option Event). after_event o chain.before)
-    (reported_there opening.number xs key (newest_below bound chain.numbers) (newest_is_kept bound opening.number (length xs) chain.numbers kept))
-    ∙ ap (after_event (event_there opening.number (reverse xs) key (newest_below bound chain.numbers))) (before_opened opening key (reverse xs))
-    ∙ walked opening (opened_state opening key) key bound (reverse xs)
+found_recorded opening xs key bound versions is = grind (arith, nat_tests, length-reverse, are_kept, reported_there, newest_is_kept, before_opened, walked)
 
 -- the revisions below a bound are those up to the number below it
 below_up_to : (opening : Opening) (r bound : ℕ) (recorded : List (List Event)) → bound ≡ r + 1 →
     changes_of (recorded_below opening.number bound recorded) ≡ revisions_up_to opening r (changes_of recorded)
 below_up_to opening r bound [] is = refl
 below_up_to opening r bound (events ∷ older) is =
-    let n : ℕ = opening.number + suc (length older) in
-    let long : length (changes_of older) ≡ length older = length-map older (map change_of_event) in
-    elim (cases_lt r n) [
-      | inl above ↦
-          ap (λ b. changes_of (cond b (events ∷ older) (recorded_below opening.number bound older))) (le-ltb n bound (omega (arith, above, is)))
-          ∙ below_up_to opening r bound older is
-          ∙ sym (last_is_above opening r (map change_of_event events) (changes_of older) (omega (arith, above, long)))
-      | inr within ↦
-          ap (λ b. changes_of (cond b (events ∷ older) (recorded_below opening.number bound older))) (lt-ltb n bound (omega (arith, within, is)))
-          ∙ sym (all_up_to opening r (map change_of_event events ∷ changes_of older) (omega (arith, within, long)))
-    ]
+    grind (arith, nat_tests, length-map, cases_lt, le-ltb, last_is_above, lt-ltb, all_up_to, below_up_to opening r bound older is)
 
 -- and they are recorded as they are without the newer ones
 still_recorded : (opening : Opening) (bound : ℕ) (recorded : List (List Event)) → recorded ≡ all_events opening (changes_of recorded) →
     recorded_below opening.number bound recorded ≡ all_events opening (changes_of (recorded_below opening.number bound recorded))
 still_recorded opening bound [] is = refl
 still_recorded opening bound (events ∷ older) is =
-    by_test (nat_lt (opening.number + suc (length older)) bound) (still_recorded opening bound older (older_recorded opening (events ∷ []) older is))
-  where
-    by_test : (b : Bool) →
-        recorded_below opening.number bound older ≡ all_events opening (changes_of (recorded_below opening.number bound older)) →
-        cond b (events ∷ older) (recorded_below opening.number bound older)
-        ≡ all_events opening (changes_of (cond b (events ∷ older) (recorded_below opening.number bound older)))
-    by_test true rest = is
-    by_test false rest = rest
+    grind (arith, nat_tests, older_recorded, still_recorded opening bound older (older_recorded opening (events ∷ []) older is))
 
 -- the newest number below a bound leads to what the key was at the revision below it
 pub found_then : (opening : Opening) (r : ℕ) (xs : List (List Event)) (chains : List ℕ → Option Chain) (key : List ℕ) (bound : ℕ) →
     IsKept opening (reverse xs) chains → bound ≡ r + 1 →
     found_below opening.number xs key bound (versions_in (chains key)) ≡ key_after opening key (revisions_up_to opening r (changes_of (reverse xs)))
-found_then opening r xs chains key bound kept is =
-    let part : List (List Event) = recorded_below opening.number bound (reverse xs) in
-    found_recorded opening xs key bound (versions_in (chains key)) (kept.versions key)
-    ∙ ap (state_recorded (opened_state opening key) key) (still_recorded opening bound (reverse xs) kept.events)
-    ∙ recorded_state opening key (changes_of part)
-    ∙ ap (key_after opening key) (below_up_to opening r bound (reverse xs) is)
+found_then opening r xs chains key bound kept is = grind (arith, nat_tests, found_recorded, still_recorded, recorded_state, below_up_to)
 
 -- the newest number of a key's chain leads to what the key is
 pub found_all : (opening : Opening) (xs : List (List Event)) (chains : List ℕ → Option Chain) (key : List ℕ) → IsKept opening (reverse xs) chains →
@@ -278,17 +200,7 @@ found_all opening xs chains key kept =
 -- the chains that a key store keeps can be searched
 pub searchable : (opening : Opening) (xs : List (List Event)) (chains : List ℕ → Option Chain) → IsKept opening (reverse xs) chains →
     AreSearchable chains opening.number xs
-searchable opening xs chains kept = record {
-  rising = λ key. subst (λ (v : Versions). IsNonDecreasing (reverse v.numbers)) (sym (kept.versions key)) (are_rising opening key (reverse xs));
-  within = λ key bound. newest_is_kept bound opening.number (length xs) (versions_in (chains key)).numbers (all key);
-  newest = λ key. first_is_kept opening.number (length xs) (versions_in (chains key)).numbers (all key);
-  apart = λ place within. apart_there xs place kept.shaped within;
-}
-  where
-    all : (key : List ℕ) → AreKept opening.number (length xs) (versions_in (chains key)).numbers
-    all key =
-        subst (λ (v : Versions). AreKept opening.number (length xs) v.numbers) (sym (kept.versions key))
-        (subst (λ n. AreKept opening.number n (versions_of opening key (reverse xs)).numbers) (length-reverse xs) (are_kept opening key (reverse xs)))
+searchable opening xs chains kept = grind (arith, nat_tests, are_rising, newest_is_kept, first_is_kept, apart_there, length-reverse, are_kept)
 
 -- a search by halves finds the newest number below a bound
 search_case : (xs : List ℕ) (bound : ℕ) (k : ℕ) → k < length xs → ltb (get_or xs k 0) bound ≡ false →
@@ -322,8 +234,7 @@ one_found xs bound m number within is cut =
 
 reported_state : (opening : Opening) (recorded : List (List Event)) (chains : List ℕ → Option Chain) (key : List ℕ) → IsKept opening recorded chains →
     key_after opening key (changes_of recorded) ≡ state_recorded (opened_state opening key) key recorded
-reported_state opening recorded chains key kept =
-    sym (ap (state_recorded (opened_state opening key) key) kept.events ∙ recorded_state opening key (changes_of recorded))
+reported_state opening recorded chains key kept = grind (arith, nat_tests, recorded_state)
 
 -- a key without a version was absent at the opening, and never changed
 pub unchanged_key : (opening : Opening) (recorded : List (List Event)) (chains : List ℕ → Option Chain) (key : List ℕ) → IsKept opening recorded chains →
@@ -342,13 +253,7 @@ unchanged_key opening recorded chains key kept none =
 -- more room leaves what is kept
 pub kept_with_room : (opening : Opening) (recorded : List (List Event)) (chains next : List ℕ → Option Chain) → IsKept opening recorded chains →
     ((key : List ℕ) → versions_in (next key) ≡ versions_in (chains key)) → IsKept opening recorded next
-kept_with_room opening recorded chains next kept same = record {
-  positive = kept.positive;
-  bounded = kept.bounded;
-  shaped = kept.shaped;
-  events = kept.events;
-  versions = λ key. same key ∙ kept.versions key;
-}
+kept_with_room opening recorded chains next kept same = grind (arith, nat_tests)
 
 -- and so do the chains over revisions that are the same
 pub reported_now : (opening : Opening) (xs : List (List Event)) (chains : List ℕ → Option Chain) (key : List ℕ) → IsKept opening (reverse xs) chains →
@@ -357,9 +262,7 @@ reported_now opening xs chains key kept = found_all opening xs chains key kept
 
 -- one more recorded revision leaves present what its events leave
 left_case : (o : Option Event) (s : Option KeyState) → is_left o (is_some s) ≡ is_some (after_event o s)
-left_case None s = refl
-left_case (Some (PutEvent key state)) s = refl
-left_case (Some (DeleteEvent key revision)) s = refl
+left_case o s = grind (arith, nat_tests)
 
 pub first_after : (opening : Opening) (xs ys : List (List Event)) (chains next : List ℕ → Option Chain) (events : List Event) (n : ℕ) (names : List (List ℕ)) →
     IsKept opening (reverse xs) chains → IsKept opening (reverse ys) next → ys ≡ xs ++ events ∷ [] →
@@ -402,16 +305,7 @@ below_count opening opened floor xs n index names v is first below =
 pub view_kept : (opening next : Opening) (opened floor : ℕ) (xs ys : List (List Event)) (keys more : List (List ℕ)) (v : Contents) → next ≡ opening → ys ≡ xs →
     present_among (λ key. key_after opening key (changes_of (reverse xs))) more ≡ present_among (λ key. key_after opening key (changes_of (reverse xs))) keys →
     seen opening opened floor xs keys ≡ v → seen next opened floor ys more ≡ v
-view_kept opening next opened floor xs ys keys more v alike same present is =
-    ap (λ (o : Opening). seen o opened floor ys more) alike
-    ∙ ap (λ (l : List (List Event)). seen opening opened floor l more) same
-    ∙ ap (λ (p : List (List ℕ × KeyState)). let c : Contents = record {
-      history = record { opening = opening; revisions = changes_of (reverse xs) };
-      present = p;
-      opened = opened;
-      floor = floor;
-    } in c) present
-    ∙ is
+view_kept opening next opened floor xs ys keys more v alike same present is = grind (arith, nat_tests)
 
 -- what a store with these chains opens with is what they keep of before
 module _ {Y S : Type 0} (m : HashMap (String Y) Chain S) (below : ℕ) where
@@ -430,5 +324,4 @@ opening_kept m n below same =
 
 -- what holds anyway holds where a call is refused
 pub on_any : {T E P : Type 0} (r : Result T E) → P → OnErr r P
-on_any (Ok value) holds = tt
-on_any (Err cause) holds = holds
+on_any r holds = grind (arith, nat_tests)

@@ -1,9 +1,10 @@
 -- The changes of a branch: when there are any, that they are about distinct keys, and that they are the effect of its writes.
-use Rattle.std.proofs.Common.{◌≡◌, ℕ, ◌+◌, Bool, true, false, cond, List, [], ◌∷◌, ◌++◌, map, Option, Some, None, refl, sym, ◌∙◌, ap, subst, append_assoc}
+use Rattle.std.proofs.Common.{◌≡◌, ℕ, ◌+◌, Bool, true, false, cond, List, [], ◌∷◌, ◌++◌, map, Option, Some, None, refl, sym, ◌∙◌, ap, append_assoc, arith}
 use Rattle.std.specs.Prelude.{bytes_eq, is_some, ◌||◌, filter}
 use Rattle.std.specs.List.{list_any}
 use Rattle.std.proofs.lemmas.List.{append-nil}
 use Rattle.std.proofs.lemmas.Slice.Eq.{bytes_eq-Decides}
+use Rattle.std.proofs.lemmas.Bool.Decides.{nat_tests}
 use Rattle.stm_history.specs.declared.change.Change.{Change}
 use Rattle.stm_history.specs.declared.change.Change.TheVariants.{Put as PutChange, Del as DelChange}
 use Rattle.stm_history.specs.declared.key_state.KeyState.{KeyState}
@@ -25,12 +26,8 @@ stays_changed h c cs (op ∷ ops) =
       | Some d ↦ stays_changed h c (cs ++ d ∷ []) ops
     ]
 
-changed_by : (h : History) (ops : List Op) (m : Option Change) → is_some m ≡ true → has_changes (changes_copied h (with_copied [] m) ops) ≡ true
-changed_by h ops None made = cc
-changed_by h ops (Some c) made = stays_changed h c [] ops
-
 pub changed_at_first : (h : History) (op : Op) (ops : List Op) → is_some (change_copied h [] op) ≡ true → has_changes (changes_copied h [] (op ∷ ops)) ≡ true
-changed_at_first h op ops made = changed_by h ops (change_copied h [] op) made
+changed_at_first h op ops made = grind (arith, nat_tests, stays_changed)
 
 -- one of two changes of a key, the earlier one where there is one
 abbrev pub earlier : Option Change → Option Change → Option Change
@@ -41,13 +38,11 @@ abbrev pub alone : List ℕ → Change → Option Change
 alone key c = cond (bytes_eq (key_of c) key) (Some c) None
 
 earlier_case : (b : Bool) (c : Change) (d later : Option Change) → cond b (Some c) (earlier d later) ≡ earlier (cond b (Some c) d) later
-earlier_case true c d later = refl
-earlier_case false c d later = refl
+earlier_case b c d later = grind (arith, nat_tests)
 
 pub change_of-push : (key : List ℕ) (changes : List Change) (c : Change) → change_of key (changes ++ c ∷ []) ≡ earlier (change_of key changes) (alone key c)
 change_of-push key [] c = refl
-change_of-push key (d ∷ ds) c =
-    ap (cond (bytes_eq (key_of d) key) (Some d)) (change_of-push key ds c) ∙ earlier_case (bytes_eq (key_of d) key) d (change_of key ds) (alone key c)
+change_of-push key (d ∷ ds) c = grind (arith, nat_tests, earlier_case, change_of-push key ds c)
 
 -- equal bytes, from either side
 pub same_text : (a b : List ℕ) → bytes_eq a b ≡ true → a ≡ b
@@ -58,15 +53,10 @@ equal_text a b same = (bytes_eq-Decides a b).1 same
 
 -- a key that no change is about is another than the key of each
 pub apart_case : (b : Bool) (c : Change) (d : Option Change) → cond b (Some c) d ≡ None → (b ≡ false) × (d ≡ None)
-apart_case true c d none = cc
-apart_case false c d none = (refl, none)
-
-other_way : (a b : List ℕ) (t u : Bool) → bytes_eq a b ≡ t → bytes_eq b a ≡ u → t ≡ false → u ≡ false
-other_way a b t true is back apart = cc (equal_text a b (sym (same_text b a back)))
-other_way a b t false is back apart = refl
+apart_case b c d none = grind (arith, nat_tests)
 
 pub apart_back : (a b : List ℕ) → bytes_eq a b ≡ false → bytes_eq b a ≡ false
-apart_back a b apart = other_way a b (bytes_eq a b) (bytes_eq b a) refl refl apart
+apart_back a b apart = grind (arith, nat_tests, equal_text, same_text)
 
 pub HasDistinctKeys-push : (changes : List Change) (c : Change) → HasDistinctKeys changes → change_of (key_of c) changes ≡ None →
     HasDistinctKeys (changes ++ c ∷ [])
@@ -98,38 +88,21 @@ abbrev pub all_fit : List Change → List Op → Type 0
 all_fit changes [] = Unit {0}
 all_fit changes (op ∷ ops) = fits changes op × all_fit changes ops
 
--- another key's change leaves what fits
-fits_beside : (b : Bool) (changes : List Change) (key : List ℕ) (c : Change) → bytes_eq (key_of c) key ≡ false →
-    change_of key (changes ++ c ∷ []) ≡ earlier (change_of key changes) None
-fits_beside b changes key c apart = change_of-push key changes c ∙ ap (λ t. earlier (change_of key changes) (cond t (Some c) None)) apart
-
 pub earlier-none : (o : Option Change) → earlier o None ≡ o
-earlier-none None = refl
-earlier-none (Some c) = refl
+earlier-none o = grind (arith, nat_tests)
 
 beside : (changes : List Change) (key : List ℕ) (c : Change) → bytes_eq (key_of c) key ≡ false → change_of key (changes ++ c ∷ []) ≡ change_of key changes
-beside changes key c apart = fits_beside false changes key c apart ∙ earlier-none (change_of key changes)
+beside changes key c apart = grind (arith, nat_tests, earlier-none, change_of-push)
 
 put_fits : (changes : List Change) (key value : List ℕ) (lease : ℕ) (later : Op) → fits changes later → clash (Put key value lease) later ≡ false →
     fits (changes ++ PutChange key value lease ∷ []) later
-put_fits changes key value lease (Get k r) before apart = tt
-put_fits changes key value lease (Put k v l) before apart = beside changes k (PutChange key value lease) apart ∙ before
-put_fits changes key value lease (Del k) before apart = subst deleted_only (sym (beside changes k (PutChange key value lease) apart)) before
-
-deletion_only : (b : Bool) (o : Option Change) (key : List ℕ) → deleted_only o → deleted_only (earlier o (cond b (Some (DelChange key)) None))
-deletion_only true None key before = tt
-deletion_only false None key before = tt
-deletion_only b (Some c) key before = before
+put_fits changes key value lease later before apart = grind (arith, nat_tests, beside)
 
 del_fits : (changes : List Change) (key : List ℕ) (later : Op) → fits changes later → clash (Del key) later ≡ false → fits (changes ++ DelChange key ∷ []) later
-del_fits changes key (Get k r) before apart = tt
-del_fits changes key (Put k v l) before apart = beside changes k (DelChange key) apart ∙ before
-del_fits changes key (Del k) before apart =
-    subst deleted_only (sym (change_of-push k changes (DelChange key))) (deletion_only (bytes_eq key k) (change_of k changes) key before)
+del_fits changes key later before apart = grind (arith, nat_tests, beside, change_of-push)
 
 pub neither : (a b : Bool) → (a || b) ≡ false → (a ≡ false) × (b ≡ false)
-neither true b h = cc
-neither false b h = (refl, h)
+neither a b h = grind (arith, nat_tests)
 
 pub puts_fit : (changes : List Change) (key value : List ℕ) (lease : ℕ) (ops : List Op) → all_fit changes ops
     → list_any (clash (Put key value lease)) ops ≡ false →
@@ -150,9 +123,7 @@ dels_fit changes key (op ∷ ops) before apart =
 -- a deletion of a key that the copy has is the key's first change
 pub first_deletion : (n : ℕ) (o : Option Change) (before s : Option KeyState) (k : KeyState) → deleted_only o → after_change n o before ≡ s → s ≡ Some k
     → o ≡ None
-first_deletion n None before s k only is some = refl
-first_deletion n (Some (PutChange key value lease)) before s k only is some = absurd only
-first_deletion n (Some (DelChange key)) before s k only is some = cc
+first_deletion n o before s k only is some = grind (arith, nat_tests)
 
 distinct_on : (h : History) (changes : List Change) (ops : List Op) → HasDistinctKeys changes → all_fit changes ops → has_clash ops ≡ false →
     HasDistinctKeys (changes_copied h changes ops)

@@ -1,42 +1,30 @@
 -- A look-up through the changes of a branch is the branch's state, where no two operations clash.
-use Rattle.std.proofs.Common.{◌≡◌, ℕ, ◌+◌, Bool, true, false, cond, List, [], ◌∷◌, Option, Some, None, refl, sym, ◌∙◌, ap, subst}
-use Rattle.std.specs.Prelude.{bytes_eq}
+use Rattle.std.proofs.Common.{◌≡◌, ℕ, ◌+◌, false, List, [], ◌∷◌, Option, Some, None, refl, ap, arith}
 use Rattle.std.specs.List.{list_any}
+use Rattle.std.proofs.lemmas.Bool.Decides.{nat_tests}
 use Rattle.stm_history.specs.declared.change.Change.{Change}
 use Rattle.stm_history.specs.declared.change.Change.TheVariants.{Put as PutChange, Del as DelChange}
-use Rattle.stm_history.specs.declared.key_state.KeyState.{KeyState}
-use Rattle.stm_history.specs.History.{History, now, key_now, key_of, change_of, after_change, HasDistinctKeys}
+use Rattle.stm_history.specs.History.{History, now, key_now, key_of, change_of, HasDistinctKeys}
 use Rattle.stm_outcome.specs.declared.txn.Op.{Op}
 use Rattle.stm_outcome.specs.declared.txn.Op.TheVariants.{Get, Put, Del}
 use Rattle.stm_outcome.specs.declared.answer.FailedCompare.{FailedCompare}
 use Rattle.stm_outcome.specs.Operations.{clash}
 use Rattle.stm_outcome.specs.Checks.{has_clash}
-use Rattle.stm_outcome.specs.Branches.{Progress, begun, with_change, change_made, with_change_made, op_answer, progress_after, answers_after, changes_of_branch}
-use Rattle.stm_outcome.specs.Branches.{deletion_of, branch_refusal}
-use Rattle.stm_outcome.specs.LookUps.{copy, with_copied, change_copied, answer_copied, changes_copied, answers_copied, outcome_copied}
+use Rattle.stm_outcome.specs.Branches.{Progress, begun, with_change, change_made, with_change_made, progress_after, answers_after, changes_of_branch}
+use Rattle.stm_outcome.specs.Branches.{deletion_of}
+use Rattle.stm_outcome.specs.LookUps.{copy, with_copied, change_copied, changes_copied, answers_copied, outcome_copied}
 use Rattle.stm_outcome.specs.Laws.{LookUpIsTheState}
-use Rattle.stm_outcome.specs.Outcome.{unless, finished, branch_outcome}
+use Rattle.stm_outcome.specs.Outcome.{branch_outcome}
 use Rattle.stm_outcome.specs.Terms.{Terms}
 use Rattle.stm_outcome.proofs.Branching.{earlier, earlier-none, change_of-push, same_text, neither, all_fit, HasDistinctKeys-push, puts_fit, dels_fit}
 use Rattle.stm_outcome.proofs.Branching.{first_deletion, nothing_before}
-
--- one more change of a key that had none
-push_case : (b : Bool) (n : ℕ) (c : Change) (before : Option Change) (s now_is : Option KeyState) → (b ≡ true → before ≡ None)
-    → s ≡ after_change n before now_is →
-    cond b (after_change n (Some c) s) s ≡ after_change n (earlier before (cond b (Some c) None)) now_is
-push_case true n c before s now_is first is =
-    ap (after_change n (Some c)) (is ∙ ap (λ o. after_change n o now_is) (first refl)) ∙ ap (λ o. after_change n (earlier o (Some c)) now_is) (sym (first refl))
-push_case false n c before s now_is first is = is ∙ ap (λ o. after_change n o now_is) (sym (earlier-none before))
 
 -- what each key is by now is what the look-up finds
 abbrev InStep : History → Progress → Type 0
 InStep h p = (key : List ℕ) → p.state key ≡ copy h p.changes key
 
 pushed : (h : History) (p : Progress) (c : Change) → InStep h p → change_of (key_of c) p.changes ≡ None → InStep h (with_change h p c)
-pushed h p c step first key =
-    push_case (bytes_eq (key_of c) key) (now h + 1) c (change_of key p.changes) (p.state key) (key_now h key)
-    (λ same. subst (λ k. change_of k p.changes ≡ None) (same_text (key_of c) key same) first) (step key)
-    ∙ ap (λ o. after_change (now h + 1) o (key_now h key)) (sym (change_of-push key p.changes c))
+pushed h p c step first key = grind (arith, nat_tests, same_text, change_of-push, earlier, earlier-none)
 
 -- the rest of a branch, run either way
 record Agrees (h : History) (p : Progress) (ops : List Op) : Type 0 where
@@ -44,31 +32,12 @@ record Agrees (h : History) (p : Progress) (ops : List Op) : Type 0 where
   answers : answers_after h p ops ≡ answers_copied h p.changes ops
   step : InStep h (progress_after h p ops)
 
-one_answer : (h : History) (p : Progress) (op : Op) → InStep h p → op_answer h p op ≡ answer_copied h p.changes op
-one_answer h p (Get key rev) step = rw (step key) refl
-one_answer h p (Put key value lease) step = refl
-one_answer h p (Del key) step = rw (step key) refl
-
 one_change : (h : History) (p : Progress) (op : Op) → InStep h p → change_made p op ≡ change_copied h p.changes op
-one_change h p (Get key rev) step = refl
-one_change h p (Put key value lease) step = refl
-one_change h p (Del key) step = ap (deletion_of key) (step key)
+one_change h p op step = grind (arith, nat_tests)
 
 with_one : (h : History) (p : Progress) (op : Op) (ops : List Op) (made : Option Change) → InStep h p → change_copied h p.changes op ≡ made →
     Agrees h (with_change_made h p made) ops → (with_change_made h p made).changes ≡ with_copied p.changes made → Agrees h p (op ∷ ops)
-with_one h p op ops made step is rest changed =
-    let same : change_made p op ≡ made = one_change h p op step ∙ is in
-    record {
-      changes =
-          ap (λ m. (progress_after h (with_change_made h p m) ops).changes) same
-          ∙ rest.changes ∙ ap (λ cs. changes_copied h cs ops) changed ∙ ap (λ m. changes_copied h (with_copied p.changes m) ops) (sym is);
-      answers =
-          ap (λ m. op_answer h p op ∷ answers_after h (with_change_made h p m) ops) same
-          ∙ ap (λ a. a ∷ answers_after h (with_change_made h p made) ops) (one_answer h p op step)
-          ∙ ap (λ l. answer_copied h p.changes op ∷ l) (rest.answers ∙ ap (λ cs. answers_copied h cs ops) changed
-          ∙ ap (λ m. answers_copied h (with_copied p.changes m) ops) (sym is));
-      step = subst (λ m. InStep h (progress_after h (with_change_made h p m) ops)) (sym same) rest.step;
-    }
+with_one h p op ops made step is rest changed = grind (arith, nat_tests, one_change)
 
 agrees : (h : History) (p : Progress) (ops : List Op) → InStep h p → HasDistinctKeys p.changes → all_fit p.changes ops → has_clash ops ≡ false → Agrees h p ops
 agrees h p [] step distinct fit apart = record { changes = refl; answers = refl; step = step }
@@ -102,10 +71,7 @@ changes_agree h ops apart = (whole h ops apart).changes
 
 pub by_look_up : (terms : Terms) (failed : Option FailedCompare) (ops : List Op) → has_clash ops ≡ false →
     branch_outcome terms failed ops ≡ outcome_copied terms failed ops
-by_look_up terms failed ops apart =
-    let h : History = terms.history in
-    ap (λ cs. unless (branch_refusal terms ops) (finished h failed cs (answers_after h (begun h) ops))) (whole h ops apart).changes
-    ∙ ap (λ l. unless (branch_refusal terms ops) (finished h failed (changes_copied h [] ops) l)) (whole h ops apart).answers
+by_look_up terms failed ops apart = grind (arith, nat_tests, whole)
 
 pub look_up_is_the_state : LookUpIsTheState
 look_up_is_the_state h ops key apart = (whole h ops apart).step key

@@ -3,6 +3,7 @@ use Rattle.std.proofs.Common.{◌≡◌, ◌∙◌, ◌+◌, ◌<◌, ◌≤◌,
 use Rattle.std.proofs.Common.{option_map, refl, sym, ap, arith}
 use Rattle.std.specs.List.{list_any}
 use Rattle.std.specs.Option.{option_or}
+use Rattle.std.proofs.lemmas.Bool.Decides.{nat_tests}
 use Rattle.stm_visited.specs.Search.{Steps, first_of, bad_at, goes_on, if_whole, shown_at, total, count_at}
 use Rattle.stm_visited.specs.Alike.{Respects}
 use Rattle.stm_visited.specs.First.{CanBeFirst, FirstIsEnough}
@@ -18,11 +19,7 @@ nothing_found {A} {B} f (x ∷ xs) none = ap (λ (o : Option B). option_or o (fi
 one_passes : {A : Type 0} (f : A → Bool) (xs : List A) (k : ℕ) (x : A) → k < length xs → get_or xs k x ≡ x → f x ≡ true → list_any f xs ≡ true
 one_passes f [] k x within is passes = absurd (omega (arith, within))
 one_passes f (y ∷ ys) zero x within is passes = ap (λ b. b || list_any f ys) (ap f is ∙ passes)
-one_passes f (y ∷ ys) (suc k) x within is passes = ap (λ b. f y || b) (one_passes f ys k x (omega (arith, within)) is passes) ∙ or_true (f y)
-  where
-    or_true : (a : Bool) → (a || true) ≡ true
-    or_true true = refl
-    or_true false = refl
+one_passes f (y ∷ ys) (suc k) x within is passes = grind (arith, nat_tests, one_passes f ys k x (omega (arith, within)) is passes)
 
 some_passes : {A : Type 0} (f : A → Bool) (xs : List A) → list_any f xs ≡ true → (x : A) × Contains xs x × (f x ≡ true)
 some_passes f [] is = absurd (cc)
@@ -37,10 +34,7 @@ one_of_all f (y ∷ ys) zero x within is = let e : f y ≡ f x = ap f is in omeg
 one_of_all f (y ∷ ys) (suc k) x within is = let rest : f x ≤ total f ys = one_of_all f ys k x (omega (arith, within)) is in omega (arith, rest)
 
 both_ways : (a b : Bool) → (a ≡ true → b ≡ true) → (b ≡ true → a ≡ true) → a ≡ b
-both_ways true true there back = refl
-both_ways true false there back = sym (there refl)
-both_ways false true there back = back refl
-both_ways false false there back = refl
+both_ways a b there back = grind (arith, nat_tests)
 
 -- ---- no rule is asked
 
@@ -68,8 +62,7 @@ goes_first {P} {M} {O} s Alike IsFirst re can (suc n) m p first on =
 -- ---- what whole schedules come to they come to after it
 
 absurd_whole : {M O : Type 0} (ms : List M) (m : M) (shows it : O) → Contains ms m → Contains (if_whole ms shows) it → ⊥
-absurd_whole [] m shows it there c = omega (arith, there.1)
-absurd_whole (x ∷ ms) m shows it there c = let none : c.0 < 0 = c.1 in omega (arith, none)
+absurd_whole ms m shows it there c = grind (arith, nat_tests)
 
 shown_first : {P M O : Type 0} (s : Steps P M O) (Alike : P → P → Type 0) (IsFirst : M → P → Type 0) → Respects P M O s Alike → CanBeFirst P M O s Alike IsFirst →
     (n : ℕ) (m : M) (p : P) (it : O) → IsFirst m p → Contains (shown_at s (suc n) p) it → Contains (shown_at s n (s.after m p)) it

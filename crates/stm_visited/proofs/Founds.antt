@@ -1,36 +1,30 @@
 -- What is found first among the things of a list.
-use Rattle.std.proofs.Common.{◌≡◌, ℕ, zero, suc, ◌+◌, ◌<◌, Bool, true, false, ◌||◌, List, [], ◌∷◌, ◌++◌, length, get_or, map, Contains, Option, Some, None}
+use Rattle.std.proofs.Common.{◌≡◌, ℕ, zero, suc, ◌+◌, ◌<◌, Bool, false, ◌||◌, List, [], ◌∷◌, ◌++◌, length, get_or, map, Contains, Option, None}
 use Rattle.std.proofs.Common.{option_map, flat_map, inl, inr, refl, sym, ◌∙◌, ap, subst, arith}
 use Rattle.std.proofs.lemmas.Grind.{flat_map-append}
 use Rattle.std.proofs.lemmas.List.Elements.{Contains-append_left, Contains-append_right, Contains-append_cases}
 use Rattle.std.specs.List.{list_any}
 use Rattle.std.specs.Option.{option_or}
+use Rattle.std.proofs.lemmas.Bool.Decides.{nat_tests}
 use Rattle.stm_visited.specs.Search.{first_of, total}
 
 or_assoc : {A : Type 0} (a b c : Option A) → option_or (option_or a b) c ≡ option_or a (option_or b c)
-or_assoc None b c = refl
-or_assoc (Some x) b c = refl
-
-or_none : {A : Type 0} (a : Option A) → option_or a None ≡ a
-or_none None = refl
-or_none (Some x) = refl
+or_assoc a b c = grind (arith, nat_tests)
 
 map_or : {A B : Type 0} (g : A → B) (a b : Option A) → option_map g (option_or a b) ≡ option_or (option_map g a) (option_map g b)
-map_or g None b = refl
-map_or g (Some x) b = refl
+map_or g a b = grind (arith, nat_tests)
 
 pub first_append : {A B : Type 0} (f : A → Option B) (xs ys : List A) → first_of f (xs ++ ys) ≡ option_or (first_of f xs) (first_of f ys)
 first_append f [] ys = refl
 first_append f (x ∷ xs) ys = ap (option_or (f x)) (first_append f xs ys) ∙ sym (or_assoc (f x) (first_of f xs) (first_of f ys))
 
 pub first_one : {A B : Type 0} (f : A → Option B) (x : A) → first_of f (x ∷ []) ≡ f x
-first_one f x = or_none (f x)
+first_one f x = grind (arith, nat_tests)
 
 -- the same is found where each comes to the same
 pub first_same : {A B : Type 0} (f g : A → Option B) (xs : List A) → ((x : A) → f x ≡ g x) → first_of f xs ≡ first_of g xs
 first_same f g [] same = refl
-first_same {A} {B} f g (x ∷ xs) same =
-    ap (λ (o : Option B). option_or o (first_of f xs)) (same x) ∙ ap (option_or (g x)) (first_same f g xs same)
+first_same {A} {B} f g (x ∷ xs) same = grind (arith, nat_tests, first_same f g xs same)
 
 -- what is found, changed, is what is found changed
 pub first_mapped : {A B C : Type 0} (h : B → C) (f : A → Option B) (xs : List A) → option_map h (first_of f xs) ≡ first_of (λ (x : A). option_map h (f x)) xs
@@ -46,12 +40,10 @@ first_flat g f [] = refl
 first_flat g f (x ∷ xs) = first_append f (g x) (flat_map g xs) ∙ ap (option_or (first_of f (g x))) (first_flat g f xs)
 
 or_left : {A : Type 0} (a b : Option A) → option_or a b ≡ None → a ≡ None
-or_left None b is = refl
-or_left (Some x) b is = absurd (cc)
+or_left a b is = grind (arith, nat_tests)
 
 or_right : {A : Type 0} (a b : Option A) → option_or a b ≡ None → b ≡ None
-or_right None b is = is
-or_right (Some x) b is = absurd (cc)
+or_right a b is = grind (arith, nat_tests)
 
 none_at : {A B : Type 0} (f : A → Option B) (xs : List A) (x : A) (k : ℕ) → k < length xs → get_or xs k x ≡ x → first_of f xs ≡ None → f x ≡ None
 none_at f [] x k within is none = absurd (omega arith)
@@ -64,12 +56,10 @@ none_found f xs x c none = none_at f xs x c.0 c.1 c.2 none
 -- ---- some pass a test
 
 or_of_either : (a b c : Bool) → ((a || b) || c) ≡ (a || (b || c))
-or_of_either true b c = refl
-or_of_either false b c = refl
+or_of_either a b c = grind (arith, nat_tests)
 
 pub or_false : (a : Bool) → (a || false) ≡ a
-or_false true = refl
-or_false false = refl
+or_false a = grind (arith, nat_tests)
 
 pub any_append : {A : Type 0} (f : A → Bool) (xs ys : List A) → list_any f (xs ++ ys) ≡ (list_any f xs || list_any f ys)
 any_append f [] ys = refl
@@ -88,12 +78,10 @@ any_flat g f [] = refl
 any_flat g f (x ∷ xs) = any_append f (g x) (flat_map g xs) ∙ ap (λ b. list_any f (g x) || b) (any_flat g f xs)
 
 any_left : (a b : Bool) → (a || b) ≡ false → a ≡ false
-any_left true b is = absurd (cc)
-any_left false b is = refl
+any_left a b is = grind (arith, nat_tests)
 
 any_right : (a b : Bool) → (a || b) ≡ false → b ≡ false
-any_right true b is = absurd (cc)
-any_right false b is = is
+any_right a b is = grind (arith, nat_tests)
 
 none_pass : {A : Type 0} (f : A → Bool) (xs : List A) (x : A) (k : ℕ) → k < length xs → get_or xs k x ≡ x → list_any f xs ≡ false → f x ≡ false
 none_pass f [] x k within is none = absurd (omega arith)

@@ -1,11 +1,12 @@
 -- Alike places, and layers of places.
-use Rattle.std.proofs.Common.{◌≡◌, ◌↔◌, ◌≤◌, inl, inr, subst, flat_map, ℕ, zero, suc, ◌+◌, Bool, true, false, ◌||◌, cond, List, [], ◌∷◌, ◌++◌, ◌<◌, length, get_or, Contains, Option, Some, None}
+use Rattle.std.proofs.Common.{◌≡◌, ◌↔◌, ◌≤◌, inl, inr, subst, flat_map, ℕ, zero, suc, ◌+◌, Bool, false, ◌||◌, cond, List, [], ◌∷◌, ◌++◌, length, Contains, Option, Some, None}
 use Rattle.std.proofs.Common.{option_map, refl, sym, ◌∙◌, ap, arith, append_assoc}
 use Rattle.std.proofs.lemmas.Grind.{flat_map-append}
 use Rattle.std.proofs.lemmas.List.Elements.{Contains-append_left, Contains-append_right, Contains-append_cases}
 use Rattle.std.proofs.lemmas.List.Folds.{flat_map-map}
 use Rattle.std.specs.List.{list_any}
 use Rattle.std.specs.Option.{option_or}
+use Rattle.std.proofs.lemmas.Bool.Decides.{nat_tests}
 use Rattle.stm_visited.specs.Search.{Steps, Leads, first_of, bad_at, first_bad, goes_on, if_whole, shown_at, total, count_at}
 use Rattle.stm_visited.specs.Alike.{Respects, AlikeAreSame}
 use Rattle.stm_visited.specs.Layers.{Reached, bad_from, bad_among, on_among, shown_among, count_among, StandFor, AreEnough, reached_by, reached_by_each, moved_from}
@@ -25,9 +26,7 @@ alike_bad {P} {M} {O} s Alike r (suc n) p q a =
 
 alike_first : {P M O : Type 0} (s : Steps P M O) (Alike : P → P → Type 0) → Respects P M O s Alike → (n : ℕ) (p q : P) → Alike p q → first_bad s n p ≡ first_bad s n q
 alike_first s Alike r zero p q a = alike_bad s Alike r zero p q a
-alike_first {P} {M} {O} s Alike r (suc n) p q a =
-    ap (λ (o : Option (List M)). option_or o (bad_at s (suc n) p)) (alike_first s Alike r n p q a)
-    ∙ ap (option_or (first_bad s n q)) (alike_bad s Alike r (suc n) p q a)
+alike_first {P} {M} {O} s Alike r (suc n) p q a = grind (arith, nat_tests, alike_bad, alike_first s Alike r n p q a)
 
 alike_on : {P M O : Type 0} (s : Steps P M O) (Alike : P → P → Type 0) → Respects P M O s Alike → (n : ℕ) (p q : P) → Alike p q → goes_on s n p ≡ goes_on s n q
 alike_on s Alike r zero p q a = refl
@@ -60,11 +59,7 @@ step_bad {P} {M} {O} s n r m = elim (bad_at s n (s.after m r.place)) as (λ o.
 -- of some of the moves
 few_bad : {P M O : Type 0} (s : Steps P M O) (n : ℕ) (r : Reached P M) (few : List M) → bad_among s n (reached_by_each s r few)
     ≡ option_map (λ (ms : List M). r.path ++ ms) (first_of (λ m. option_map (λ (ms : List M). m ∷ ms) (bad_at s n (s.after m r.place))) few)
-few_bad {P} {M} {O} s n r few =
-    first_through (reached_by s r) (bad_from s n) few
-    ∙ first_same (λ (m : M). bad_from s n (reached_by s r m))
-    (λ (m : M). option_map (λ (ms : List M). r.path ++ ms) (option_map (λ (ms : List M). m ∷ ms) (bad_at s n (s.after m r.place)))) few (step_bad s n r)
-    ∙ sym (first_mapped (λ (ms : List M). r.path ++ ms) (λ m. option_map (λ (ms : List M). m ∷ ms) (bad_at s n (s.after m r.place))) few)
+few_bad {P} {M} {O} s n r few = grind (arith, nat_tests, first_through, first_same, step_bad, first_mapped)
 
 few_on : {P M O : Type 0} (s : Steps P M O) (n : ℕ) (r : Reached P M) (few : List M) → on_among s n (reached_by_each s r few) ≡ list_any (λ m. goes_on s n (s.after m r.place)) few
 few_on {P} {M} {O} s n r few = any_through (reached_by s r) (λ (r : Reached P M). goes_on s n r.place) few
@@ -83,34 +78,21 @@ moved_on : {P M O : Type 0} (s : Steps P M O) (n : ℕ) (r : Reached P M) → on
 moved_on s n r = few_on s n r (s.moves r.place)
 
 each_bad : {P M O : Type 0} (s : Steps P M O) (n : ℕ) (rs : List (Reached P M)) → bad_among s n (moved_from_each s rs) ≡ bad_among s (suc n) rs
-each_bad {P} {M} {O} s n rs =
-    first_flat (moved_from s) (bad_from s n) rs
-    ∙ first_same (λ (r : Reached P M). bad_among s n (moved_from s r)) (bad_from s (suc n)) rs (moved_bad s n)
+each_bad {P} {M} {O} s n rs = grind (arith, nat_tests, first_flat, first_same, moved_bad)
 
 each_on : {P M O : Type 0} (s : Steps P M O) (n : ℕ) (rs : List (Reached P M)) → on_among s n (moved_from_each s rs) ≡ on_among s (suc n) rs
-each_on {P} {M} {O} s n rs =
-    any_flat (moved_from s) (λ (r : Reached P M). goes_on s n r.place) rs
-    ∙ any_same (λ (r : Reached P M). on_among s n (moved_from s r)) (λ (r : Reached P M). goes_on s (suc n) r.place) rs (moved_on s n)
+each_on {P} {M} {O} s n rs = grind (arith, nat_tests, any_flat, any_same, moved_on)
 
 each_shown : {P M O : Type 0} (s : Steps P M O) (n : ℕ) (rs : List (Reached P M)) → shown_among s n (moved_from_each s rs) ≡ shown_among s (suc n) rs
-each_shown {P} {M} {O} s n rs =
-    flat_flat (moved_from s) (λ (r : Reached P M). shown_at s n r.place) rs
-    ∙ flat_same (λ (r : Reached P M). shown_among s n (moved_from s r)) (λ (r : Reached P M). shown_at s (suc n) r.place) rs
-    (λ r. few_shown s n r (s.moves r.place))
+each_shown {P} {M} {O} s n rs = grind (arith, nat_tests, flat_flat, flat_same, few_shown)
 
 pub each_count : {P M O : Type 0} (s : Steps P M O) (n : ℕ) (rs : List (Reached P M)) → count_among s n (moved_from_each s rs) ≡ count_among s (suc n) rs
-each_count {P} {M} {O} s n rs =
-    total_flat (moved_from s) (λ (r : Reached P M). count_at s n r.place) rs
-    ∙ total_same (λ (r : Reached P M). count_among s n (moved_from s r)) (λ (r : Reached P M). count_at s (suc n) r.place) rs
-    (λ r. few_count s n r (s.moves r.place))
+each_count {P} {M} {O} s n rs = grind (arith, nat_tests, total_flat, total_same, few_count)
 
 -- ---- layers
 
 opened_bad : {P M O : Type 0} (s : Steps P M O) (start : P) (n : ℕ) → bad_among s n (record { place = start; path = [] } ∷ []) ≡ bad_at s (0 + n) start
-opened_bad {P} {M} {O} s start n =
-    first_one (bad_from s n) (record { place = start; path = [] })
-    ∙ (elim (bad_at s n start) as (λ o. option_map (λ (ms : List M). [] ++ ms) o ≡ o) [ None ↦ refl | Some ms ↦ refl ])
-    ∙ (let e : n ≡ 0 + n = omega arith in ap (λ k. bad_at s k start) e)
+opened_bad {P} {M} {O} s start n = grind (arith, nat_tests, first_one)
 
 opened_on : {P M O : Type 0} (s : Steps P M O) (start : P) (n : ℕ) → on_among s n (record { place = start; path = [] } ∷ []) ≡ goes_on s (0 + n) start
 opened_on s start n = or_false (goes_on s n start) ∙ (let e : n ≡ 0 + n = omega arith in ap (λ k. goes_on s k start) e)
@@ -130,24 +112,14 @@ through one two = (λ a. two.0 (one.0 a), λ c. one.1 (two.1 c))
 
 next_count : {P M O : Type 0} (s : Steps P M O) (start : P) (k n : ℕ) (rs next : List (Reached P M)) → count_among s n next ≤ count_among s n (moved_from_each s rs) →
     count_among s (suc n) rs ≤ count_at s (k + suc n) start → count_among s n next ≤ count_at s (suc k + n) start
-next_count s start k n rs next one two =
-    let each : count_among s n (moved_from_each s rs) ≡ count_among s (suc n) rs = each_count s n rs in
-    let there : count_at s (k + suc n) start ≡ count_at s (suc k + n) start = (let e : k + suc n ≡ suc k + n = omega arith in ap (λ j. count_at s j start) e) in
-    omega (arith, one, two, each, there)
+next_count s start k n rs next one two = grind (arith, nat_tests, each_count)
 
 -- a path leads there, by as many moves
 abbrev Led : {P M O : Type 0} → Steps P M O → P → ℕ → Reached P M → Type 0
 Led s start k r = Leads s r.path start r.place × (length r.path ≡ k)
 
 opened_led : {P M O : Type 0} (s : Steps P M O) (start : P) (r : Reached P M) → Contains (record { place = start; path = [] } ∷ []) r → Led s start 0 r
-opened_led {P} {M} {O} s start r c = subst (Led s start 0) (only c.0 c.1 c.2) (refl, refl)
-  where
-    opened : Reached P M
-    opened = record { place = start; path = [] }
-
-    only : (j : ℕ) → j < 1 → get_or (opened ∷ []) j r ≡ r → opened ≡ r
-    only zero within is = is
-    only (suc j) within is = absurd (omega arith)
+opened_led {P} {M} {O} s start r c = grind (arith, nat_tests)
 
 leads_on : {P M O : Type 0} (s : Steps P M O) (ms : List M) (p q : P) (m : M) → Leads s ms p q → Contains (s.moves q) m → Leads s (ms ++ m ∷ []) p (s.after m q)
 leads_on s [] p q m is c = (subst (λ x. Contains (s.moves x) m) is c, ap (s.after m) is)
@@ -196,10 +168,7 @@ added_shown {P} {M} {O} s rs others more n it same =
 
 added_count : {P M O : Type 0} (s : Steps P M O) (n : ℕ) (rs others more : List (Reached P M)) → count_among s n rs ≤ count_among s n others →
     count_among s n (rs ++ more) ≤ count_among s n (others ++ more)
-added_count {P} {M} {O} s n rs others more fewer =
-    let one : count_among s n (rs ++ more) ≡ count_among s n rs + count_among s n more = total_append (λ (r : Reached P M). count_at s n r.place) rs more in
-    let two : count_among s n (others ++ more) ≡ count_among s n others + count_among s n more = total_append (λ (r : Reached P M). count_at s n r.place) others more in
-    omega (arith, fewer, one, two)
+added_count {P} {M} {O} s n rs others more fewer = grind (arith, nat_tests, total_append)
 
 added : {P M O : Type 0} (s : Steps P M O) (rs others more : List (Reached P M)) → StandFor P M O s rs others → StandFor P M O s (rs ++ more) (others ++ more)
 added {P} {M} {O} s rs others more stand = record {
@@ -217,16 +186,13 @@ added {P} {M} {O} s rs others more stand = record {
 
 -- nothing is found after one that is found, and nothing at one where nothing is found
 or_skipped : {A : Type 0} (a b : Option A) → (a ≡ None → b ≡ None) → a ≡ option_or a b
-or_skipped None b skip = sym (skip refl)
-or_skipped (Some x) b skip = refl
+or_skipped a b skip = grind (arith, nat_tests)
 
 or_skipped_test : (a b : Bool) → (a ≡ false → b ≡ false) → a ≡ (a || b)
-or_skipped_test true b skip = refl
-or_skipped_test false b skip = sym (skip refl)
+or_skipped_test a b skip = grind (arith, nat_tests)
 
 map_none : {A B : Type 0} (f : A → B) (o : Option A) → option_map f o ≡ None → o ≡ None
-map_none f None is = refl
-map_none f (Some x) is = absurd (cc)
+map_none f o is = grind (arith, nat_tests)
 
 skipped_bad : {P M O : Type 0} (s : Steps P M O) (Alike : P → P → Type 0) → Respects P M O s Alike → (rs : List (Reached P M)) (r seen : Reached P M) → Contains rs seen →
     Alike r.place seen.place → (n : ℕ) → bad_among s n rs ≡ None → bad_among s n (r ∷ []) ≡ None
@@ -252,8 +218,7 @@ skipped_shown {P} {M} {O} s Alike re rs r seen c a n it has =
     ]
 
 fewer_without : {P M O : Type 0} (s : Steps P M O) (n : ℕ) (rs more : List (Reached P M)) → count_among s n rs ≤ count_among s n (rs ++ more)
-fewer_without {P} {M} {O} s n rs more =
-    let e : count_among s n (rs ++ more) ≡ count_among s n rs + count_among s n more = total_append (λ (r : Reached P M). count_at s n r.place) rs more in omega (arith, e)
+fewer_without {P} {M} {O} s n rs more = grind (arith, nat_tests, total_append)
 
 -- a place that is alike to one of these adds nothing to them
 alone : {P M O : Type 0} (s : Steps P M O) (Alike : P → P → Type 0) → Respects P M O s Alike → (rs : List (Reached P M)) (r seen : Reached P M) → Contains rs seen →
@@ -303,10 +268,7 @@ behind_shown {P} {M} {O} s others rs more n it same c =
 
 behind_count : {P M O : Type 0} (s : Steps P M O) (n : ℕ) (others rs more : List (Reached P M)) → count_among s n rs ≤ count_among s n more →
     count_among s n (others ++ rs) ≤ count_among s n (others ++ more)
-behind_count {P} {M} {O} s n others rs more fewer =
-    let one : count_among s n (others ++ rs) ≡ count_among s n others + count_among s n rs = total_append (λ (r : Reached P M). count_at s n r.place) others rs in
-    let two : count_among s n (others ++ more) ≡ count_among s n others + count_among s n more = total_append (λ (r : Reached P M). count_at s n r.place) others more in
-    omega (arith, fewer, one, two)
+behind_count {P} {M} {O} s n others rs more fewer = grind (arith, nat_tests, total_append)
 
 -- what stands for others does so behind some places
 behind : {P M O : Type 0} (s : Steps P M O) (others rs more : List (Reached P M)) → StandFor P M O s rs more → StandFor P M O s (others ++ rs) (others ++ more)
@@ -325,10 +287,7 @@ behind {P} {M} {O} s others rs more stand = record {
 
 fewer_moves : {P M O : Type 0} (s : Steps P M O) (n : ℕ) (r : Reached P M) (few : List M) → total (λ m. count_at s n (s.after m r.place)) few ≤ count_at s (suc n) r.place →
     count_among s n (reached_by_each s r few) ≤ count_among s n (moved_from s r)
-fewer_moves s n r few fewer =
-    let one : count_among s n (reached_by_each s r few) ≡ total (λ m. count_at s n (s.after m r.place)) few = few_count s n r few in
-    let two : count_among s n (moved_from s r) ≡ count_at s (suc n) r.place = few_count s n r (s.moves r.place) in
-    omega (arith, one, two, fewer)
+fewer_moves s n r few fewer = grind (arith, nat_tests, few_count)
 
 few_stand : {P M O : Type 0} (s : Steps P M O) (r : Reached P M) (few : List M) → AreEnough P M O s r.place few → StandFor P M O s (reached_by_each s r few) (moved_from s r)
 few_stand {P} {M} {O} s r few enough = record {

@@ -7,7 +7,8 @@ use Rattle.std.specs.Prelude.{not, ◌==◌}
 use Rattle.std.specs.Cmp.{unsigned_Decides}
 use Rattle.std.specs.List.{list_any, list_all}
 use Rattle.std.specs.Option.{option_or}
-use Rattle.stm_visited.specs.declared.visited.Visited.TheVariants.{Always, Broken}
+use Rattle.std.proofs.lemmas.Bool.Decides.{nat_tests}
+use Rattle.stm_visited.specs.declared.visited.Visited.TheVariants.{Broken}
 use Rattle.stm_visited.specs.Search.{Steps, first_of, bad_at, first_bad, goes_on, total, count_at, count_up_to}
 use Rattle.stm_visited.specs.Alike.{Respects}
 use Rattle.stm_visited.specs.Layers.{Reached, bad_among, on_among, count_among, StandFor, AreEnough, reached_by_each, moved_from, moved_from_each, IsLayer}
@@ -24,12 +25,7 @@ some_there (x ∷ xs) false is = refl
 
 -- places that are the same are alike
 alike_to_itself : {P M O : Type 0} (s : Steps P M O) → Respects P M O s (λ p q. p ≡ q)
-alike_to_itself s = record {
-  moves = λ p q same. ap s.moves same;
-  after = λ m p q same. ap (s.after m) same;
-  keeps = λ p q same. ap s.keeps same;
-  shows = λ p q same. ap s.shows same;
-}
+alike_to_itself s = grind (arith, nat_tests)
 
 -- ---- each of several with its number
 
@@ -43,8 +39,7 @@ pub each_push : {A : Type 0} (Q : ℕ → A → Type 0) (xs : List A) (x : A) �
 each_push Q [] x each more zero d within = more
 each_push Q [] x each more (suc n) d within = absurd (omega (arith, within))
 each_push Q (y ∷ ys) x each more zero d within = each 0 y (omega arith)
-each_push Q (y ∷ ys) x each more (suc n) d within =
-    each_push (λ k. Q (suc k)) ys x (λ k e w. each (suc k) e (omega (arith, w))) more n d (omega (arith, within))
+each_push Q (y ∷ ys) x each more (suc n) d within = grind (arith, nat_tests, each_push (λ k. Q (suc k)) ys x (λ k e w. each (suc k) e (omega (arith, w))) more)
 
 -- ---- one place more
 
@@ -69,10 +64,7 @@ flat_append f (y ∷ xs) x = ap (λ ys. f y ++ ys) (flat_append f xs x) ∙ sym 
 
 pub on_from_here : {P M O : Type 0} (s : Steps P M O) (rs : List (Reached P M)) (i : ℕ) (r : Reached P M) (p : P) → i < length rs → r ≡ get_or rs i r → p ≡ r.place →
     list_any (λ m. true) (s.moves p) ≡ true → on_among s 1 rs ≡ on_among s 1 (drop i rs) → on_among s 1 rs ≡ true
-on_from_here {P} {M} {O} s rs i r p within is same some on =
-    let e : drop i rs ≡ r ∷ drop (suc i) rs = drop-cons rs i r within ∙ ap (λ x. x ∷ drop (suc i) rs) (sym is) in
-    let here : list_any (λ m. true) (s.moves r.place) ≡ true = ap (λ q. list_any (λ m. true) (s.moves q)) (sym same) ∙ some in
-    on ∙ ap (on_among s 1) e ∙ ap (λ b. b || on_among s 1 (drop (suc i) rs)) here
+on_from_here {P} {M} {O} s rs i r p within is same some on = grind (arith, nat_tests, drop-cons)
 
 long : {P M O : Type 0} (s : Steps P M O) (n : ℕ) (p : P) (ms : List M) → bad_at s n p ≡ Some ms → length ms ≡ n
 long s zero p ms is = by_test (s.keeps p) ms is
@@ -100,15 +92,11 @@ next_at s start k rs next layer stand = (layers_go_on s (λ p q. p ≡ q) (alike
 
 pub none_at : {P M O : Type 0} (s : Steps P M O) (start : P) (k : ℕ) (next : List (Reached P M)) → IsLayer P M O s start (suc k) next → first_bad s k start ≡ None →
     bad_among s 0 next ≡ None → first_bad s (suc k) start ≡ None
-none_at {P} {M} {O} s start k next layer none kept =
-    ap (λ (o : Option (List M)). option_or o (bad_at s (suc k) start)) none ∙ sym (bad_of s start (suc k) next layer) ∙ kept
+none_at {P} {M} {O} s start k next layer none kept = grind (arith, nat_tests, bad_of)
 
 pub broken_at : {P M O : Type 0} (s : Steps P M O) (start : P) (k : ℕ) (next : List (Reached P M)) (ms : List M) → IsLayer P M O s start (suc k) next → first_bad s k start ≡ None →
     bad_among s 0 next ≡ Some ms → IsVisited s start (Broken (ms))
-broken_at {P} {M} {O} s start k next ms layer none found =
-    let at : bad_at s (suc k) start ≡ Some ms = sym (bad_of s start (suc k) next layer) ∙ found in
-    let e : length ms ≡ suc k = long s (suc k) start ms at in
-    subst (λ n. first_bad s n start ≡ Some ms) (sym e) (ap (λ (o : Option (List M)). option_or o (bad_at s (suc k) start)) none ∙ at)
+broken_at {P} {M} {O} s start k next ms layer none found = grind (arith, nat_tests, bad_of, long)
 
 pub nothing_there : {P M O : Type 0} (s : Steps P M O) (rs : List (Reached P M)) → rs ≡ [] → on_among s 1 rs ≡ false
 nothing_there s rs is = ap (on_among s 1) is
@@ -142,25 +130,12 @@ abbrev pub IsKnown : {P M O : Type 0} → Steps P M O → P → ℕ → Option (
 IsKnown s start k None = first_bad s k start ≡ None
 IsKnown s start k (Some ms) = IsVisited s start (Broken ms)
 
-broken_at_once : {P M O : Type 0} (s : Steps P M O) (start : P) (ms : List M) → bad_at s 0 start ≡ Some ms → IsVisited s start (Broken ms)
-broken_at_once {P} {M} {O} s start ms at =
-    let e : length ms ≡ 0 = long s 0 start ms at in
-    subst (λ n. first_bad s n start ≡ Some ms) (sym e) at
-
 known_at_once : {P M O : Type 0} (s : Steps P M O) (start : P) (o : Option (List M)) → bad_at s 0 start ≡ o → IsKnown s start 0 o
-known_at_once s start None is = is
-known_at_once s start (Some ms) is = broken_at_once s start ms is
-
-known_there : {P M O : Type 0} (s : Steps P M O) (start : P) (k : ℕ) (next : List (Reached P M)) (o : Option (List M)) → IsLayer P M O s start (suc k) next →
-    first_bad s k start ≡ None → bad_among s 0 next ≡ o → IsKnown s start (k + 1) o
-known_there {P} {M} {O} s start k next None layer none is =
-    let e : suc k ≡ k + 1 = omega arith in subst (λ j. first_bad s j start ≡ None) e (none_at s start k next layer none is)
-known_there s start k next (Some ms) layer none is = broken_at s start k next ms layer none is
+known_at_once s start o is = grind (arith, nat_tests, long)
 
 known_further : {P M O : Type 0} (s : Steps P M O) (start : P) (k : ℕ) (next : List (Reached P M)) (before : Option (List M)) → IsLayer P M O s start (suc k) next →
     IsKnown s start k before → IsKnown s start (k + 1) (option_or before (bad_among s 0 next))
-known_further s start k next None layer known = known_there s start k next (bad_among s 0 next) layer known refl
-known_further s start k next (Some ms) layer known = known
+known_further s start k next before layer known = grind (arith, nat_tests, none_at, broken_at)
 
 -- one rule more of those that are asked at a layer
 pub founds_more : {P M O : Type 0} (s : ℕ → Steps P M O) (layer : List (Reached P M)) (before founds : List (Option (List M))) (rule : ℕ) (old found : Option (List M)) →
@@ -176,8 +151,7 @@ founds_more {P} {M} {O} s layer before founds rule old found long within at is e
 pub founds_begin : {P M O : Type 0} (s : ℕ → Steps P M O) (layer : List (Reached P M)) (none founds : List (Option (List M))) → length founds ≡ length none →
     EachIs (λ n it. it ≡ None) none → EachIs (λ n it. it ≡ option_or (get_or none n None) (bad_among (s n) 0 layer)) founds →
     EachIs (λ n it. it ≡ bad_among (s n) 0 layer) founds
-founds_begin {P} {M} {O} s layer none founds long empty each n d within =
-    each n d within ∙ ap (λ (o : Option (List M)). option_or o (bad_among (s n) 0 layer)) (empty n None (omega (arith, within, long)))
+founds_begin {P} {M} {O} s layer none founds long empty each n d within = grind (arith, nat_tests, long)
 
 -- what is known of each rule
 module _ {P M O : Type 0} (s : ℕ → Steps P M O) (start : P) where
@@ -189,17 +163,12 @@ module _ {P M O : Type 0} (s : ℕ → Steps P M O) (start : P) where
 
   pub known_at_start : (layer : List (Reached P M)) (founds : List (Option (List M))) → layer ≡ record { place = start; path = [] } ∷ [] →
       EachIs (λ n found. found ≡ bad_among (s n) 0 layer) founds → AreKnown 0 founds
-  known_at_start layer founds is each n d within =
-      known_at_once (s n) start (get_or founds n d)
-      (sym (bad_of (s n) start 0 _ (opened (s n) start)) ∙ ap (bad_among (s n) 0) (sym is) ∙ sym (each n d within))
+  known_at_start layer founds is each n d within = grind (arith, nat_tests, known_at_once, bad_of, opened)
 
   pub known_next : (k : ℕ) (rs next : List (Reached P M)) (before founds : List (Option (List M))) → length founds ≡ length before → HaveCome k rs →
       ((n : ℕ) → StandFor P M O (s n) next (moved_from_each (s n) rs)) → AreKnown k before →
       EachIs (λ n found. found ≡ option_or (get_or before n None) (bad_among (s n) 0 next)) founds → AreKnown (k + 1) founds
-  known_next k rs next before founds as_long come stand known each n d within =
-      subst (λ (o : Option (List M)). IsKnown (s n) start (k + 1) o) (sym (each n d within))
-      (known_further (s n) start k next (get_or before n None) (next_at (s n) start k rs next (come n).layer (stand n))
-      (known n None (omega (arith, within, as_long))))
+  known_next k rs next before founds as_long come stand known each n d within = grind (arith, nat_tests, known_further, next_at)
 
   pub come_to_start : (layer : List (Reached P M)) → layer ≡ record { place = start; path = [] } ∷ [] → ((n : ℕ) → on_among (s n) 1 layer ≡ true) → HaveCome 0 layer
   come_to_start layer is on n =
@@ -229,13 +198,11 @@ module _ {P M O : Type 0} (s : ℕ → Steps P M O) (start : P) where
 
   no_longer : (k : ℕ) (founds : List (Option (List M))) (n : ℕ) (d : Option (List M)) → IsOver k founds → n < length founds → get_or founds n d ≡ None →
       goes_on (s n) (suc k) start ≡ false
-  no_longer k founds n d (inl all) within none = absurd (all_some founds n d all within none)
-  no_longer k founds n d (inr none_on) within none = none_on n
+  no_longer k founds n d h5 within none = grind (arith, nat_tests, all_some)
 
   always_one : (n k : ℕ) (found : Option (List M)) → IsKnown (s n) start k found → goes_on (s n) k start ≡ true →
       (found ≡ None → goes_on (s n) (suc k) start ≡ false) → IsVisited (s n) start (answer_of (ending.Always k) found)
-  always_one n k None known as_long over = (known, as_long, over refl)
-  always_one n k (Some ms) known as_long over = known
+  always_one n k found known as_long over = grind (arith, nat_tests)
 
   pub always_kept : (k : ℕ) (founds : List (Option (List M))) → AreKnown k founds → ((n : ℕ) → goes_on (s n) k start ≡ true) → IsOver k founds →
       EachIs (λ n. IsVisited (s n) start) (map (answer_of (ending.Always k)) founds)
@@ -247,8 +214,7 @@ module _ {P M O : Type 0} (s : ℕ → Steps P M O) (start : P) where
 
   open_one : (n k : ℕ) (found : Option (List M)) → IsKnown (s n) start k found → goes_on (s n) (suc k) start ≡ true →
       IsVisited (s n) start (answer_of (ending.Open k) found)
-  open_one n k None known on = (known, on)
-  open_one n k (Some ms) known on = known
+  open_one n k found known on = grind (arith, nat_tests)
 
   pub open_at : (k : ℕ) (rs : List (Reached P M)) (founds : List (Option (List M))) → AreKnown k founds → HaveCome k rs →
       EachIs (λ n. IsVisited (s n) start) (map (answer_of (ending.Open k)) founds)
@@ -311,10 +277,7 @@ count_of_both {P} {M} {O} s rs more = total_append (λ (r : Reached P M). count_
 -- those of a layer are no more than the schedules of one move more
 pub count_next : {P M O : Type 0} (s : Steps P M O) (start : P) (k : ℕ) (rs : List (Reached P M)) (old left more : ℕ) → IsLayer P M O s start k rs →
     old ≤ left + count_up_to s k start → left ≤ more + count_among s 1 rs → old ≤ more + count_up_to s (suc k) start
-count_next s start k rs old left more layer before spent =
-    let there : count_among s 1 rs ≤ count_at s (k + 1) start = layer.fewer 1 in
-    let e : count_at s (k + 1) start ≡ count_at s (suc k) start = (let one : k + 1 ≡ suc k = omega arith in ap (λ j. count_at s j start) one) in
-    omega (arith, before, spent, there, e)
+count_next s start k rs old left more layer before spent = grind (arith, nat_tests)
 
 -- so many of the moves that are enough at a place are made
 pub made_here : {P M O : Type 0} (s : Steps P M O) (r : Reached P M) (choices : List M) (i old left : ℕ) → AreEnough P M O s r.place choices → left + i ≡ old → i ≤ length choices →
@@ -349,12 +312,7 @@ pub record HasGoneOn (P M O : Type 0) (s : ℕ → Steps P M O) (layer left next
   pub made : (rule : ℕ) → old ≤ now + count_among (s rule) 1 before
 
 pub gone_first : {P M O : Type 0} (s : ℕ → Steps P M O) (layer : List (Reached P M)) (old : ℕ) → HasGoneOn P M O s layer layer [] old old
-gone_first s layer old = record {
-  before = [];
-  split = refl;
-  stand = λ rule. (layers_go_on (s rule) (λ p q. p ≡ q) (alike_to_itself (s rule))).stands [];
-  made = λ rule. omega arith;
-}
+gone_first s layer old = grind (arith, nat_tests, layers_go_on, alike_to_itself)
 
 pub gone_next : {P M O : Type 0} (s : ℕ → Steps P M O) (layer left next more : List (Reached P M)) (r : Reached P M) (old now then : ℕ) → HasGoneOn P M O s layer (r ∷ left) next old now →
     ((rule : ℕ) (others : List (Reached P M)) → StandFor P M O (s rule) next others → StandFor P M O (s rule) more (others ++ moved_from (s rule) r)) →
@@ -371,18 +329,12 @@ gone_next {P} {M} {O} s layer left next more r old now then gone stand made = re
 -- no more moves are made than lead from the layer
 pub gone_made : {P M O : Type 0} (s : ℕ → Steps P M O) (layer left next : List (Reached P M)) (old now : ℕ) → HasGoneOn P M O s layer left next old now →
     (rule : ℕ) → old ≤ now + count_among (s rule) 1 layer
-gone_made {P} {M} {O} s layer left next old now gone rule =
-    let both : count_among (s rule) 1 layer ≡ count_among (s rule) 1 gone.before + count_among (s rule) 1 left =
-    ap (count_among (s rule) 1) (sym gone.split) ∙ count_of_both (s rule) gone.before left in
-    omega (arith, both, gone.made rule)
+gone_made {P} {M} {O} s layer left next old now gone rule = grind (arith, nat_tests, count_of_both)
 
 -- nor where it stopped amid the moves from a place
 pub gone_made_amid : {P M O : Type 0} (s : ℕ → Steps P M O) (layer left next : List (Reached P M)) (r : Reached P M) (old now then : ℕ) →
     HasGoneOn P M O s layer (r ∷ left) next old now → (rule : ℕ) → now ≤ then + count_among (s rule) 1 (r ∷ []) → old ≤ then + count_among (s rule) 1 layer
-gone_made_amid {P} {M} {O} s layer left next r old now then gone rule made =
-    let both : count_among (s rule) 1 layer ≡ count_among (s rule) 1 gone.before + count_among (s rule) 1 (r ∷ left) =
-    ap (count_among (s rule) 1) (sym gone.split) ∙ count_of_both (s rule) gone.before (r ∷ left) in
-    omega (arith, both, gone.made rule, made)
+gone_made_amid {P} {M} {O} s layer left next r old now then gone rule made = grind (arith, nat_tests, count_of_both)
 
 pub nothing_left : {A : Type 0} (xs : List A) → length xs ≡ 0 → xs ≡ []
 nothing_left [] none = refl
@@ -391,20 +343,16 @@ nothing_left (x ∷ xs) none = absurd (omega (arith, none))
 -- none is left
 pub gone_all : {P M O : Type 0} (s : ℕ → Steps P M O) (layer next : List (Reached P M)) (old now : ℕ) → HasGoneOn P M O s layer [] next old now →
     (rule : ℕ) → StandFor P M O (s rule) next (moved_from_each (s rule) layer)
-gone_all {P} {M} {O} s layer next old now gone rule =
-    subst (λ (l : List (Reached P M)). StandFor P M O (s rule) next (moved_from_each (s rule) l)) (sym (append_nil gone.before) ∙ gone.split) (gone.stand rule)
+gone_all {P} {M} {O} s layer next old now gone rule = grind (arith, nat_tests, append_nil)
 
 -- where the search has come to
 pub far_on : {P M O : Type 0} (s : Steps P M O) (start : P) (k : ℕ) (rs : List (Reached P M)) (old left more : ℕ) → HasCome P M O s start k rs →
     old ≤ left + count_up_to s k start → left ≤ more + count_among s 1 rs → old ≤ more + count_up_to s (k + 1) start
-far_on s start k rs old left more come before spent =
-    let one : suc k ≡ k + 1 = omega arith in
-    subst (λ j. old ≤ more + count_up_to s j start) one (count_next s start k rs old left more come.layer before spent)
+far_on s start k rs old left more come before spent = grind (arith, nat_tests, count_next)
 
 pub far_open : {P M O : Type 0} (s : Steps P M O) (start : P) (k : ℕ) (rs : List (Reached P M)) (old left more : ℕ) → HasCome P M O s start k rs →
     old ≤ left + count_up_to s k start → left ≤ more + count_among s 1 rs → more ≡ 0 → old ≤ count_up_to s (suc k) start
-far_open s start k rs old left more come before spent none =
-    let far : old ≤ more + count_up_to s (suc k) start = count_next s start k rs old left more come.layer before spent in omega (arith, far, none)
+far_open s start k rs old left more come before spent none = grind (arith, nat_tests, count_next)
 
 pub far_without : {P M O : Type 0} (s : Steps P M O) (start : P) (k old left : ℕ) → old ≤ left + count_up_to s k start → left ≡ 0 → old ≤ count_up_to s (suc k) start
 far_without s start k old left far none = omega (arith, far, none)

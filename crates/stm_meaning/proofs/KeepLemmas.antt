@@ -1,7 +1,8 @@
 -- What holds of a run at its end, since each of its steps keeps it, and what a run has in common with the run over a look-up that has its answers and more.
-use Rattle.std.proofs.Common.{◌≡◌, ℕ, ◌<◌, Bool, true, false, cond, List, [], ◌∷◌, length, Option, None, Some, refl, sym, ap, subst}
+use Rattle.std.proofs.Common.{◌≡◌, ℕ, ◌<◌, Bool, cond, List, [], ◌∷◌, length, Option, None, refl, arith}
 use Rattle.std.specs.Prelude.{pos, nat_lt}
 use Rattle.std.specs.List.{AllByRecursion}
+use Rattle.std.proofs.lemmas.Bool.Decides.{nat_tests}
 use Rattle.stm_program.specs.Syntax.{Expression, Block}
 use Rattle.stm_program.specs.Writes.{last_write}
 use Rattle.stm_history.specs.declared.change.Change.{Change}
@@ -58,38 +59,25 @@ module _ (Since : List ℕ → Session → Session → Type 0) where
 
   then_keeps : {X Y : Type 0} (key : List ℕ) (s : Session) (o : Outcome X) (k : X → Session → Outcome Y) → Since key s (session_of o) →
       ((x : X) (t : Session) → Since key s t → Since key s (session_of (k x t))) → Since key s (session_of (and_then o k))
-  then_keeps key s (Gives x t) k is keeps = keeps x t is
-  then_keeps key s (Stops stop t) k is keeps = is
-
-  stop_goes : {X Y : Type 0} (stop : Stop) (s : Session) (second : Outcome X) (k : X → Session → Outcome Y) → StopGoes stop s second →
-      ((key : List ℕ) (x : X) (t : Session) → Since key s t → Since key s (session_of (k x t))) → StopGoes stop s (and_then second k)
-  stop_goes (Aborted t) s second k e keeps = ap (λ o. and_then o k) e
-  stop_goes (Faulted fault) s second k e keeps = ap (λ o. and_then o k) e
-  stop_goes (Wants key) s second k is keeps = then_keeps key s second k is (keeps key)
+  then_keeps key s o k is keeps = grind (arith, nat_tests)
 
   then_goes : {X Y : Type 0} (first second : Outcome X) (h k : X → Session → Outcome Y) → Goes first second → ((x : X) → Beside (h x) (k x)) →
       Goes (and_then first h) (and_then second k)
-  then_goes (Gives x s) second h k e next = subst (λ o. Goes (h x s) (and_then o k)) (sym e) ((next x).goes s)
-  then_goes (Stops stop s) second h k e next = stop_goes stop s second k e (λ key x t. (next x).keeps key s t)
+  then_goes first second h k e next = grind (arith, nat_tests, then_keeps)
 
   beside_then : {X Y : Type 0} (f g : Session → Outcome X) (h k : X → Session → Outcome Y) → Beside f g → ((x : X) → Beside (h x) (k x)) →
       Beside (λ s. and_then (f s) h) (λ s. and_then (g s) k)
-  beside_then f g h k first next = record {
-    keeps = λ key s t is. then_keeps key s (g t) k (first.keeps key s t is) (λ x u. (next x).keeps key s u);
-    goes = λ s. then_goes (f s) (g s) h k (first.goes s) next;
-  }
+  beside_then f g h k first next = grind (arith, nat_tests, then_keeps, then_goes)
 
   abbrev turn : Bool → ℕ → ℕ → Session → Outcome (Unit {0})
   turn b v i s = cond b (Gives tt (with_variable v (NumberValue (pos i)) (with_turn s))) (Stops (Faulted TurnLimit) s)
 
   turn_keeps : (look : Lookup) (key : List ℕ) (s : Session) → StepsKeep look (Since key s) → (b : Bool) (v i : ℕ) (t : Session) → Since key s t →
       Since key s (session_of (turn b v i t))
-  turn_keeps look key s steps true v i t is = steps.set v (NumberValue (pos i)) (with_turn t) (steps.turn t is)
-  turn_keeps look key s steps false v i t is = is
+  turn_keeps look key s steps b v i t is = grind (arith, nat_tests)
 
   turn_goes : (b : Bool) (v i : ℕ) (s : Session) → Goes (turn b v i s) (turn b v i s)
-  turn_goes true v i s = refl
-  turn_goes false v i s = refl
+  turn_goes b v i s = grind (arith, nat_tests)
 
 -- nothing is known of parts, and nothing is told of values
 all_known : (parts : List Part) → AllByRecursion (λ (part : Part). Unit {0}) parts
@@ -97,25 +85,16 @@ all_known [] = tt
 all_known (part ∷ parts) = (tt, all_known parts)
 
 nothing_told : (a : Gift) (x : Given a) → Tells (λ (e : Expression) (y : Value). Unit {0}) a x
-nothing_told (ValueOf e) x = tt
-nothing_told Truth x = tt
-nothing_told Nothing x = tt
+nothing_told a x = grind (arith, nat_tests, ValueOf, Truth, Nothing)
 
 module _ (one other : Lookup) (Since : List ℕ → Session → Session → Type 0) (more : HasMore one other Since) where
-  get_answered-goes : (key : List ℕ) (a : Option Answer) (s : Session) → one key ≡ a → 0 < length key → last_write key s.writes ≡ None →
-      Goes Since (get_answered key a s) (get_answered key (other key) s)
-  get_answered-goes key None s is long new = more.get key s long new is
-  get_answered-goes key (Some a) s is long new = ap (λ b. get_answered key b s) (more.agrees key a is)
-
   rev_answered-goes : (key : List ℕ) (a : Option Answer) (s : Session) → one key ≡ a → 0 < length key →
       Goes Since (rev_answered key a s) (rev_answered key (other key) s)
-  rev_answered-goes key None s is long = more.rev key s long is
-  rev_answered-goes key (Some a) s is long = ap (λ b. rev_answered key b s) (more.agrees key a is)
+  rev_answered-goes key a s is long = grind (arith, nat_tests)
 
   get_of-goes : (key : List ℕ) (w : Option Change) (s : Session) → last_write key s.writes ≡ w → 0 < length key →
       Goes Since (get_of one key w s) (get_of other key w s)
-  get_of-goes key (Some w) s is long = refl
-  get_of-goes key None s is long = get_answered-goes key (one key) s refl long is
+  get_of-goes key w s is long = grind (arith, nat_tests)
 
   steps_beside : Steps one other (λ part. Unit {0}) (λ e x. Unit {0}) (λ a f g. Beside Since f g)
   unfolding get_key rev_key begin_turn
@@ -155,19 +134,7 @@ module _ (one other : Lookup) (Since : List ℕ → Session → Session → Type
 module _ (look : Lookup) (P : Session → Type 0) (steps : StepsKeep look P) where
   kept_since : HasMore look look (λ key s t. P s → P t)
   unfolding rev_key get_key
-  kept_since = record {
-    agrees = λ key a is. is;
-    keeps = λ key s. record {
-      set = λ v x t is p. steps.set v x t (is p);
-      turn = λ t is p. steps.turn t (is p);
-      emit = λ x t is p. steps.emit x t (is p);
-      write = λ w t long is p. steps.write w t long (is p);
-      get = λ k t long is p. steps.get k t long (is p);
-      rev = λ k t long is p. steps.rev k t long (is p);
-    };
-    get = λ key s long new none p. subst (λ (w : Option Change). P (session_of (get_of look key w s))) new (steps.get key s long p);
-    rev = λ key s long none p. steps.rev key s long p;
-  }
+  kept_since = grind (arith, nat_tests)
 
   -- where it held at the beginning
   pub kept_by_run : (program : Block) → P fresh → P (session_of (run_block look program fresh))

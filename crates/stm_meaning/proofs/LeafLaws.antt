@@ -1,6 +1,6 @@
 -- What the steps of a run come to.
-use Rattle.std.proofs.Common.{◌≡◌, ℕ, suc, ◌<◌, ◌^◌, true, false, List, [], ◌∷◌, ◌++◌, length, refl, ◌∙◌, ap, arith}
-use Rattle.std.specs.Prelude.{Option, None, Some, IsSome, is_some, Ok, Err, ℤ, pos, negsuc, neg_ℤ, if◌then◌else◌, ◌==◌}
+use Rattle.std.proofs.Common.{◌≡◌, ℕ, suc, ◌<◌, ◌^◌, true, List, length, refl, ◌∙◌, ap, arith}
+use Rattle.std.specs.Prelude.{Ok, Err, ℤ, pos, negsuc, neg_ℤ, if◌then◌else◌}
 use Rattle.std.specs.Fmt.{decimal, signed_decimal}
 use Rattle.std.specs.Str.{all_ascii_digits}
 use Rattle.std.specs.Str.Parse.{digits_value}
@@ -8,52 +8,26 @@ use Rattle.std.proofs.lemmas.Fmt.{digits_decimal, digits_value-decimal, decimal_
 use Rattle.std.proofs.lemmas.Bool.Decides.{nat_tests}
 use Rattle.std.proofs.lemmas.Grind.{common_steps}
 use Rattle.std.proofs.lemmas.Str.Parse.{IsNumeralModel, numerals_by_value, tells_all_ascii_digits}
-use Rattle.stm_history.specs.declared.change.Change.{Change}
-use Rattle.stm_steps.specs.declared.value.Value.TheVariants.{Text, Number}
 use Rattle.stm_steps.specs.declared.fault.Fault.TheVariants.{NotANumber}
-use Rattle.stm_steps.specs.declared.trace_item.TraceItem.TheVariants.{Get, Rev}
-use Rattle.stm_steps.specs.Answer.{Answer, Lookup}
 use Rattle.stm_steps.specs.Values.{key_in, put_of, del_of, text_of, num_of, as_number, is_in_range, is_numeral, number_or, signed_number, written_number}
-use Rattle.stm_history.specs.History.{value_written}
-use Rattle.stm_meaning.specs.Writes.{last_write}
-use Rattle.stm_steps.specs.Session.{Session, with_key}
-use Rattle.stm_steps.specs.Outcome.{Gives}
-use Rattle.stm_steps.specs.Meaning.{get_answered, get_of, get_key, rev_answered, rev_key}
+use Rattle.stm_steps.specs.Meaning.{get_key, rev_key}
 use Rattle.stm_meaning.specs.Leaves.{trace_after_get, reads_after_get, trace_after_rev, reads_after_rev, GetGives, RevGives, TextsAreKeys, NumbersAreReadBack}
-use Rattle.std.specs.Option.{option_map_or}
 
 -- ---- look-ups
 
-get_of-known : (look : Lookup) (key : List ℕ) (w : Option Change) (a : Option Answer) (s : Session) → look key ≡ a → IsSome a →
-    get_of look key w s ≡ Gives (Text (option_map_or value_written w (option_map_or (λ a. a.value) a [])))
-    (record s {
-      trace = s.trace ++ Get key (option_map_or value_written w (option_map_or (λ a. a.value) a [])) ∷ [];
-      reads = if is_some w then s.reads else with_key key s.reads;
-    })
-get_of-known look key (Some w) a s is known = refl
-get_of-known look key None (Some a) s is known = ap (λ o. get_answered key o s) is
-get_of-known look key None None s is known = cc
-
 pub get_gives : GetGives
 unfolding get_key trace_after_get reads_after_get
-get_gives look knows key s = get_of-known look key (last_write key s.writes) (look key) s refl (knows key)
-
-rev_answered-known : (key : List ℕ) (a : Option Answer) (s : Session) → IsSome a →
-    rev_answered key a s ≡ Gives (Number (pos (option_map_or (λ a. a.mod_rev) a 0)))
-    (record s { trace = s.trace ++ Rev key (option_map_or (λ a. a.mod_rev) a 0) ∷ []; reads = with_key key s.reads })
-rev_answered-known key (Some a) s known = refl
-rev_answered-known key None s known = cc
+get_gives look knows key s = grind (arith, nat_tests)
 
 pub rev_gives : RevGives
 unfolding rev_key trace_after_rev reads_after_rev
-rev_gives look knows key s = rev_answered-known key (look key) s (knows key)
+rev_gives look knows key s = grind (arith, nat_tests)
 
 -- ---- keys
 
 pub texts_are_keys : TextsAreKeys
 unfolding key_in put_of del_of
-texts_are_keys [] value lease long = absurd (omega arith)
-texts_are_keys (c ∷ cs) value lease long = (refl, refl, refl)
+texts_are_keys h1 value lease long = grind (arith, nat_tests)
 
 -- ---- numbers
 
@@ -74,14 +48,9 @@ read_back sign n z small signed fits =
     ∙ ap (λ y. number_or NotANumber y) signed
     ∙ ap (λ b. if b then Ok z else Err NotANumber) fits
 
--- a text of digits has no sign
-no_sign : (c : ℕ) (cs : List ℕ) → all_ascii_digits (c ∷ cs) ≡ true → (c == 45) ≡ false
-no_sign c cs digits = grind (arith, nat_tests, common_steps)
-
 unsigned : (ds : List ℕ) → 0 < length ds → all_ascii_digits ds ≡ true → written_number ds ≡ signed_number (λ z. z) ds
 unfolding written_number
-unsigned [] long digits = absurd (omega arith)
-unsigned (c ∷ cs) long digits = ap (λ b. if b then signed_number neg_ℤ cs else signed_number (λ z. z) (c ∷ cs)) (no_sign c cs digits)
+unsigned ds long digits = grind (arith, nat_tests)
 
 written : (z : ℤ) → is_in_range z ≡ true → written_number (signed_decimal z) ≡ Ok z
 unfolding written_number

@@ -1,9 +1,9 @@
 -- The one induction over the runs of a program: a relation between two computations, side by side, which each step keeps, holds of the program's runs over two
 -- look-ups. A new expression, condition or statement has its case here, and a field of `Steps` where it does what none of them did.
-use Rattle.std.proofs.Common.{◌≡◌, ℕ, suc, zero, ◌+◌, ◌<◌, ◌≤◌, Bool, true, false, not, cond, List, [], ◌∷◌, length, ℤ, pos, negsuc, refl, subst, arith}
-use Rattle.std.specs.Prelude.{nat_le, Result, Ok, Err}
+use Rattle.std.proofs.Common.{◌≡◌, ℕ, suc, zero, ◌+◌, ◌<◌, ◌≤◌, Bool, true, false, not, List, [], ◌∷◌, length, ℤ, refl, arith}
+use Rattle.std.specs.Prelude.{Result, Ok, Err}
 use Rattle.std.specs.List.{AllByRecursion}
-use Rattle.std.proofs.lemmas.Bool.{leb-true}
+use Rattle.std.proofs.lemmas.Bool.{leb-true, Decides.nat_tests}
 use Rattle.stm_program.specs.declared.operator.Operator.{Operator}
 use Rattle.stm_program.specs.Syntax.{Expression, Condition, Statement, Block, Text, Number, Variable, Get, Rev, Arithmetic, Cat, TextOf, NumOf, Equal}
 use Rattle.stm_program.specs.Syntax.{Less, Not, And, Or, Set, Put, Del, If, For, Emit, Abort, End, Then}
@@ -12,7 +12,7 @@ use Rattle.stm_history.specs.declared.change.Change.TheVariants.{Put as PutChang
 use Rattle.stm_steps.specs.declared.value.Value.{Value}
 use Rattle.stm_steps.specs.declared.value.Value.TheVariants.{Text as TextValue, Number as NumberValue}
 use Rattle.stm_steps.specs.declared.fault.Fault.{Fault}
-use Rattle.stm_steps.specs.declared.fault.Fault.TheVariants.{Kind, EmptyKey, LoopTooLong}
+use Rattle.stm_steps.specs.declared.fault.Fault.TheVariants.{Kind, EmptyKey}
 use Rattle.stm_steps.specs.declared.stop.Stop.TheVariants.{Faulted}
 use Rattle.stm_steps.specs.Answer.{Lookup}
 use Rattle.stm_steps.specs.Values.{text_in, key_in, arithmetic, concatenated, text_of, num_of, equal, less, put_of, del_of, turns_of}
@@ -115,13 +115,7 @@ pub record Steps (one other : Lookup) (Known : Part → Type 0) (told : Expressi
 
 turns_within : (x : Value) (limit n : ℕ) → turns_of x limit ≡ Ok n → n ≤ limit
 unfolding turns_of
-turns_within (TextValue t) limit n is = absurd (cc)
-turns_within (NumberValue (pos m)) limit n is = by (nat_le m limit) refl is
-  where
-    by : (b : Bool) → nat_le m limit ≡ b → cond b (Ok m) (Err LoopTooLong) ≡ Ok n → n ≤ limit
-    by true within is = let same : m ≡ n = cc in subst (λ (k : ℕ). k ≤ limit) same (leb-true m limit within)
-    by false within is = absurd (cc)
-turns_within (NumberValue (negsuc m)) limit n is = let same : 0 ≡ n = cc in omega (arith, same)
+turns_within x limit n is = grind (arith, nat_tests, leb-true)
 
 module _ (one other : Lookup) (Known : Part → Type 0) (told : Expression → Value → Type 0) (Alike : Relation)
     (steps : Steps one other Known told Alike) where
@@ -132,8 +126,7 @@ module _ (one other : Lookup) (Known : Part → Type 0) (told : Expression → V
   given_then b (Err fault) h k goes = steps.faults b fault
 
   computed : (a : Gift) (r : Result (Given a) Fault) → ((x : Given a) → r ≡ Ok x → Tells told a x) → Alike a (given r) (given r)
-  computed a (Ok x) tells = steps.gives a x (tells x refl)
-  computed a (Err fault) tells = steps.faults a fault
+  computed a r tells = grind (arith, nat_tests)
 
   after : (e : Expression) (b : Gift) (h k : Value → Session → Outcome (Given b)) → Alike (ValueOf e) (evaluate one e) (evaluate other e) →
       ((x : Value) → told e x → Alike b (h x) (k x)) → Alike b (λ s. and_then (evaluate one e s) h) (λ s. and_then (evaluate other e s) k)
@@ -229,8 +222,7 @@ module _ (one other : Lookup) (Known : Part → Type 0) (told : Expression → V
   Runs = Alike Nothing
 
   branch_alike : (f g h k : Session → Outcome (Unit {0})) → Runs f g → Runs h k → (b : Bool) → Runs (branch f h b) (branch g k b)
-  branch_alike f g h k first second true = first
-  branch_alike f g h k first second false = second
+  branch_alike f g h k first second b = grind (arith, nat_tests)
 
   turns : (v limit : ℕ) (f g : Session → Outcome (Unit {0})) → ((i : ℕ) → i < limit → Runs (begin_turn v i) (begin_turn v i)) → Runs f g →
       (left i : ℕ) → left + i ≤ limit → Runs (repeat v f left i) (repeat v g left i)

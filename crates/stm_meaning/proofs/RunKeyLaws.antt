@@ -1,8 +1,9 @@
 -- The keys of a run are not empty, and those that it read are known to its look-up and stand once.
-use Rattle.std.proofs.Common.{◌≡◌, ℕ, ◌<◌, Bool, true, false, not, cond, List, [], ◌∷◌, ◌++◌, length, map, filter, refl, sym, ◌∙◌, ap, subst, All}
+use Rattle.std.proofs.Common.{◌≡◌, ℕ, ◌<◌, Bool, true, false, not, cond, List, [], ◌∷◌, ◌++◌, length, map, filter, refl, sym, ◌∙◌, ap, subst, All, arith}
 use Rattle.std.specs.Prelude.{bytes_eq, Option, None, Some, IsSome, is_some, ◌||◌}
 use Rattle.std.specs.List.{IsDistinct, AllByRecursion, list_any}
 use Rattle.std.proofs.lemmas.List.Elements.{All-nil, All-push, All-weaker, All-from_recursion, recursion_from_All}
+use Rattle.std.proofs.lemmas.Bool.Decides.{nat_tests}
 use Rattle.stm_program.specs.Syntax.{Block}
 use Rattle.stm_history.specs.declared.change.Change.{Change}
 use Rattle.stm_program.specs.Writes.{latest_writes, each_once}
@@ -12,10 +13,8 @@ use Rattle.stm_steps.specs.Answer.{Answer, Lookup}
 use Rattle.stm_history.specs.History.{key_of}
 use Rattle.stm_meaning.specs.Writes.{last_write}
 use Rattle.stm_steps.specs.Session.{Session, fresh, with_key}
-use Rattle.stm_steps.specs.Outcome.{Outcome, Gives, Stops}
-use Rattle.stm_steps.specs.Meaning.{get_answered, rev_answered, get_of, get_key, rev_key, run_of, answered, run_block, run_over}
-use Rattle.stm_steps.specs.declared.stop.Stop.TheVariants.{Aborted, Faulted, Wants}
-use Rattle.stm_steps.specs.declared.run.End.TheVariants.{Done, Aborted as EndAborted, Faulted as EndFaulted}
+use Rattle.stm_steps.specs.Outcome.{Outcome}
+use Rattle.stm_steps.specs.Meaning.{get_answered, rev_answered, get_of, get_key, rev_key, answered, run_over}
 use Rattle.stm_steps.specs.declared.run.Run.{Run}
 use Rattle.stm_steps.specs.declared.run.Answered.TheVariants.{Ended}
 use Rattle.stm_meaning.specs.RunKeys.{KeysAreNotEmpty, ReadsAreKnown}
@@ -24,8 +23,7 @@ use Rattle.stm_meaning.proofs.KeepLemmas.{session_of, StepsKeep, kept_by_run}
 -- ---- a key more
 
 neither : (b c : Bool) → (b || c) ≡ false → (b ≡ false) × (c ≡ false)
-neither true c h = cc
-neither false c h = (refl, h)
+neither b c h = grind (arith, nat_tests)
 
 apart-push : (k key : List ℕ) (ks : List (List ℕ)) → bytes_eq key k ≡ false → AllByRecursion (λ l. bytes_eq k l ≡ false) ks →
     AllByRecursion (λ l. bytes_eq k l ≡ false) (ks ++ key ∷ [])
@@ -98,29 +96,18 @@ module _ (look : Lookup) where
     rev = rev-right;
   }
 
-  fresh_right : IsRight fresh
-  unfolding fresh IsDistinct
-  fresh_right = (All-nil (λ w. 0 < length (key_of w)), (All-nil IsReadable, tt))
-
   ended_right : (o : Outcome (Unit {0})) (run : Run) → answered o ≡ Ended run → IsRight (session_of o) → AreRight run.writes run.reads
-  ended_right (Gives x s) run e h =
-      let same : run_of Done s ≡ run = cc in subst (λ r. AreRight r.writes r.reads) same h
-  ended_right (Stops (Aborted t) s) run e h =
-      let same : run_of (EndAborted t) s ≡ run = cc in subst (λ r. AreRight r.writes r.reads) same h
-  ended_right (Stops (Faulted fault) s) run e h =
-      let same : run_of (EndFaulted fault) s ≡ run = cc in subst (λ r. AreRight r.writes r.reads) same h
-  ended_right (Stops (Wants key) s) run e h = cc
+  ended_right o run e h = grind (arith, nat_tests)
 
   right : (program : Block) (run : Run) → run_over look program ≡ Ended run → AreRight run.writes run.reads
-  unfolding run_over
-  right program run e = ended_right (run_block look program fresh) run e (kept_by_run look IsRight steps_right program fresh_right)
+  unfolding fresh IsDistinct run_over
+  right program run e = grind (arith, nat_tests, ended_right, kept_by_run, steps_right, All-nil)
 
 -- ---- the keys of the latest writes
 
 module _ (Q : List ℕ → Type 0) where
   kept_if : (b : Bool) (k : List ℕ) (ks : List (List ℕ)) → Q k → AllByRecursion Q ks → AllByRecursion Q (cond b (k ∷ ks) ks)
-  kept_if true k ks first rest = (first, rest)
-  kept_if false k ks first rest = rest
+  kept_if b k ks first rest = grind (arith, nat_tests)
 
   filtered : (test : List ℕ → Bool) (ks : List (List ℕ)) → AllByRecursion Q ks → AllByRecursion Q (filter test ks)
   filtered test [] all = tt

@@ -1,6 +1,7 @@
 -- Laws of a run on answers, beside the run over a look-up that these agree with.
-use Rattle.std.proofs.Common.{◌≡◌, ℕ, ◌<◌, List, [], ◌∷◌, ◌++◌, length, Option, None, Some, refl, sym, ◌∙◌, ap, subst, append_assoc, append-nil}
+use Rattle.std.proofs.Common.{◌≡◌, ℕ, ◌<◌, List, [], ◌∷◌, ◌++◌, length, Option, None, Some, refl, ◌∙◌, ap, subst, append_assoc, append-nil, arith}
 use Rattle.std.specs.Prelude.{IsSome}
+use Rattle.std.proofs.lemmas.Bool.Decides.{nat_tests}
 use Rattle.stm_program.specs.Syntax.{Block}
 use Rattle.stm_history.specs.declared.change.Change.{Change}
 use Rattle.stm_steps.specs.declared.stop.Stop.TheVariants.{Aborted, Faulted, Wants}
@@ -11,11 +12,10 @@ use Rattle.stm_steps.specs.declared.run.Run.{Run}
 use Rattle.stm_steps.specs.declared.run.Answered.TheVariants.{Ended, Wants as WantsKey}
 use Rattle.stm_steps.specs.Answer.{Answer, Lookup}
 use Rattle.stm_history.specs.History.{value_written}
-use Rattle.stm_meaning.specs.Writes.{last_write}
 use Rattle.stm_steps.specs.Outcome.{Outcome, Gives, Stops}
 use Rattle.stm_steps.specs.Meaning.{get_answered, rev_answered, get_of, get_key, rev_key, run_block, answered, run_over}
-use Rattle.stm_meaning.specs.Laws.{AgreesWith, KnowsEachKey, IsPrefix, trace_of, IsContinuedBy, AnswersGiveTheRun, WholeLookupsEnd, WantedKeysAreUnknown}
-use Rattle.stm_meaning.proofs.KeepLemmas.{session_of, StepsKeep, HasMore, Goes, run_goes}
+use Rattle.stm_meaning.specs.Laws.{KnowsEachKey, IsPrefix, IsContinuedBy, AnswersGiveTheRun, WholeLookupsEnd, WantedKeysAreUnknown}
+use Rattle.stm_meaning.proofs.KeepLemmas.{session_of, StepsKeep, Goes, run_goes}
 
 -- ---- what was seen before is the beginning of what is seen now
 
@@ -39,44 +39,20 @@ get_of-sees t look key None s is = get_answered-sees t key (look key) s is
 
 steps_see : (t : List TraceItem) (look : Lookup) → StepsKeep look (Sees t)
 unfolding get_key rev_key
-steps_see t look = record {
-  set = λ v x s is. is;
-  turn = λ s is. is;
-  emit = λ x s is. is;
-  write = λ w s long is. is;
-  get = λ key s long. get_of-sees t look key (last_write key s.writes) s;
-  rev = λ key s long. rev_answered-sees t key (look key) s;
-}
+steps_see t look = grind (arith, nat_tests, get_of-sees, rev_answered-sees)
 
 -- ---- a run on answers is continued by the other run
 
 abbrev Continues : List ℕ → Session → Session → Type 0
 Continues key s = Sees s.trace
 
-continues : (answers whole : Lookup) → AgreesWith answers whole → HasMore answers whole Continues
-continues answers whole agree = record {
-  agrees = agree;
-  keeps = λ key s. steps_see s.trace whole;
-  get = λ key s long new none. get_answered-sees s.trace key (whole key) s ([], sym (append-nil s.trace));
-  rev = λ key s long none. rev_answered-sees s.trace key (whole key) s ([], sym (append-nil s.trace));
-}
-
-answered-trace : (o : Outcome (Unit {0})) → trace_of (answered o) ≡ (session_of o).trace
-answered-trace (Gives x s) = refl
-answered-trace (Stops (Aborted t) s) = refl
-answered-trace (Stops (Faulted fault) s) = refl
-answered-trace (Stops (Wants key) s) = refl
-
 answered-goes : (o other : Outcome (Unit {0})) → Goes Continues o other → IsContinuedBy (answered o) (answered other)
-answered-goes (Gives x s) other h = ap (λ o. answered o) h
-answered-goes (Stops (Aborted t) s) other h = ap (λ o. answered o) h
-answered-goes (Stops (Faulted fault) s) other h = ap (λ o. answered o) h
-answered-goes (Stops (Wants key) s) other h = (h.0, answered-trace other ∙ h.1)
+answered-goes o other h = grind (arith, nat_tests)
 
 pub answers_give_the_run : AnswersGiveTheRun
 unfolding run_over
 answers_give_the_run answers whole program agree =
-    answered-goes (run_block answers program fresh) (run_block whole program fresh) (run_goes answers whole Continues (continues answers whole agree) program)
+    grind (arith, nat_tests, answered-goes, run_goes, steps_see, get_answered-sees, append-nil, rev_answered-sees)
 
 -- ---- a run stops for a key only where its look-up knows nothing of it
 
@@ -112,10 +88,7 @@ whole_lookups_end whole program knows = answered-ends whole knows (run_block who
 
 answered-wants : (answers : Lookup) (o : Outcome (Unit {0})) (key : List ℕ) (trace : List TraceItem) → answered o ≡ WantsKey key trace →
     Goes (λ k s t. IsUnknown answers k) o o → IsUnknown answers key
-answered-wants answers (Gives x s) key trace e h = cc
-answered-wants answers (Stops (Aborted t) s) key trace e h = cc
-answered-wants answers (Stops (Faulted fault) s) key trace e h = cc
-answered-wants answers (Stops (Wants wanted) s) key trace e h = let same : wanted ≡ key = cc in subst (λ k. IsUnknown answers k) same h
+answered-wants answers o key trace e h = grind (arith, nat_tests)
 
 pub wanted_keys_are_unknown : WantedKeysAreUnknown
 unfolding run_over

@@ -1,24 +1,21 @@
 -- What is run at once: expressions and statements that read no key.
-use Rattle.std.proofs.Common.{◌≡◌, refl, sym, ◌∙◌, ap, subst, ℕ, List}
-use Rattle.std.specs.Prelude.{Bool, true, false, Option, None, Some, Result, Ok, Err, IfSome}
+use Rattle.std.proofs.Common.{◌≡◌, sym, ◌∙◌, ap, subst, ℕ, List, arith}
+use Rattle.std.specs.Prelude.{Bool, true, false, Option, None, Some, Result, Ok, IfSome}
+use Rattle.std.proofs.lemmas.Bool.Decides.{nat_tests}
 use Rattle.stm_program.specs.Syntax as tree
 use Rattle.stm_program.specs.Syntax.{Expression, Statement}
 use Rattle.stm_program.specs.declared.operator.Operator.{Operator}
 use Rattle.stm_history.specs.declared.change.Change.{Change}
 use Rattle.stm_steps.specs.declared.value.Value.{Value}
 use Rattle.stm_steps.specs.declared.fault.Fault.{Fault}
-use Rattle.stm_steps.specs.Answer.{Lookup}
 use Rattle.stm_steps.specs.Values.{key_in, arithmetic, concatenated, text_of, num_of, put_of, del_of}
 use Rattle.stm_steps.specs.Session.{Session, with_variable, with_output, with_write}
 use Rattle.stm_steps.specs.Outcome.{Outcome, Gives, and_then, given}
-use Rattle.stm_steps.specs.Steps.{get_key}
 use Rattle.stm_steps.specs.Meaning.{evaluate, run_statement}
 use Rattle.stm_machine.specs.declared.focus.Item.TheVariants.{Value as ValueItem}
 use Rattle.stm_machine.specs.declared.focus.Focus.{Focus}
 use Rattle.stm_machine.specs.declared.focus.Focus.TheVariants.{Give}
-use Rattle.stm_machine.specs.declared.frame.Frame.{Frame}
 use Rattle.stm_machine.specs.Moves.{at_get}
-use Rattle.stm_machine.specs.Finish.{on_value, onward_of, finish_from}
 use Rattle.stm_machine.specs.Direct.{GivesAtOnce, IsPast, LeadsOn, RunsAtOnce, RunsOrStays}
 
 -- what an answer that was found is
@@ -31,58 +28,31 @@ pub combined_at_once : (operator : Operator) (e f : Expression) (s : Session) (x
     (r : Result Value Fault) → r ≡ arithmetic operator x y → IfSome o (λ z. r ≡ Ok z) →
     IfSome o (GivesAtOnce (tree.Arithmetic operator e f) s)
 unfolding evaluate
-combined_at_once operator e f s x y None left right r computed is = tt
-combined_at_once operator e f s x y (Some z) left right r computed is =
-    λ look.
-    ap (λ (o : Outcome Value). and_then o (λ p t. and_then (evaluate look f t) (λ q. given (arithmetic operator p q)))) (left look)
-    ∙ ap (λ (o : Outcome Value). and_then o (λ q. given (arithmetic operator x q))) (right look)
-    ∙ ap (λ (q : Result Value Fault). given q s) (sym computed ∙ is)
+combined_at_once operator e f s x y o left right r computed is = grind (arith, nat_tests)
 
 pub joined_at_once : (e f : Expression) (s : Session) (x y : Value) (o : Option Value) → GivesAtOnce e s x → GivesAtOnce f s y →
     (r : Result Value Fault) → r ≡ concatenated x y → IfSome o (λ z. r ≡ Ok z) → IfSome o (GivesAtOnce (tree.Cat e f) s)
 unfolding evaluate
-joined_at_once e f s x y None left right r computed is = tt
-joined_at_once e f s x y (Some z) left right r computed is =
-    λ look.
-    ap (λ (o : Outcome Value). and_then o (λ p t. and_then (evaluate look f t) (λ q. given (concatenated p q)))) (left look)
-    ∙ ap (λ (o : Outcome Value). and_then o (λ q. given (concatenated x q))) (right look)
-    ∙ ap (λ (q : Result Value Fault). given q s) (sym computed ∙ is)
+joined_at_once e f s x y o left right r computed is = grind (arith, nat_tests)
 
 pub spelled_at_once : (e : Expression) (s : Session) (x : Value) (o : Option Value) → GivesAtOnce e s x →
     (r : Result Value Fault) → r ≡ text_of x → IfSome o (λ z. r ≡ Ok z) → IfSome o (GivesAtOnce (tree.TextOf e) s)
 unfolding evaluate
-spelled_at_once e s x None gives r computed is = tt
-spelled_at_once e s x (Some z) gives r computed is =
-    λ look. ap (λ (o : Outcome Value). and_then o (λ p. given (text_of p))) (gives look) ∙ ap (λ (q : Result Value Fault). given q s) (sym computed ∙ is)
+spelled_at_once e s x o gives r computed is = grind (arith, nat_tests)
 
 pub number_at_once : (e : Expression) (s : Session) (x : Value) (o : Option Value) → GivesAtOnce e s x →
     (r : Result Value Fault) → r ≡ num_of x → IfSome o (λ z. r ≡ Ok z) → IfSome o (GivesAtOnce (tree.NumOf e) s)
 unfolding evaluate
-number_at_once e s x None gives r computed is = tt
-number_at_once e s x (Some z) gives r computed is =
-    λ look. ap (λ (o : Outcome Value). and_then o (λ p. given (num_of p))) (gives look) ∙ ap (λ (q : Result Value Fault). given q s) (sym computed ∙ is)
+number_at_once e s x o gives r computed is = grind (arith, nat_tests)
 
 -- ---- where a machine stands then
 
--- at the key that a value names, or at the end that its fault makes
-get_leads : (look : Lookup) (r : Result (List ℕ) Fault) (frames : List Frame) (s : Session) →
-    finish_from look (at_get r) frames s ≡ on_value (onward_of look frames) (and_then (given r s) (get_key look))
-get_leads look (Ok key) frames s = refl
-get_leads look (Err fault) frames s = refl
-
 past_get : (r : Result (List ℕ) Fault) → IsPast (at_get r)
-past_get (Ok key) = tt
-past_get (Err fault) = tt
+past_get r = grind (arith, nat_tests)
 
 leads_there : (e : Expression) (s : Session) (x : Value) (focus : Focus) → GivesAtOnce e s x → focus ≡ at_get (key_in x) → LeadsOn (tree.Get e) s focus
 unfolding evaluate
-leads_there e s x focus gives is = record {
-  alike = λ look frames.
-      ap (λ (f : Focus). finish_from look f frames s) is
-      ∙ get_leads look (key_in x) frames s
-      ∙ sym (ap (λ (o : Outcome Value). on_value (onward_of look frames) (and_then o (λ y t. and_then (given (key_in y) t) (get_key look)))) (gives look));
-  past = subst IsPast (sym is) (past_get (key_in x));
-}
+leads_there e s x focus gives is = grind (arith, nat_tests, past_get)
 
 pub leads_to_key : (e : Expression) (s : Session) (x : Value) (o : Option Focus) → GivesAtOnce e s x → IfSome o (λ focus. focus ≡ at_get (key_in x)) →
     IfSome o (LeadsOn (tree.Get e) s)
@@ -90,22 +60,17 @@ leads_to_key e s x None gives is = tt
 leads_to_key e s x (Some focus) gives is = leads_there e s x focus gives is
 
 pub leads_behind : (e : Expression) (s : Session) (x : Value) → GivesAtOnce e s x → LeadsOn e s (Give (ValueItem x))
-leads_behind e s x gives = record {
-  alike = λ look frames. sym (ap (on_value (onward_of look frames)) (gives look));
-  past = tt;
-}
+leads_behind e s x gives = grind (arith, nat_tests)
 
 -- ---- statements
 
 pub set_at_once : (v : ℕ) (e : Expression) (s t : Session) (x : Value) → GivesAtOnce e s x → t ≡ with_variable v x s → RunsAtOnce (tree.Set v e) s t
 unfolding run_statement
-set_at_once v e s t x gives is =
-    λ look. ap (λ (o : Outcome Value). and_then o (λ y u. Gives tt (with_variable v y u))) (gives look) ∙ ap (λ (u : Session). Gives tt u) (sym is)
+set_at_once v e s t x gives is = grind (arith, nat_tests)
 
 pub emit_at_once : (e : Expression) (s t : Session) (x : Value) → GivesAtOnce e s x → t ≡ with_output x s → RunsAtOnce (tree.Emit e) s t
 unfolding run_statement
-emit_at_once e s t x gives is =
-    λ look. ap (λ (o : Outcome Value). and_then o (λ y u. Gives tt (with_output y u))) (gives look) ∙ ap (λ (u : Session). Gives tt u) (sym is)
+emit_at_once e s t x gives is = grind (arith, nat_tests)
 
 abbrev keep : Change → Session → Outcome (Unit {0})
 keep w s = Gives tt (with_write w s)
@@ -119,26 +84,16 @@ written_given r w s t is left = ap (λ (q : Result Change Fault). and_then (give
 pub put_at_once : (e f : Expression) (lease : ℕ) (s t : Session) (x y : Value) (w : Change) → GivesAtOnce e s x → GivesAtOnce f s y →
     put_of x y lease ≡ Ok w → t ≡ with_write w s → RunsAtOnce (tree.Put e f lease) s t
 unfolding run_statement
-put_at_once e f lease s t x y w key value is left =
-    λ look.
-    ap (λ (o : Outcome Value). and_then o (λ p u. and_then (evaluate look f u) (λ q r. and_then (given (put_of p q lease) r) (λ v z. Gives tt (with_write v z)))))
-    (key look)
-    ∙ ap (λ (o : Outcome Value). and_then o (λ q r. and_then (given (put_of x q lease) r) (λ v z. Gives tt (with_write v z)))) (value look)
-    ∙ written_given (put_of x y lease) w s t is left
+put_at_once e f lease s t x y w key value is left = grind (arith, nat_tests, written_given)
 
 pub del_at_once : (e : Expression) (s t : Session) (x : Value) (w : Change) → GivesAtOnce e s x → del_of x ≡ Ok w → t ≡ with_write w s →
     RunsAtOnce (tree.Del e) s t
 unfolding run_statement
-del_at_once e s t x w key is left =
-    λ look.
-    ap (λ (o : Outcome Value). and_then o (λ p r. and_then (given (del_of p) r) (λ v z. Gives tt (with_write v z)))) (key look)
-    ∙ written_given (del_of x) w s t is left
+del_at_once e s t x w key is left = grind (arith, nat_tests, written_given)
 
 -- whether a statement was run at once
 pub has_run : (ran : Bool) (statement : Statement) (s t : Session) → ran ≡ true → RunsOrStays ran statement s t → RunsAtOnce statement s t
-has_run true statement s t yes_ran runs = runs
-has_run false statement s t yes_ran stays = absurd (cc)
+has_run ran statement s t yes_ran runs = grind (arith, nat_tests)
 
 pub has_stayed : (ran : Bool) (statement : Statement) (s t : Session) → ran ≡ false → RunsOrStays ran statement s t → t ≡ s
-has_stayed true statement s t not_ran runs = absurd (cc)
-has_stayed false statement s t not_ran stays = stays
+has_stayed ran statement s t not_ran runs = grind (arith, nat_tests)

@@ -1,5 +1,6 @@
 -- The parts that wait, as the code keeps them.
-use Rattle.std.proofs.Common.{◌≡◌, refl, ◌∙◌, ap, ℕ, zero, suc, ◌+◌, ◌≤◌, List, [], ◌∷◌, length, drop, arith}
+use Rattle.std.proofs.Common.{◌≡◌, refl, ℕ, zero, suc, ◌+◌, ◌≤◌, List, [], ◌∷◌, length, drop, arith}
+use Rattle.std.proofs.lemmas.Bool.Decides.{nat_tests}
 use Rattle.stm_program.specs.Syntax.{Statement}
 use Rattle.stm_program.specs.BlockView.{block_of}
 use Rattle.stm_machine.specs.Parts.{behind_first}
@@ -13,9 +14,7 @@ behind_suc (p ∷ ss) zero = refl
 behind_suc (p ∷ ss) (suc i) = behind_suc ss i
 
 pub behind_within : (ss : List Statement) (i : ℕ) → block_of (drop (i + 1) ss) ≡ behind_first (block_of (drop i ss))
-behind_within ss i =
-    let next : i + 1 ≡ suc i = omega arith in
-    ap (λ n. block_of (drop n ss)) next ∙ behind_suc ss i
+behind_within ss i = grind (arith, nat_tests, behind_suc)
 
 pub behind_past : (ss : List Statement) (i : ℕ) → length ss ≤ i → block_of (drop i ss) ≡ behind_first (block_of (drop i ss))
 behind_past [] zero past = refl

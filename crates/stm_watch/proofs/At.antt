@@ -3,6 +3,7 @@ use Rattle.std.proofs.Common.{◌≡◌, ◌⊎◌, ℕ, zero, suc, ◌<◌, Lis
 use Rattle.std.proofs.Common.{false, refl, sym, ap, ◌∙◌, inl, inr, arith}
 use Rattle.std.proofs.lemmas.Option.{same_Some}
 use Rattle.std.proofs.Math.ListN.{get_or-map}
+use Rattle.std.proofs.lemmas.Bool.Decides.{nat_tests}
 
 -- something stands at no place past the last
 pub within : {A : Type 0} (xs : List (Option A)) (i : ℕ) → IsSome (slice_index_or xs i None) → i < length xs
@@ -11,8 +12,7 @@ within (x ∷ xs) zero some = omega arith
 within (x ∷ xs) (suc i) some = let rest = within xs i some in omega (arith, rest)
 
 pub not_some : {A : Type 0} (o : Option A) → is_some o ≡ false → o ≡ None
-not_some None none = refl
-not_some (Some x) none = absurd (cc)
+not_some o none = grind (arith, nat_tests)
 
 pub slot_of_map : {A B : Type 0} (f : A → B) (xs : List (Option A)) (i : ℕ)
     → slice_index_or (map (option_map f) xs) i None ≡ option_map f (slice_index_or xs i None)
@@ -39,10 +39,7 @@ pub slot_of_more : {A : Type 0} (xs : List (Option A)) (x y : A) (i : ℕ) → s
 slot_of_more [] x y zero is = inr (refl, same_Some x y is)
 slot_of_more [] x y (suc i) is = absurd (cc)
 slot_of_more (z ∷ xs) x y zero is = inl is
-slot_of_more (z ∷ xs) x y (suc i) is = elim (slot_of_more xs x y i is) [
-  | inl before ↦ inl before
-  | inr here ↦ inr (ap suc here.0, here.1)
-]
+slot_of_more (z ∷ xs) x y (suc i) is = grind (arith, nat_tests, slot_of_more xs x y i is)
 
 -- what is read at a place that is there does not depend on what would be read past the last
 pub read_same : {A : Type 0} (xs : List A) (i : ℕ) (d e : A) → i < length xs → slice_index_or xs i d ≡ slice_index_or xs i e

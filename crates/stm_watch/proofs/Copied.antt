@@ -1,10 +1,11 @@
 -- What copies of the tables and of the pages keep.
-use Rattle.std.proofs.Common.{◌≡◌, ℕ, cond, List, [], ◌∷◌, Some, String, refl, sym, ap, subst, ◌∙◌, inl, inr}
+use Rattle.std.proofs.Common.{◌≡◌, ℕ, List, [], ◌∷◌, String, refl, arith}
 use Rattle.std.specs.Prelude.{bytes_eq, string_bytes}
 use Rattle.std.specs.List.{AllZip}
 use Rattle.std.specs.Map.{lookup}
+use Rattle.std.proofs.lemmas.Bool.Decides.{nat_tests}
 use Rattle.stm_watch.specs.declared.page.Page.{Page}
-use Rattle.stm_watch.specs.Pages.{IsOneOf, Keeps}
+use Rattle.stm_watch.specs.Pages.{Keeps}
 use Rattle.stm_watch.proofs.Entered.{unsettled}
 
 -- copies of texts and numbers are found like their originals
@@ -14,10 +15,7 @@ pub copy_finds : {A : Type 0} (es fs : List (String A × ℕ)) (key : List ℕ)
 copy_finds [] [] key same = refl
 copy_finds [] (f ∷ fs) key same = absurd same
 copy_finds (e ∷ es) [] key same = absurd same
-copy_finds (e ∷ es) (f ∷ fs) key same =
-    ap (λ t. cond (bytes_eq key t) (Some f.1) (lookup (λ k. bytes_eq key (string_bytes k)) fs)) same.0.0
-    ∙ ap (λ n. cond (bytes_eq key (string_bytes e.0)) (Some n) (lookup (λ k. bytes_eq key (string_bytes k)) fs)) same.0.1
-    ∙ ap (cond (bytes_eq key (string_bytes e.0)) (Some e.1)) (copy_finds es fs key same.1)
+copy_finds (e ∷ es) (f ∷ fs) key same = grind (arith, nat_tests, copy_finds es fs key same.1)
 
 -- a copy of a page has its entries, and what it reaches is found anew
 abbrev pub IsPageCopy : Page → Page → Type 0
@@ -26,8 +24,4 @@ IsPageCopy page copy = (copy.reach.until ≡ 0) × (copy.entries.items ≡ page.
 pub keeps_copied : (pages copies : List Page) → AllZip IsPageCopy pages copies → Keeps pages copies
 keeps_copied [] copies p ws e has = absurd has
 keeps_copied (page ∷ pages) [] p ws e has = absurd p
-keeps_copied (page ∷ pages) (copy ∷ copies) p ws e has =
-    elim has [
-      | inl here ↦ inl (unsettled ws e copy p.0.0 (subst (IsOneOf e) (sym p.0.1) here.there))
-      | inr there ↦ inr (keeps_copied pages copies p.1 ws e there)
-    ]
+keeps_copied (page ∷ pages) (copy ∷ copies) p ws e has = grind (arith, nat_tests, unsettled, keeps_copied pages copies p.1)

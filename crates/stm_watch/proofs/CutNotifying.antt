@@ -1,24 +1,22 @@
 -- What a watcher is notified of once the oldest revisions are dropped, and once it was notified of more.
-use Rattle.std.proofs.Common.{◌≡◌, ℕ, zero, suc, ◌-◌, ◌≤◌, ◌<◌, max, Bool, true, false, cond, List, [], ◌∷◌, ◌++◌, length, map, take, Option, Some, None}
+use Rattle.std.proofs.Common.{◌≡◌, ℕ, zero, suc, ◌-◌, ◌≤◌, ◌<◌, max, Bool, false, cond, List, [], ◌∷◌, ◌++◌, map, take, Option, Some, None}
 use Rattle.std.proofs.Common.{refl, sym, ◌∙◌, ap, arith, inl, inr}
-use Rattle.std.specs.Prelude.{nat_lt, nat_le}
-use Rattle.std.proofs.lemmas.Bool.{cases_lt, lt-ltb, le-ltb, ltb-true, ltb-false}
+use Rattle.std.specs.Prelude.{nat_lt}
+use Rattle.std.proofs.lemmas.Bool.{cases_lt, lt-ltb, le-ltb, ltb-true, ltb-false, Decides.nat_tests}
 use Rattle.stm_history.specs.declared.change.Change.{Change}
-use Rattle.stm_history.specs.declared.change.Change.TheVariants.{Put, Del}
 use Rattle.stm_history.specs.declared.key_state.KeyState.{KeyState}
 use Rattle.stm_history.specs.Opening.{Opening, opened_state}
-use Rattle.stm_history.specs.History.{History, number_of_last, now, key_after, revisions_up_to, state_after_put}
-use Rattle.stm_history.specs.Cut.{revisions_above, opening_of_cut, cut}
+use Rattle.stm_history.specs.History.{History, number_of_last, now, key_after, revisions_up_to}
+use Rattle.stm_history.specs.Cut.{revisions_above, cut}
 use Rattle.stm_history.proofs.HistoryLaws.{last_is_above}
 use Rattle.stm_history.proofs.CutLaws.{taken_above, none_above, next_number, cut_key, cut_off, cut_at_the_opening, opened_by_cut}
 use Rattle.stm_keys.specs.declared.event.Event.{Event}
-use Rattle.stm_keys.specs.declared.event.Event.TheVariants.{Put as PutEvent}
 use Rattle.stm_keys.specs.Events.{event_of, events_above}
 use Rattle.stm_watch.specs.declared.pending_revision.PendingRevision.{PendingRevision}
 use Rattle.stm_watch.specs.declared.watched.Watched.{Watched}
 use Rattle.stm_watch.specs.Watching.{Watching}
 use Rattle.stm_watch.specs.Places.{is_lost}
-use Rattle.stm_watch.specs.Pending.{matching, pending_of_revision, pending_above, pending, number_of_first, first_pending, last_number, batch_of, after_poll}
+use Rattle.stm_watch.specs.Pending.{matching, pending_of_revision, pending_above, number_of_first, first_pending, last_number, after_poll}
 use Rattle.stm_watch.proofs.Notifying.{nothing_above, from_the_later, head_is}
 
 -- what a watcher sees of a revision with these events
@@ -28,22 +26,16 @@ part_of number watched events above = cond above (pending_of_revision number (ma
 -- ---- a history without its oldest revisions
 
 same_event : (number : ℕ) (old new : List ℕ → Option KeyState) (c : Change) → ((key : List ℕ) → old key ≡ new key) → event_of number old c ≡ event_of number new c
-same_event number old new (Put key value lease) same = ap (λ (s : Option KeyState). PutEvent key (state_after_put number value lease s)) (same key)
-same_event number old new (Del key) same = refl
+same_event number old new c same = grind (arith, nat_tests)
 
 same_events : (number : ℕ) (old new : List ℕ → Option KeyState) (cs : List Change) → ((key : List ℕ) → old key ≡ new key)
     → map (event_of number old) cs ≡ map (event_of number new) cs
 same_events number old new [] same = refl
-same_events number old new (c ∷ cs) same =
-    ap (λ (e : Event). e ∷ map (event_of number old) cs) (same_event number old new c same)
-    ∙ ap (λ (es : List Event). event_of number new c ∷ es) (same_events number old new cs same)
+same_events number old new (c ∷ cs) same = grind (arith, nat_tests, same_event, same_events number old new cs same)
 
 -- above a number that both are below, it does not matter which one was seen
 same_test : (seen below number : ℕ) → below < number → nat_lt seen number ≡ nat_lt (max seen below) number
-same_test seen below number less = elim (cases_lt seen number) [
-  | inl before ↦ lt-ltb seen number before ∙ sym (lt-ltb (max seen below) number (omega (arith, before, less)))
-  | inr after ↦ le-ltb seen number after ∙ sym (le-ltb (max seen below) number (omega (arith, after)))
-]
+same_test seen below number less = grind (arith, nat_tests, cases_lt, lt-ltb, le-ltb)
 
 -- one opening above another, on the way of these revisions
 module _ (old new : Opening) (above : old.number ≤ new.number) (seen : ℕ) (watched : Watched) where
@@ -77,31 +69,16 @@ module _ (old new : Opening) (above : old.number ≤ new.number) (seen : ℕ) (w
 -- A history that was cut shows what the whole one shows above the cut.
 pub reported_cut : (h : History) (number seen : ℕ) (watched : Watched) → number ≤ now h →
     pending_above (cut number h).opening seen watched (cut number h).revisions ≡ pending_above h.opening (max seen number) watched h.revisions
-reported_cut h number seen watched reached = elim (cases_lt h.opening.number number) [
-  | inl less ↦
-      ap (λ (g : History). pending_above g.opening seen watched g.revisions) (cut_off number h less)
-      ∙ reported_above_cut h.opening (opening_of_cut number h) (omega (arith, less)) seen watched h.revisions reached
-      (λ key. opened_by_cut number h key (omega (arith, less)))
-  | inr more ↦
-      let same : max seen h.opening.number ≡ max (max seen number) h.opening.number = omega (arith, more) in
-      ap (λ (g : History). pending_above g.opening seen watched g.revisions) (cut_at_the_opening h number more)
-      ∙ from_the_later h.opening seen watched h.revisions
-      ∙ ap (λ (n : ℕ). pending_above h.opening n watched h.revisions) same
-      ∙ sym (from_the_later h.opening (max seen number) watched h.revisions)
-]
+reported_cut h number seen watched reached = grind (arith, nat_tests, cases_lt, cut_off, reported_above_cut, opened_by_cut, cut_at_the_opening, from_the_later)
 
 -- ---- a watcher that is not lost
 
 first_part : (floor : ℕ) (ts us : List PendingRevision) → is_lost floor (number_of_first (ts ++ us)) ≡ false → is_lost floor (number_of_first ts) ≡ false
-first_part floor [] us not = refl
-first_part floor (t ∷ ts) us not = not
+first_part floor ts us not = grind (arith, nat_tests)
 
 none_below : (floor number : ℕ) (es : List Event) (b : Bool) → number < floor → is_lost floor (number_of_first (cond b (pending_of_revision number es) [])) ≡ false
     → cond b (pending_of_revision number es) [] ≡ []
-none_below floor number [] true less not = refl
-none_below floor number [] false less not = refl
-none_below floor number (e ∷ es) true less not = let is : nat_lt number floor ≡ true = lt-ltb number floor less in absurd (cc)
-none_below floor number (e ∷ es) false less not = refl
+none_below floor number es b less not = grind (arith, nat_tests, lt-ltb)
 
 -- what is below the floor is passed over
 passed_over : (floor : ℕ) (opening : Opening) (seen below : ℕ) (watched : Watched) (revisions : List (List Change)) → below < floor
@@ -131,14 +108,7 @@ passed_over floor opening seen below watched (changes ∷ older) less not =
 pub followed_cut : (h : History) (floor seen : ℕ) (watched : Watched) → floor ≤ now h
     → is_lost floor (number_of_first (pending_above h.opening seen watched h.revisions)) ≡ false
     → pending_above (cut (floor - 1) h).opening seen watched (cut (floor - 1) h).revisions ≡ pending_above h.opening seen watched h.revisions
-followed_cut h floor seen watched reached not = elim (cases_lt 0 floor) [
-  | inl some ↦
-      reported_cut h (floor - 1) seen watched (omega (arith, reached))
-      ∙ passed_over floor h.opening seen (floor - 1) watched h.revisions (omega (arith, some)) not
-  | inr none ↦
-      let same : max seen (floor - 1) ≡ seen = omega (arith, none) in
-      reported_cut h (floor - 1) seen watched (omega (arith, reached)) ∙ ap (λ (n : ℕ). pending_above h.opening n watched h.revisions) same
-]
+followed_cut h floor seen watched reached not = grind (arith, nat_tests, cases_lt, reported_cut, passed_over)
 
 -- nothing is pending of revisions up to the one that was seen
 first_case : (floor : ℕ) (opening : Opening) (seen : ℕ) (watched : Watched) (revisions : List (List Change)) (o : Option ℕ) → floor ≤ suc seen
@@ -149,21 +119,16 @@ first_case floor opening seen watched revisions (Some number) le is =
 
 pub seen_not_lost : (floor : ℕ) (opening : Opening) (seen : ℕ) (watched : Watched) (revisions : List (List Change)) → floor ≤ suc seen
     → is_lost floor (number_of_first (pending_above opening seen watched revisions)) ≡ false
-seen_not_lost floor opening seen watched revisions le =
-    first_case floor opening seen watched revisions (number_of_first (pending_above opening seen watched revisions)) le refl
+seen_not_lost floor opening seen watched revisions le = grind (arith, nat_tests, first_case)
 
 -- ---- a watcher that was notified of more
 
 both_parts : (floor : ℕ) (ts us : List PendingRevision) → is_lost floor (number_of_first ts) ≡ false → is_lost floor (number_of_first us) ≡ false
     → is_lost floor (number_of_first (ts ++ us)) ≡ false
-both_parts floor [] us first second = second
-both_parts floor (t ∷ ts) us first second = first
+both_parts floor ts us first second = grind (arith, nat_tests)
 
 low_part : (floor number : ℕ) (es : List Event) (b : Bool) → nat_lt number floor ≡ false → is_lost floor (number_of_first (cond b (pending_of_revision number es) [])) ≡ false
-low_part floor number [] true not = refl
-low_part floor number [] false not = refl
-low_part floor number (e ∷ es) true not = not
-low_part floor number (e ∷ es) false not = refl
+low_part floor number es b not = grind (arith, nat_tests)
 
 module _ (floor : ℕ) (opening : Opening) (seen later : ℕ) (watched : Watched) (le : seen ≤ later) where
   last_not_lost : (changes : List Change) (older : List (List Change)) (before : List PendingRevision) → pending_above opening seen watched older ≡ before
@@ -209,18 +174,11 @@ above_append seen [] us first second = second
 above_append seen (t ∷ ts) us first second = (first.0, above_append seen ts us first.1 second)
 
 above_part : (seen number : ℕ) (es : List Event) (b : Bool) → nat_lt seen number ≡ b → AreAbove seen (cond b (pending_of_revision number es) [])
-above_part seen number [] true less = tt
-above_part seen number [] false less = tt
-above_part seen number (e ∷ es) true less = (ltb-true seen number less, tt)
-above_part seen number (e ∷ es) false less = tt
+above_part seen number es b less = grind (arith, nat_tests, ltb-true)
 
 reported_are_above : (opening : Opening) (seen : ℕ) (watched : Watched) (revisions : List (List Change)) → AreAbove seen (pending_above opening seen watched revisions)
 reported_are_above opening seen watched [] = tt
-reported_are_above opening seen watched (changes ∷ older) =
-    let n : ℕ = number_of_last opening (changes ∷ older) in
-    let shown : List Event = events_above opening changes older in
-    above_append seen (pending_above opening seen watched older) (part_of n watched shown (nat_lt seen n)) (reported_are_above opening seen watched older)
-    (above_part seen n (matching watched shown) (nat_lt seen n) refl)
+reported_are_above opening seen watched (changes ∷ older) = grind (arith, nat_tests, above_append, above_part, reported_are_above opening seen watched older)
 
 above_take : (seen most : ℕ) (ts : List PendingRevision) → AreAbove seen ts → AreAbove seen (take most ts)
 above_take seen zero ts above = tt
@@ -231,17 +189,7 @@ last_later : (seen last : ℕ) (ts : List PendingRevision) → seen ≤ last →
 last_later seen last [] le above = le
 last_later seen last (t ∷ ts) le above = last_later seen t.number ts (omega (arith, above.0)) above.1
 
-upto_later : (most : ℕ) (h : History) (w : Watching) → w.seen ≤ (batch_of most h w).upto
-upto_later most h w = by_test (nat_le (length (pending h w)) most)
-  where
-    by_test : (b : Bool) → w.seen ≤ cond b (max w.seen (now h)) (last_number w.seen (take most (pending h w)))
-    by_test true = omega arith
-    by_test false =
-        last_later w.seen w.seen (take most (pending h w)) (omega arith)
-        (above_take w.seen most (pending h w) (reported_are_above h.opening w.seen w.watched h.revisions))
-
 -- A poll loses no watcher.
 pub polled_not_lost : (floor most : ℕ) (h : History) (w : Watching) → is_lost floor (first_pending h w) ≡ false
     → is_lost floor (first_pending h (after_poll most h w)) ≡ false
-polled_not_lost floor most h w not =
-    not_lost_later floor h.opening w.seen (batch_of most h w).upto w.watched (upto_later most h w) h.revisions not
+polled_not_lost floor most h w not = grind (arith, nat_tests, not_lost_later, last_later, above_take, reported_are_above)

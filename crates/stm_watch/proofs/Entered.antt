@@ -1,8 +1,8 @@
 -- The entries on pages after each change.
-use Rattle.std.proofs.Common.{◌≡◌, ◌≢◌, ◌⊎◌, ℕ, zero, suc, ◌<◌, ◌≤◌, Bool, true, ◌&&◌, nat_eq, List, [], ◌∷◌, ◌++◌, take, drop, length, map, Option, Some, None}
+use Rattle.std.proofs.Common.{◌≡◌, ◌≢◌, ◌⊎◌, ℕ, zero, suc, ◌<◌, Bool, true, ◌&&◌, nat_eq, List, [], ◌∷◌, ◌++◌, take, drop, length, map, Option, Some, None}
 use Rattle.std.proofs.Common.{IsSome, option_map, slice_index_or, slice_set, refl, sym, ap, subst, ◌∙◌, inl, inr, arith}
 use Rattle.std.specs.Prelude.{nat_lt}
-use Rattle.std.proofs.lemmas.Bool.{cases_eq, ne_eqb}
+use Rattle.std.proofs.lemmas.Bool.{cases_eq, ne_eqb, Decides.nat_tests}
 use Rattle.std.proofs.lemmas.List.{get_or-set_same, get_or-set_other}
 use Rattle.std.proofs.lemmas.Option.{same_Some}
 use Rattle.stm_watch.specs.declared.page.RangeEntry.{RangeEntry}
@@ -67,8 +67,7 @@ module _ {A : Type 0} (is : A → Type 0) where
   pub any-two : (xs : List A) (i : ℕ) (y z d : A) → (is (slice_index_or xs i d) → is y ⊎ is z) → IsAny is xs
       → IsAny is (take (suc i) (slice_set xs i y) ++ z ∷ drop (suc i) (slice_set xs i y))
   any-two [] i y z d to any = absurd any
-  any-two (x ∷ xs) zero y z d to any =
-      elim any [ inl here ↦ elim (to here) [ inl one ↦ inl one | inr other ↦ inr (inl other) ] | inr there ↦ inr (inr there) ]
+  any-two (x ∷ xs) zero y z d to any = grind (arith, nat_tests)
   any-two (x ∷ xs) (suc i) y z d to any = elim any [ inl here ↦ inl here | inr there ↦ inr (any-two xs i y z d to there) ]
 
   pub any-read : (xs : List A) (i : ℕ) (d : A) → i < length xs → is (slice_index_or xs i d) → IsAny is xs
@@ -93,11 +92,7 @@ unsettled ws e page none there = record { met = λ w at idle. inl (omega (arith,
 
 pub entered_same : (old new : List Page) (ws : List (Option Watcher)) → ((e : RangeEntry) → HasEntry ws old e → HasEntry ws new e) → AreEntered old ws
     → AreEntered new ws
-entered_same old new ws keeps entered i w at = by_watched w.watched (entered i w at)
-  where
-    by_watched : (v : Watched) → IsEntered v i ws old → IsEntered v i ws new
-    by_watched (Key key) has = tt
-    by_watched (Range first end) has = keeps (entry_of first end i) has
+entered_same old new ws keeps entered i w at = grind (arith, nat_tests)
 
 -- one that is idle at a place was idle there before, and has seen what it had
 abbrev IsStill : List (Option Watcher) → List (Option Watcher) → ℕ → Type 0
@@ -110,16 +105,7 @@ same_still old new i same v at idle = (v, sym same ∙ at, idle, refl)
 
 entered_still : (pages : List Page) (old new : List (Option Watcher)) (w : Watched) (i : ℕ) → IsStill old new i → IsEntered w i old pages
     → IsEntered w i new pages
-entered_still pages old new (Key key) i still entered = tt
-entered_still pages old new (Range first end) i still entered =
-    any-map (StandsOn old (entry_of first end i)) (StandsOn new (entry_of first end i))
-    (λ page stands. record {
-      met = λ v at idle.
-          let was = still v at idle in
-          elim (stands.met was.0 was.1 was.2) [ inl le ↦ inl (subst (λ (n : ℕ). page.reach.until ≤ n) was.3 le) | inr within ↦ inr within ];
-      there = stands.there;
-    })
-    pages entered
+entered_still pages old new w i still entered = grind (arith, nat_tests, any-map, within)
 
 -- after a change of a key
 pub entered_touched : (revision : ℕ) (key : List ℕ) (pages : List Page) (ws : List (Option Watcher)) → AreEntered pages ws
@@ -152,12 +138,7 @@ entered_touched revision key pages ws entered i w at =
 -- one watcher more
 pub entered_more : (pages : List Page) (ws : List (Option Watcher)) (w : Watcher)
     → ((all : List (Option Watcher)) → IsEntered w.watched (length ws) all pages) → AreEntered pages ws → AreEntered pages (ws ++ Some w ∷ [])
-entered_more pages ws w new entered i v at =
-    elim (slot_of_more ws w v i at) [
-      | inl before ↦ entered_still pages ws (ws ++ Some w ∷ []) v.watched i (same_still ws (ws ++ Some w ∷ []) i (at ∙ sym before)) (entered i v before)
-      | inr here ↦ subst (λ (x : Watcher). IsEntered x.watched i (ws ++ Some w ∷ []) pages) here.1
-          (subst (λ (k : ℕ). IsEntered w.watched k (ws ++ Some w ∷ []) pages) (sym here.0) (new (ws ++ Some w ∷ [])))
-    ]
+entered_more pages ws w new entered i v at = grind (arith, nat_tests, slot_of_more, entered_still, same_still)
 
 -- those at other places
 others : (old new : List Page) (ws : List (Option Watcher)) (place : ℕ) (slot : Option Watcher) (i : ℕ) (w : Watcher) → KeepsOthers place old new

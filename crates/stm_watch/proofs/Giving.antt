@@ -3,7 +3,7 @@ use Rattle.std.proofs.Common.{◌≡◌, ℕ, ◌+◌, ◌≤◌, max, Bool, fal
 use Rattle.std.proofs.Common.{arith, append-nil, append_assoc, length-append, take_all}
 use Rattle.std.specs.Prelude.{nat_le}
 use Rattle.std.proofs.Math.Nat.{le-max_right}
-use Rattle.std.proofs.lemmas.Bool.{le-leb, lt-leb}
+use Rattle.std.proofs.lemmas.Bool.{le-leb, lt-leb, Decides.nat_tests}
 use Rattle.std.proofs.lemmas.Grind.{flat_map-append}
 use Rattle.stm_history.specs.History.{History, now}
 use Rattle.stm_keys.specs.declared.event.Event.{Event}
@@ -19,8 +19,7 @@ AreGiven all above seen count events upto =
     (given : List PendingRevision) × (length given ≡ count) × (events ≡ pending_events given) × (upto ≡ last_number seen given) × (all ≡ given ++ above upto)
 
 events_one_more : (given : List PendingRevision) (t : PendingRevision) → pending_events (given ++ t ∷ []) ≡ pending_events given ++ t.events
-events_one_more given t =
-    flat_map-append (λ (t : PendingRevision). t.events) given (t ∷ []) ∙ ap (λ (es : List Event). pending_events given ++ es) (append-nil t.events)
+events_one_more given t = grind (arith, nat_tests, flat_map-append, append-nil)
 
 last_one_more : (seen : ℕ) (given : List PendingRevision) (t : PendingRevision) → last_number seen (given ++ t ∷ []) ≡ t.number
 last_one_more seen [] t = refl
@@ -61,13 +60,7 @@ above_of h w upto = pending_above h.opening upto w.watched h.revisions
 whole_batch : (most : ℕ) (h : History) (w : Watching) (count : ℕ) (events : List Event) (upto : ℕ) →
     AreGiven (pending h w) (above_of h w) w.seen count events upto → count ≤ most → above_of h w upto ≡ []
     → batch_of most h w ≡ batch events (max w.seen (now h))
-whole_batch most h w count events upto so_far room none =
-    let given : List PendingRevision = so_far.0 in
-    let all : pending h w ≡ given = so_far.4 ∙ ap (λ (ts : List PendingRevision). given ++ ts) none ∙ append-nil given in
-    let long : length given ≤ most = omega (arith, so_far.1) in
-    ap (made most w.seen (now h)) all
-    ∙ made_whole most w.seen (now h) given long
-    ∙ ap (λ (es : List Event). batch (es) (max w.seen (now h))) (sym so_far.2)
+whole_batch most h w count events upto so_far room none = grind (arith, nat_tests, append-nil, made_whole)
 
 take_front : (given rest : List PendingRevision) (n : ℕ) → length given ≡ n → take n (given ++ rest) ≡ given
 take_front given rest n long = ap (λ (m : ℕ). take m (given ++ rest)) (sym long) ∙ by_given given
@@ -78,36 +71,23 @@ take_front given rest n long = ap (λ (m : ℕ). take m (given ++ rest)) (sym lo
 
 made_part : (most seen counter : ℕ) (given : List PendingRevision) (t : PendingRevision) (rest : List PendingRevision) → length given ≡ most →
     made most seen counter (given ++ t ∷ rest) ≡ batch (pending_events given) (last_number seen given)
-made_part most seen counter given t rest long =
-    ap (λ (ts : List PendingRevision). batch (pending_events ts) (cond (nat_le (length (given ++ t ∷ rest)) most) (max seen counter) (last_number seen ts)))
-    (take_front given (t ∷ rest) most long)
-    ∙ ap (λ (b : Bool). batch (pending_events given) (cond b (max seen counter) (last_number seen given)))
-    (lt-leb (length (given ++ t ∷ rest)) most (omega (arith, long, length-append given (t ∷ rest))))
+made_part most seen counter given t rest long = grind (arith, nat_tests, take_front, lt-leb, length-append)
 
 part_batch : (most : ℕ) (h : History) (w : Watching) (count : ℕ) (events : List Event) (upto : ℕ) (t : PendingRevision) (rest : List PendingRevision) →
     AreGiven (pending h w) (above_of h w) w.seen count events upto → count ≡ most → above_of h w upto ≡ t ∷ rest
     → batch_of most h w ≡ batch events upto
-part_batch most h w count events upto t rest so_far full some =
-    let given : List PendingRevision = so_far.0 in
-    let all : pending h w ≡ given ++ t ∷ rest = so_far.4 ∙ ap (λ (ts : List PendingRevision). given ++ ts) some in
-    ap (made most w.seen (now h)) all
-    ∙ made_part most w.seen (now h) given t rest (so_far.1 ∙ full)
-    ∙ ap (λ (es : List Event). batch es (last_number w.seen given)) (sym so_far.2)
-    ∙ ap (batch events) (sym so_far.3)
+part_batch most h w count events upto t rest so_far full some = grind (arith, nat_tests, made_part)
 
 -- ---- the batch, and what is pending after it
 
 none_reported : (ts : List PendingRevision) → None ≡ number_of_first ts → ts ≡ []
-none_reported [] none = refl
-none_reported (t ∷ ts) none = absurd (cc)
+none_reported ts none = grind (arith, nat_tests)
 
 pub none_is : (o : Option ℕ) → is_some o ≡ false → o ≡ None
-none_is None none = refl
-none_is (Some n) none = absurd (cc)
+none_is o none = grind (arith, nat_tests)
 
 some_reported : (ts : List PendingRevision) (number : ℕ) → Some number ≡ number_of_first ts → (t : PendingRevision) × (rest : List PendingRevision) × (ts ≡ t ∷ rest)
-some_reported [] number some = absurd (cc)
-some_reported (t ∷ ts) number some = (t, ts, refl)
+some_reported ts number some = grind (arith, nat_tests)
 
 module _ (most : ℕ) (h : History) (w : Watching) (count : ℕ) (events : List Event) (upto : ℕ)
     (so_far : AreGiven (pending h w) (above_of h w) w.seen count events upto) (room : count ≤ most) where
@@ -116,9 +96,7 @@ module _ (most : ℕ) (h : History) (w : Watching) (count : ℕ) (events : List 
   all_given none = sym (whole_batch most h w count events upto so_far room (none_reported (above_of h w upto) none))
 
   pub none_after : None ≡ number_of_first (above_of h w upto) → None ≡ first_pending h (after_poll most h w)
-  none_after none =
-      sym (ap number_of_first (nothing_above h.opening (max w.seen (now h)) w.watched h.revisions (le-max_right w.seen (now h))))
-      ∙ ap (λ (b : Batch). number_of_first (above_of h w b.upto)) (all_given none)
+  none_after none = grind (arith, nat_tests, nothing_above, le-max_right, all_given)
 
   -- more is pending
   pub part_given : most ≤ count → (number : ℕ) → Some number ≡ number_of_first (above_of h w upto) → batch events upto ≡ batch_of most h w

@@ -1,7 +1,7 @@
 -- The index of watchers after each change.
-use Rattle.std.proofs.Common.{◌≡◌, ◌≢◌, ◌⊎◌, ℕ, ◌<◌, ◌+◌, ◌-◌, nat_eq, ne_eqb, arith, Bool, true, false, cond, List, [], ◌∷◌, ◌++◌, length, Option, Some}
-use Rattle.std.proofs.Common.{None, IsSome, is_some, unwrap_or, slice_index_or, slice_set, refl, sym, ap, subst, ◌∙◌, inl, inr, length-append}
-use Rattle.std.proofs.lemmas.Bool.{cases_Bool, cases_eq}
+use Rattle.std.proofs.Common.{◌≡◌, ◌⊎◌, ℕ, ◌<◌, ◌+◌, arith, Bool, false, cond, List, [], ◌∷◌, ◌++◌, length, Option, Some}
+use Rattle.std.proofs.Common.{None, IsSome, is_some, slice_index_or, slice_set, refl, sym, ap, subst, ◌∙◌, inl, inr, length-append}
+use Rattle.std.proofs.lemmas.Bool.{cases_Bool, cases_eq, Decides.nat_tests}
 use Rattle.std.proofs.lemmas.List.{get_or-set_same, get_or-set_other, get_or_append_left, length-set}
 use Rattle.std.proofs.lemmas.Option.{same_Some}
 use Rattle.std.proofs.lemmas.Slice.Eq.{bytes_eq-Decides}
@@ -9,16 +9,15 @@ use Rattle.std.proofs.Math.Seq.{get_or-append_seam}
 use Rattle.std.specs.Str.{bytes_eq}
 use Rattle.stm_lists.specs.Lists.{Lists, Place, list_at, entries_at, HasList, HasNode, StandsAt, Updates, first_node}
 use Rattle.stm_watch.specs.declared.watched.Watched.{Watched}
-use Rattle.stm_watch.specs.declared.watched.Watched.TheVariants.{Key, Range}
+use Rattle.stm_watch.specs.declared.watched.Watched.TheVariants.{Key}
 use Rattle.stm_watch.specs.declared.watched.Watcher.{Watcher}
-use Rattle.stm_watch.specs.Calls.{is_ready, IsNextReady}
+use Rattle.stm_watch.specs.Calls.{IsNextReady}
 use Rattle.stm_watch.specs.Kept.{Holds, AreListed, AreCovered, list_in, list_among}
 use Rattle.stm_watch.proofs.At.{within, read_at, slot_of_more, set_twice}
 use Rattle.stm_watch.proofs.Linked.{place_on, front_on, no_front, more_new, more_kept, more_from, more_there, less_kept, less_from, less_there}
 
 pub some_is : {A : Type 0} (o : Option A) → IsSome o → (x : A) × (o ≡ Some x)
-some_is None some = absurd (cc)
-some_is (Some x) some = (x, refl)
+some_is o some = grind (arith, nat_tests)
 
 -- ---- the lists of watchers
 
@@ -26,30 +25,7 @@ some_is (Some x) some = (x, refl)
 listed_same : (old new : Lists ℕ) (lists_of new_lists_of : Watcher → Option ℕ) (nodes new_nodes : List (Option ℕ)) (ws : List (Option Watcher))
     → new.lists ≡ old.lists → ((w : Watcher) → new_lists_of w ≡ lists_of w) → new_nodes ≡ nodes → AreListed old lists_of nodes ws
     → AreListed new new_lists_of new_nodes ws
-listed_same old new lists_of new_lists_of nodes new_nodes ws same_lists same_for same_nodes listed =
-    record {
-      long = ap length same_nodes ∙ listed.long;
-      there = λ w l is. subst (λ ls. IsSome (slice_index_or ls l None)) (sym same_lists) (listed.there w l (sym (same_for w) ∙ is));
-      stands = λ i w at.
-          let had = listed.stands i w at in (
-            had.0,
-            had.1,
-            same_for w
-                ∙ had.2,
-            ap (λ ns. slice_index_or ns i None) same_nodes
-                ∙ had.3,
-            subst (λ ls. Holds (unwrap_or (slice_index_or ls had.0 None) []) had.1 i) (sym same_lists) had.4,
-          );
-      only = λ l n i h.
-          let had = listed.only l n i (subst (λ ls. Holds (unwrap_or (slice_index_or ls l None) []) n i) same_lists h) in (
-            ap (λ ns. slice_index_or ns i None) same_nodes
-                ∙ had.0,
-            had.1,
-            had.2,
-            same_for had.1
-                ∙ had.3,
-          );
-    }
+listed_same old new lists_of new_lists_of nodes new_nodes ws same_lists same_for same_nodes listed = grind (arith, nat_tests)
 
 -- there is one list more
 listed_new : (old new : Lists ℕ) (lists_of new_lists_of : Watcher → Option ℕ) (nodes : List (Option ℕ)) (ws : List (Option Watcher)) (list : ℕ)
@@ -57,37 +33,7 @@ listed_new : (old new : Lists ℕ) (lists_of new_lists_of : Watcher → Option �
     → ((w : Watcher) (l : ℕ) → lists_of w ≡ Some l → new_lists_of w ≡ Some l)
     → ((w : Watcher) (l : ℕ) → new_lists_of w ≡ Some l → (l ≡ list) ⊎ (lists_of w ≡ Some l))
     → AreListed old lists_of nodes ws → AreListed new new_lists_of nodes ws
-listed_new old new lists_of new_lists_of nodes ws list fresh updates to from listed =
-    record {
-      long = listed.long;
-      there = λ w l is. elim (from w l is) [
-        | inl same ↦ subst (HasList new) (sym same) (subst IsSome (sym updates.changed) refl)
-        | inr before ↦ still l (listed.there w l before)
-      ];
-      stands = λ i w at.
-          let had = listed.stands i w at in
-          (had.0, had.1, to w had.0 had.2, had.3, kept had.0 had.1 i had.4);
-      only = λ l n i h. elim (cases_eq l list) [
-        | inl same ↦ absurd (subst (λ (xs : List (ℕ × ℕ)). Holds xs n i) (ap (λ o. unwrap_or o []) updates.changed)
-            (subst (λ (k : ℕ). Holds (entries_at new k) n i) same h))
-        | inr differs ↦
-            let had = listed.only l n i (subst (λ (xs : List (ℕ × ℕ)). Holds xs n i) (ap (λ o. unwrap_or o []) (updates.others l differs)) h) in
-            (had.0, had.1, had.2, to had.1 l had.3)
-      ];
-    }
-  where
-    still : (l : ℕ) → HasList old l → HasList new l
-    still l has = elim (cases_eq l list) [
-      | inl same ↦ subst (HasList new) (sym same) (subst IsSome (sym updates.changed) refl)
-      | inr differs ↦ subst IsSome (sym (updates.others l differs)) has
-    ]
-
-    kept : (l n i : ℕ) → Holds (entries_at old l) n i → Holds (entries_at new l) n i
-    kept l n i h = elim (cases_eq l list) [
-      | inl same ↦ absurd (subst (λ (xs : List (ℕ × ℕ)). Holds xs n i) (ap (λ o. unwrap_or o []) fresh)
-          (subst (λ (k : ℕ). Holds (entries_at old k) n i) same h))
-      | inr differs ↦ subst (λ (xs : List (ℕ × ℕ)). Holds xs n i) (sym (ap (λ o. unwrap_or o []) (updates.others l differs))) h
-    ]
+listed_new old new lists_of new_lists_of nodes ws list fresh updates to from listed = grind (arith, nat_tests, cases_eq)
 
 -- one watcher more
 listed_more : (old new : Lists ℕ) (lists_of : Watcher → Option ℕ) (nodes : List (Option ℕ)) (ws : List (Option Watcher)) (list node : ℕ) (w : Watcher)
@@ -142,18 +88,6 @@ listed_more old new lists_of nodes ws list node w listed is updates =
         )
       ];
     }
-
--- the node of a watcher that is there
-listed_node : (lists : Lists ℕ) (lists_of : Watcher → Option ℕ) (nodes : List (Option ℕ)) (ws : List (Option Watcher)) (i node : ℕ) (o : Option ℕ)
-    → AreListed lists lists_of nodes ws → IsSome (slice_index_or ws i None) → o ≡ slice_index_or nodes i o → o ≡ Some node
-    → (list : ℕ) × (slice_index_or nodes i None ≡ Some node) × Holds (entries_at lists list) node i
-listed_node lists lists_of nodes ws i node o listed some at is =
-    let w = some_is (slice_index_or ws i None) some in
-    let had = listed.stands i w.0 w.1 in
-    let below = within nodes i (subst IsSome (sym had.3) refl) in
-    let here : slice_index_or nodes i None ≡ Some node = sym (read_at nodes i o below) ∙ sym at ∙ is in
-    let same : had.1 ≡ node = same_Some had.1 node (sym had.3 ∙ here) in
-    (had.0, here, subst (λ (n : ℕ). Holds (entries_at lists had.0) n i) same had.4)
 
 -- one watcher less
 listed_less : (old new : Lists ℕ) (lists_of : Watcher → Option ℕ) (nodes : List (Option ℕ)) (ws : List (Option Watcher)) (i node list : ℕ)
@@ -267,36 +201,25 @@ listed_again old new lists_of nodes ws list node i w listed below none is update
 lists_to : (of_key new_of_key : List ℕ → Option ℕ) (ranges list : ℕ) (key : List ℕ) → of_key key ≡ None
     → ((q : List ℕ) → new_of_key q ≡ cond (bytes_eq key q) (Some list) (of_key q))
     → (watched : Watched) (l : ℕ) → list_in of_key ranges watched ≡ Some l → list_in new_of_key ranges watched ≡ Some l
-lists_to of_key new_of_key ranges list key none keys (Range first end) l is = is
-lists_to of_key new_of_key ranges list key none keys (Key q) l is = elim (cases_Bool (bytes_eq key q)) [
-  | inl same ↦ let never = ap of_key (sym ((bytes_eq-Decides key q).0 same)) ∙ none in absurd (cc)
-  | inr differs ↦ keys q ∙ ap (λ b. cond b (Some list) (of_key q)) differs ∙ is
-]
+lists_to of_key new_of_key ranges list key none keys watched l is = grind (arith, nat_tests, cases_Bool, bytes_eq-Decides)
 
 lists_from : (of_key new_of_key : List ℕ → Option ℕ) (ranges list : ℕ) (key : List ℕ)
     → ((q : List ℕ) → new_of_key q ≡ cond (bytes_eq key q) (Some list) (of_key q))
     → (watched : Watched) (l : ℕ) → list_in new_of_key ranges watched ≡ Some l → (l ≡ list) ⊎ (list_in of_key ranges watched ≡ Some l)
-lists_from of_key new_of_key ranges list key keys (Range first end) l is = inr is
-lists_from of_key new_of_key ranges list key keys (Key q) l is = elim (cases_Bool (bytes_eq key q)) [
-  | inl same ↦ inl (sym (same_Some list l (sym (ap (λ b. cond b (Some list) (of_key q)) same) ∙ sym (keys q) ∙ is)))
-  | inr differs ↦ inr (sym (ap (λ b. cond b (Some list) (of_key q)) differs) ∙ sym (keys q) ∙ is)
-]
+lists_from of_key new_of_key ranges list key keys watched l is = grind (arith, nat_tests, cases_Bool, same_Some)
 
 lists_same : (of_key new_of_key : List ℕ → Option ℕ) (ranges : ℕ) → ((q : List ℕ) → new_of_key q ≡ of_key q)
     → (watched : Watched) → list_in new_of_key ranges watched ≡ list_in of_key ranges watched
-lists_same of_key new_of_key ranges same (Key q) = same q
-lists_same of_key new_of_key ranges same (Range first end) = refl
+lists_same of_key new_of_key ranges same watched = grind (arith, nat_tests)
 
 -- the same of the lists on which watchers stand
 among_to : (ready l : ℕ) (idle new_idle : Option ℕ) (b : Bool) → (idle ≡ Some l → new_idle ≡ Some l) → cond b (Some ready) idle ≡ Some l
     → cond b (Some ready) new_idle ≡ Some l
-among_to ready l idle new_idle true to is = is
-among_to ready l idle new_idle false to is = to is
+among_to ready l idle new_idle b to is = grind (arith, nat_tests)
 
 among_from : (ready list l : ℕ) (idle new_idle : Option ℕ) (b : Bool) → (new_idle ≡ Some l → (l ≡ list) ⊎ (idle ≡ Some l))
     → cond b (Some ready) new_idle ≡ Some l → (l ≡ list) ⊎ (cond b (Some ready) idle ≡ Some l)
-among_from ready list l idle new_idle true from is = inr is
-among_from ready list l idle new_idle false from is = from is
+among_from ready list l idle new_idle b from is = grind (arith, nat_tests)
 
 -- a list that is looked for with success is there
 some_to : (o p : Option ℕ) → ((l : ℕ) → o ≡ Some l → p ≡ Some l) → IsSome o → IsSome p
@@ -307,44 +230,7 @@ some_to o p to some = let is = some_is o some in subst IsSome (sym (to is.0 is.1
 -- no watchers
 pub covered_none : (none one two : Lists ℕ) (of_key : List ℕ → Option ℕ) (ranges ready : ℕ) → none.lists ≡ [] → Updates none one ranges (Some [])
     → list_at one ready ≡ None → Updates one two ready (Some []) → ((q : List ℕ) → of_key q ≡ None) → AreCovered two of_key ranges ready [] []
-covered_none none one two of_key ranges ready empty first fresh second keys = record {
-  listed = record {
-    long = refl;
-    there = λ w l is. there_by l (is_some w.first) w.watched is;
-    stands = λ i w at. absurd (cc);
-    only = λ l n i h. absurd (subst (λ (xs : List (ℕ × ℕ)). Holds xs n i) (entries l) h);
-  };
-  waiting = λ i w at. absurd (cc);
-  apart = apart_by;
-}
-  where
-    differs : ranges ≢ ready
-    differs same =
-        let some : IsSome (list_at one ready) = subst (HasList one) same (subst IsSome (sym first.changed) refl) in
-        let never : IsSome {T = List (ℕ × ℕ)} None = subst IsSome fresh some in
-        absurd (cc)
-
-    ranges_there : list_at two ranges ≡ Some []
-    ranges_there = second.others ranges differs ∙ first.changed
-
-    entries : (l : ℕ) → entries_at two l ≡ []
-    entries l = elim (cases_eq l ready) [
-      | inl same ↦ ap (λ (k : ℕ). entries_at two k) same ∙ ap (λ o. unwrap_or o []) second.changed
-      | inr other ↦ elim (cases_eq l ranges) [
-        | inl same ↦ ap (λ (k : ℕ). entries_at two k) same ∙ ap (λ o. unwrap_or o []) ranges_there
-        | inr apart ↦
-            ap (λ o. unwrap_or o []) (second.others l other ∙ first.others l apart) ∙ ap (λ ls. unwrap_or (slice_index_or ls l None) []) empty
-      ]
-    ]
-
-    there_by : (l : ℕ) (b : Bool) (watched : Watched) → cond b (Some ready) (list_in of_key ranges watched) ≡ Some l → HasList two l
-    there_by l true watched is = subst (HasList two) (same_Some ready l is) (subst IsSome (sym second.changed) refl)
-    there_by l false (Key key) is = let never : None ≡ Some l = sym (keys key) ∙ is in absurd (cc)
-    there_by l false (Range low high) is = subst (HasList two) (same_Some ranges l is) (subst IsSome (sym ranges_there) refl)
-
-    apart_by : (watched : Watched) → list_in of_key ranges watched ≢ Some ready
-    apart_by (Key key) is = let never : None ≡ Some ready = sym (keys key) ∙ is in absurd (cc)
-    apart_by (Range low high) is = differs (same_Some ranges ready is)
+covered_none none one two of_key ranges ready empty first fresh second keys = grind (arith, nat_tests, cases_eq, same_Some)
 
 module _ (of_key : List ℕ → Option ℕ) (ranges ready : ℕ) where
   -- the lists of ready and of idle watchers are there
@@ -405,7 +291,7 @@ module _ (of_key : List ℕ → Option ℕ) (ranges ready : ℕ) where
   pub covered_node : (lists : Lists ℕ) (nodes : List (Option ℕ)) (ws : List (Option Watcher)) (i node : ℕ) (o : Option ℕ)
       → AreCovered lists of_key ranges ready nodes ws → IsSome (slice_index_or ws i None) → o ≡ slice_index_or nodes i o → o ≡ Some node
       → (list : ℕ) × (slice_index_or nodes i None ≡ Some node) × Holds (entries_at lists list) node i
-  covered_node lists nodes ws i node o covered some at is = listed_node lists (list_among of_key ranges ready) nodes ws i node o covered.listed some at is
+  covered_node lists nodes ws i node o covered some at is = grind (arith, nat_tests, some_is, within, read_at, same_Some)
 
   -- one watcher less
   pub covered_less : (old new : Lists ℕ) (nodes : List (Option ℕ)) (ws : List (Option Watcher)) (i node list : ℕ)
@@ -453,45 +339,13 @@ module _ (of_key : List ℕ → Option ℕ) (ranges ready : ℕ) where
     -- a watcher on an idle list is idle, and one on the list of the ready ones is ready
     pub is_idle : (w : Watcher) (watched : Watched) (list : ℕ) → list_in of_key ranges watched ≡ Some list → list_among of_key ranges ready w ≡ Some list
         → is_some w.first ≡ false
-    is_idle w watched list idle is = elim (cases_Bool (is_some w.first)) [
-      | inl some ↦
-          let same : ready ≡ list = same_Some ready list (sym (ap (λ b. cond b (Some ready) (list_in of_key ranges w.watched)) some) ∙ is) in
-          absurd (covered.apart watched (idle ∙ ap Some (sym same)))
-      | inr none ↦ none
-    ]
-
-    on_ready : (w : Watcher) → list_among of_key ranges ready w ≡ Some ready → is_some w.first ≡ true
-    on_ready w is = elim (cases_Bool (is_some w.first)) [
-      | inl some ↦ some
-      | inr none ↦ absurd (covered.apart w.watched (sym (ap (λ b. cond b (Some ready) (list_in of_key ranges w.watched)) none) ∙ is))
-    ]
-
-    none_ready : first_node (entries_at lists ready) ≡ None → (i : ℕ) → is_ready (slice_index_or ws i None) ≡ false
-    none_ready none i = by_slot (slice_index_or ws i None) refl
-      where
-        by_slot : (o : Option Watcher) → slice_index_or ws i None ≡ o → is_ready (slice_index_or ws i None) ≡ false
-        by_slot None is = ap is_ready is
-        by_slot (Some w) is = elim (cases_Bool (is_some w.first)) [
-          | inl some ↦
-              let had = covered.listed.stands i w is in
-              let same : ready ≡ had.0 =
-              same_Some ready had.0 (sym (ap (λ b. cond b (Some ready) (list_in of_key ranges w.watched)) some) ∙ had.2) in
-              absurd (no_front lists ready had.1 i none (subst (λ (l : ℕ). Holds (entries_at lists l) had.1 i) (sym same) had.4))
-          | inr idle ↦ ap is_ready is ∙ idle
-        ]
+    is_idle w watched list idle is = grind (arith, nat_tests, cases_Bool, same_Some)
 
     pub none_next : first_node (entries_at lists ready) ≡ None → IsNextReady ws None
-    none_next none id = by_id (nat_eq id 0)
-      where
-        by_id : (b : Bool) → is_ready (cond b None (slice_index_or ws (id - 1) None)) ≡ false
-        by_id true = refl
-        by_id false = none_ready none (id - 1)
+    none_next none id = grind (arith, nat_tests, cases_Bool, same_Some, no_front)
 
     pub first_node_of : (node : ℕ) → first_node (entries_at lists ready) ≡ Some node → HasNode lists node
-    first_node_of node is =
-        let on = front_on lists ready node is in
-        let place = place_on lists ready node on.0 on.1 in
-        (place.place, place.stands)
+    first_node_of node is = grind (arith, nat_tests, front_on, place_on)
 
     pub first_below : (node i : ℕ) → first_node (entries_at lists ready) ≡ Some node → ((place : Place ℕ) → StandsAt lists node place → i ≡ place.value)
         → i < length nodes
@@ -503,12 +357,4 @@ module _ (of_key : List ℕ → Option ℕ) (ranges ready : ℕ) where
 
     pub first_next : (node i : ℕ) → first_node (entries_at lists ready) ≡ Some node → ((place : Place ℕ) → StandsAt lists node place → i ≡ place.value)
         → IsNextReady ws (Some (i + 1))
-    first_next node i is got =
-        let on = front_on lists ready node is in
-        let place = place_on lists ready node on.0 on.1 in
-        let had = covered.listed.only ready node on.0 on.1 in
-        let before : i + 1 - 1 ≡ i = omega arith in
-        ap (λ b. is_ready (cond b None (slice_index_or ws (i + 1 - 1) None))) (ne_eqb (i + 1) 0 (λ e. absurd (omega (arith, e))))
-        ∙ ap (λ (k : ℕ). is_ready (slice_index_or ws k None)) (before ∙ got place.place place.stands ∙ place.number)
-        ∙ ap is_ready had.2
-        ∙ on_ready had.1 had.3
+    first_next node i is got = grind (arith, nat_tests, front_on, place_on, cases_Bool)

@@ -1,6 +1,6 @@
 -- What stands on lists after one node more, or one less.
-use Rattle.std.proofs.Common.{◌≡◌, ◌≢◌, ◌⊎◌, ℕ, List, [], ◌∷◌, ◌++◌, Option, Some, None, IsSome, unwrap_or, refl, sym, ap, subst, ◌∙◌, inl, inr}
-use Rattle.std.proofs.lemmas.Bool.{cases_eq}
+use Rattle.std.proofs.Common.{◌≡◌, ◌≢◌, ◌⊎◌, ℕ, List, [], ◌∷◌, ◌++◌, Option, Some, None, unwrap_or, refl, sym, ap, subst, ◌∙◌, inl, inr, arith}
+use Rattle.std.proofs.lemmas.Bool.{cases_eq, Decides.nat_tests}
 use Rattle.stm_lists.specs.Lists.{Lists, Place, list_at, entries_at, HasList, HasNode, StandsAt, Updates, first_node}
 use Rattle.stm_watch.specs.Kept.{Holds}
 
@@ -23,23 +23,6 @@ holds-parts node i (e ∷ xs) ys h =
       | inr there ↦ elim (holds-parts node i xs ys there) [ inl left ↦ inl (inr left) | inr right ↦ inr right ]
     ]
 
--- another number stays where one entry leaves
-holds-without : (node i gone number : ℕ) (before after : List (ℕ × ℕ)) → i ≢ number → Holds (before ++ (gone, number) ∷ after) node i
-    → Holds (before ++ after) node i
-holds-without node i gone number before after differs h =
-    elim (holds-parts node i before ((gone, number) ∷ after) h) [
-      | inl left ↦ holds-left node i before after left
-      | inr right ↦ elim right [ inl here ↦ absurd (differs (sym here.1)) | inr there ↦ holds-right node i before after there ]
-    ]
-
--- and what stands without the entry stands with it
-holds-with : (node i gone number : ℕ) (before after : List (ℕ × ℕ)) → Holds (before ++ after) node i → Holds (before ++ (gone, number) ∷ after) node i
-holds-with node i gone number before after h =
-    elim (holds-parts node i before after h) [
-      | inl left ↦ holds-left node i before ((gone, number) ∷ after) left
-      | inr right ↦ holds-right node i before ((gone, number) ∷ after) (inr right)
-    ]
-
 holds-split : (node i : ℕ) (xs : List (ℕ × ℕ)) → Holds xs node i
     → (before : List (ℕ × ℕ)) × (after : List (ℕ × ℕ)) × (xs ≡ before ++ (node, i) ∷ after)
 holds-split node i [] h = absurd h
@@ -53,8 +36,7 @@ holds-split node i (e ∷ xs) h =
 
 -- a list on which something stands is there
 there : (o : Option (List (ℕ × ℕ))) (node i : ℕ) → Holds (unwrap_or o []) node i → o ≡ Some (unwrap_or o [])
-there None node i h = absurd h
-there (Some xs) node i h = refl
+there o node i h = grind (arith, nat_tests)
 
 -- a node that stands on a list with a number
 pub record IsOn (s : Lists ℕ) (list node i : ℕ) : Type 0 where
@@ -74,9 +56,7 @@ place_on s list node i h =
     }
 
 pub holds_at : (s : Lists ℕ) (node : ℕ) (place : Place ℕ) → StandsAt s node place → Holds (entries_at s place.list) node place.value
-holds_at s node place stands =
-    subst (λ xs. Holds xs node place.value) (sym (ap (λ o. unwrap_or o []) stands.stands))
-    (holds-right node place.value place.before ((node, place.value) ∷ place.after) (inl (refl, refl)))
+holds_at s node place stands = grind (arith, nat_tests, holds-right)
 
 pub node_on : (s : Lists ℕ) (list node i : ℕ) → Holds (entries_at s list) node i → HasNode s node
 node_on s list node i h = let on = place_on s list node i h in (on.place, on.stands)
@@ -94,32 +74,13 @@ module _ (old new : Lists ℕ) (list node number : ℕ) (updates : Updates old n
   more_new = subst (λ xs. Holds xs node number) (sym more_here) (holds-right node number (entries_at old list) ((node, number) ∷ []) (inl (refl, refl)))
 
   pub more_kept : (l n i : ℕ) → Holds (entries_at old l) n i → Holds (entries_at new l) n i
-  more_kept l n i h =
-      elim (cases_eq l list) [
-        | inl same ↦ subst (λ (k : ℕ). Holds (entries_at new k) n i) (sym same)
-            (subst (λ xs. Holds xs n i) (sym more_here)
-            (holds-left n i (entries_at old list) ((node, number) ∷ []) (subst (λ (k : ℕ). Holds (entries_at old k) n i) same h)))
-        | inr differs ↦ subst (λ xs. Holds xs n i) (sym (more_else l differs)) h
-      ]
+  more_kept l n i h = grind (arith, nat_tests, cases_eq, more_here, holds-left, more_else)
 
   pub more_from : (l n i : ℕ) → Holds (entries_at new l) n i → Holds (entries_at old l) n i ⊎ ((l ≡ list) × (n ≡ node) × (i ≡ number))
-  more_from l n i h =
-      elim (cases_eq l list) [
-        | inl same ↦
-            elim (holds-parts n i (entries_at old list) ((node, number) ∷ [])
-            (subst (λ xs. Holds xs n i) more_here (subst (λ (k : ℕ). Holds (entries_at new k) n i) same h))) [
-              | inl left ↦ inl (subst (λ (k : ℕ). Holds (entries_at old k) n i) (sym same) left)
-              | inr right ↦ elim right [ inl here ↦ inr (same, sym here.0, sym here.1) | inr nothing ↦ absurd nothing ]
-            ]
-        | inr differs ↦ inl (subst (λ xs. Holds xs n i) (more_else l differs) h)
-      ]
+  more_from l n i h = grind (arith, nat_tests, cases_eq, holds-parts, more_here, more_else)
 
   pub more_there : (l : ℕ) → HasList old l → HasList new l
-  more_there l has =
-      elim (cases_eq l list) [
-        | inl same ↦ subst (HasList new) (sym same) (subst IsSome (sym updates.changed) refl)
-        | inr differs ↦ subst IsSome (sym (updates.others l differs)) has
-      ]
+  more_there l has = grind (arith, nat_tests, cases_eq)
 
 -- ---- one node less
 
@@ -135,34 +96,16 @@ module _ (old new : Lists ℕ) (node : ℕ) (place : Place ℕ) (stands : Stands
   less_else l differs = ap (λ o. unwrap_or o []) (updates.others l differs)
 
   pub less_kept : (l n i : ℕ) → i ≢ place.value → Holds (entries_at old l) n i → Holds (entries_at new l) n i
-  less_kept l n i other h =
-      elim (cases_eq l place.list) [
-        | inl same ↦ subst (λ (k : ℕ). Holds (entries_at new k) n i) (sym same)
-            (subst (λ xs. Holds xs n i) (sym less_here)
-            (holds-without n i node place.value place.before place.after other
-            (subst (λ xs. Holds xs n i) less_before (subst (λ (k : ℕ). Holds (entries_at old k) n i) same h))))
-        | inr differs ↦ subst (λ xs. Holds xs n i) (sym (less_else l differs)) h
-      ]
+  less_kept l n i other h = grind (arith, nat_tests, cases_eq, less_here, less_before, less_else, holds-parts, holds-left, holds-right)
 
   less_was : (l n i : ℕ) → Holds (entries_at new l) n i → Holds (entries_at old l) n i
-  less_was l n i h =
-      elim (cases_eq l place.list) [
-        | inl same ↦ subst (λ (k : ℕ). Holds (entries_at old k) n i) (sym same)
-            (subst (λ xs. Holds xs n i) (sym less_before)
-            (holds-with n i node place.value place.before place.after
-            (subst (λ xs. Holds xs n i) less_here (subst (λ (k : ℕ). Holds (entries_at new k) n i) same h))))
-        | inr differs ↦ subst (λ xs. Holds xs n i) (less_else l differs) h
-      ]
+  less_was l n i h = grind (arith, nat_tests, cases_eq, less_before, less_here, less_else, holds-parts, holds-left, holds-right)
 
   pub less_from : (l n i : ℕ) → Holds (entries_at new l) n i → Holds (entries_at old l) n i × (n ≢ node)
   less_from l n i h = (less_was l n i h, λ same. gone (subst (HasNode new) same (node_on new l n i h)))
 
   pub less_there : (l : ℕ) → HasList old l → HasList new l
-  less_there l has =
-      elim (cases_eq l place.list) [
-        | inl same ↦ subst (HasList new) (sym same) (subst IsSome (sym updates.changed) refl)
-        | inr differs ↦ subst IsSome (sym (updates.others l differs)) has
-      ]
+  less_there l has = grind (arith, nat_tests, cases_eq)
 
 -- ---- the front
 
@@ -177,8 +120,4 @@ front_on s list node is = by_entries (entries_at s list) is
         same is = cc
 
 pub no_front : (s : Lists ℕ) (list node i : ℕ) → first_node (entries_at s list) ≡ None → Holds (entries_at s list) node i → ⊥
-no_front s list node i is h = by_entries (entries_at s list) is h
-  where
-    by_entries : (xs : List (ℕ × ℕ)) → first_node xs ≡ None → Holds xs node i → ⊥
-    by_entries [] is h = h
-    by_entries (e ∷ xs) is h = absurd (cc)
+no_front s list node i is h = grind (arith, nat_tests)

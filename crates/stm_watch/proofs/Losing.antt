@@ -1,16 +1,14 @@
 -- Which watchers are lost: of new ones, and by a compaction.
-use Rattle.std.proofs.Common.{◌≡◌, ℕ, ◌-◌, ◌≤◌, ◌<◌, Bool, true, false, cond, ◌||◌, ◌&&◌, inl, inr, List, [], ◌∷◌, Option, Some, None, option_map}
-use Rattle.std.proofs.Common.{refl, sym, ◌∙◌, ap, arith, ne_eqb}
+use Rattle.std.proofs.Common.{◌≡◌, ℕ, ◌-◌, ◌≤◌, ◌<◌, Bool, true, List, [], ◌∷◌, Option, Some, option_map, refl, ◌∙◌, ap, arith}
 use Rattle.std.specs.Prelude.{nat_lt}
-use Rattle.std.proofs.lemmas.Bool.{cases_Bool, lt-ltb, le-ltb, ltb-true, ltb-false}
+use Rattle.std.proofs.lemmas.Bool.{cases_Bool, lt-ltb, le-ltb, ltb-true, ltb-false, Decides.nat_tests}
 use Rattle.stm_history.specs.History.{History, now}
 use Rattle.stm_history.specs.Cut.{cut}
-use Rattle.stm_watch.specs.declared.pending_revision.PendingRevision.{PendingRevision}
 use Rattle.stm_watch.specs.declared.watched.Watched.{Watched}
 use Rattle.stm_watch.specs.declared.watched.Watcher.{Watcher}
 use Rattle.stm_watch.specs.Watching.{Watching}
-use Rattle.stm_watch.specs.Places.{is_lost, watching_of}
-use Rattle.stm_watch.specs.Pending.{watching_from, number_of_first, first_pending}
+use Rattle.stm_watch.specs.Places.{watching_of}
+use Rattle.stm_watch.specs.Pending.{watching_from}
 use Rattle.stm_watch.specs.Calls.{Stands, StandAll, compacted, compacted_one}
 use Rattle.stm_watch.specs.Slots.{awaiting}
 use Rattle.stm_watch.proofs.Notifying.{nothing_above}
@@ -25,22 +23,15 @@ watching watched seen lost = record { watched = watched; seen = seen; lost = los
 -- one that wants what comes next
 pub now_watching : (h : History) (floor : ℕ) (watched : Watched) (from : ℕ) → from ≡ 0
     → watching_of floor (awaiting h watched (now h)) ≡ watching_from h floor watched from
-now_watching h floor watched from is =
-    ap (λ (ts : List PendingRevision). watching watched (now h) (is_lost floor (number_of_first ts))) (nothing_above h.opening (now h) watched h.revisions (omega arith))
-    ∙ ap (watching_from h floor watched) (sym is)
+now_watching h floor watched from is = grind (arith, nat_tests, nothing_above)
 
 module _ (h : History) (floor : ℕ) (watched : Watched) (from : ℕ) (positive : 0 < from) where
   from_positive : (lost : Bool) → nat_lt from floor ≡ lost → watching watched (from - 1) lost ≡ watching_from h floor watched from
-  from_positive lost is =
-      ap (watching watched (from - 1)) (sym is)
-      ∙ ap (λ b. watching watched (from - 1) (b && nat_lt from floor)) (sym (lt-ltb 0 from positive))
-      ∙ ap (λ b. watching watched (cond b (now h) (from - 1)) (nat_lt 0 from && nat_lt from floor)) (sym (ne_eqb from 0 (λ e. absurd (omega (arith, e, positive)))))
+  from_positive lost is = grind (arith, nat_tests, lt-ltb)
 
   -- one that wants everything from the floor on, or from later on
   pub late_watching : floor ≤ from → watching_of floor (awaiting h watched (from - 1)) ≡ watching_from h floor watched from
-  late_watching late =
-      ap (watching watched (from - 1)) (seen_not_lost floor h.opening (from - 1) watched h.revisions (omega (arith, late, positive)))
-      ∙ from_positive false (le-ltb from floor late)
+  late_watching late = grind (arith, nat_tests, seen_not_lost, from_positive, le-ltb)
 
   -- one that wants what is below the floor
   pub lost_watching : from < floor → watching_of floor (record { watched = watched; seen = from - 1; first = Some from }) ≡ watching_from h floor watched from
@@ -52,48 +43,25 @@ lost_stands h floor from seen watched less = λ still. let lost : nat_lt from fl
 
 -- ---- a compaction
 
-compacted_case : (floor revision : ℕ) (o p : Option ℕ) → floor ≤ revision → (is_lost floor o ≡ false → o ≡ p)
-    → is_lost revision o ≡ (is_lost floor o || is_lost revision p)
-compacted_case floor revision None p le stands = ap (is_lost revision) (stands refl)
-compacted_case floor revision (Some number) p le stands = elim (cases_Bool (nat_lt number floor)) [
-  | inl lost ↦
-      lt-ltb number revision (omega (arith, le, ltb-true number floor lost)) ∙ sym (ap (λ b. b || is_lost revision p) lost)
-  | inr not ↦ ap (is_lost revision) (stands not) ∙ sym (ap (λ b. b || is_lost revision p) not)
-]
-
 compacted_slot : (h : History) (floor revision : ℕ) (o : Option Watcher) → floor ≤ revision → Stands h floor o
     → option_map (watching_of revision) o ≡ option_map (compacted_one h revision) (option_map (watching_of floor) o)
-compacted_slot h floor revision None le stands = refl
-compacted_slot h floor revision (Some w) le stands =
-    ap (λ (b : Bool). Some (watching w.watched w.seen b))
-    (compacted_case floor revision w.first (first_pending h (watching_of floor w)) le stands)
+compacted_slot h floor revision o le stands = grind (arith, nat_tests, cases_Bool, lt-ltb, ltb-true)
 
 -- those are lost for which something is pending below the floor
 pub compacted_same : (h : History) (floor revision : ℕ) (ws : List (Option Watcher)) → floor ≤ revision → StandAll h floor ws
     → seen_at revision ws ≡ compacted h revision (seen_at floor ws)
 compacted_same h floor revision [] le stand = refl
-compacted_same h floor revision (w ∷ ws) le stand =
-    ap (λ o. o ∷ seen_at revision ws) (compacted_slot h floor revision w le stand.0)
-    ∙ ap (λ os. option_map (compacted_one h revision) (option_map (watching_of floor) w) ∷ os) (compacted_same h floor revision ws le stand.1)
-
-lower : (floor revision : ℕ) (o : Option ℕ) → floor ≤ revision → is_lost revision o ≡ false → is_lost floor o ≡ false
-lower floor revision None le not = refl
-lower floor revision (Some number) le not = le-ltb number floor (omega (arith, le, ltb-false number revision not))
+compacted_same h floor revision (w ∷ ws) le stand = grind (arith, nat_tests, seen_at, compacted_slot, compacted_same h floor revision ws le stand.1)
 
 compacted_stands : (h : History) (floor revision : ℕ) (o : Option Watcher) → floor ≤ revision → Stands h floor o → Stands h revision o
-compacted_stands h floor revision None le stands = tt
-compacted_stands h floor revision (Some w) le stands = λ still. stands (lower floor revision w.first le still)
+compacted_stands h floor revision o le stands = grind (arith, nat_tests, le-ltb, ltb-false)
 
 pub compacted_stand : (h : History) (floor revision : ℕ) (ws : List (Option Watcher)) → floor ≤ revision → StandAll h floor ws → StandAll h revision ws
 compacted_stand h floor revision [] le stand = tt
-compacted_stand h floor revision (w ∷ ws) le stand =
-    (compacted_stands h floor revision w le stand.0, compacted_stand h floor revision ws le stand.1)
+compacted_stand h floor revision (w ∷ ws) le stand = grind (arith, nat_tests, compacted_stands, compacted_stand h floor revision ws le stand.1)
 
 cut_stands : (h : History) (revision : ℕ) (o : Option Watcher) → revision ≤ now h → Stands h revision o → Stands (cut (revision - 1) h) revision o
-cut_stands h revision None reached stands = tt
-cut_stands h revision (Some w) reached stands = λ still.
-    stands still
-    ∙ sym (ap number_of_first (followed_cut h revision w.seen w.watched reached (ap (is_lost revision) (sym (stands still)) ∙ still)))
+cut_stands h revision o reached stands = grind (arith, nat_tests, followed_cut)
 
 -- those that are left stand for the history without what is below the floor
 pub cut_stand : (h : History) (revision : ℕ) (ws : List (Option Watcher)) → revision ≤ now h → StandAll h revision ws

@@ -1,9 +1,10 @@
 -- What a poll makes of the watchers at all places.
 use Rattle.std.proofs.Common.{◌≡◌, ℕ, ◌-◌, Bool, true, false, cond, List, Option, Some, None, IsSome, IfSome, IsOk, option_map, slice_index_or, slice_set}
-use Rattle.std.proofs.Common.{Result, Ok, Err, OnErr, refl, sym, ap, subst, ◌∙◌, nat_eq}
+use Rattle.std.proofs.Common.{Result, Ok, Err, OnErr, refl, sym, ap, subst, ◌∙◌, nat_eq, arith}
 use Rattle.std.specs.declared.alloc.AllocError.{AllocError}
 use Rattle.std.proofs.lemmas.List.{set-get_or, get_or-set_same}
 use Rattle.std.proofs.lemmas.Option.{same_Some}
+use Rattle.std.proofs.lemmas.Bool.Decides.{nat_tests}
 use Rattle.stm_history.specs.History.{History}
 use Rattle.stm_watch.specs.Watching.{Watching}
 use Rattle.stm_watch.specs.Places.{WatchersView, with_places, is_lost, watching_of, watchings}
@@ -22,16 +23,9 @@ use Rattle.stm_watch.proofs.Standing.{seen_at, watchings_set, watching_at, stand
 
 module _ (h : History) (i most : ℕ) (old new : List (Option Watcher)) (result : Result Batch AllocError) (did : PlacePolls h most i old result new)
     (there : IsSome (slice_index_or old i None)) where
-  polled_there : (o slot : Option Watcher) (batch : Batch) → IsPolled h most o batch slot
-      → (was : Watcher) × (is : Watcher) × (o ≡ Some was) × (slot ≡ Some is) × (is.watched ≡ was.watched)
-  polled_there None slot batch did = absurd did
-  polled_there (Some w) slot batch did = (w, standing h (after_poll most h (followed w)), refl, did.1, refl)
-
   found_there : (batch : Batch) → result ≡ Ok batch → (was : Watcher) × (is : Watcher) × (slice_index_or old i None ≡ Some was)
       × (new ≡ slice_set old i (Some is)) × (is.watched ≡ was.watched)
-  found_there batch same =
-      let found = polled_there (slice_index_or old i None) did.0 batch (subst (λ r. SlotPolls h most (slice_index_or old i None) r did.0) same did.2) in
-      (found.0, found.1, found.2, did.1 ∙ ap (slice_set old i) found.3, found.4)
+  found_there batch same = grind (arith, nat_tests)
 
   here : (w : Watcher) → new ≡ slice_set old i (Some w) → slice_index_or new i None ≡ Some w
   here w is = ap (λ ws. slice_index_or ws i None) is ∙ get_or-set_same old i (Some w) None (within old i there)
@@ -43,49 +37,30 @@ module _ (h : History) (i most : ℕ) (old new : List (Option Watcher)) (result 
   -- and watches what it did
   pub polled_slot : (batch : Batch) → result ≡ Ok batch → (w : Watcher) → slice_index_or new i None ≡ Some w
       → (was : Watcher) × (slice_index_or old i None ≡ Some was) × (new ≡ slice_set old i (Some w)) × (w.watched ≡ was.watched)
-  polled_slot batch same w at =
-      let found = found_there batch same in
-      let is : found.1 ≡ w = same_Some found.1 w (sym (here found.1 found.3) ∙ at) in (
-        found.0,
-        found.2,
-        found.3
-            ∙ ap (λ (x : Watcher). slice_set old i (Some x)) is,
-        ap (λ (x : Watcher). x.watched) (sym is)
-            ∙ found.4,
-      )
+  polled_slot batch same w at = grind (arith, nat_tests, found_there, same_Some, here)
 
   -- a refusal changes nothing
   pub place_refused : (e : AllocError) → result ≡ Err e → new ≡ old
-  place_refused e same =
-      did.1
-      ∙ ap (slice_set old i) (subst (λ r. SlotPolls h most (slice_index_or old i None) r did.0) same did.2)
-      ∙ set-get_or old i None
+  place_refused e same = grind (arith, nat_tests, set-get_or)
 
 -- what holds anyway holds where a call is refused
 pub on_any : {T E P : Type 0} (r : Result T E) → P → OnErr r P
-on_any (Ok value) holds = tt
-on_any (Err cause) holds = holds
+on_any r holds = grind (arith, nat_tests)
 
 -- ---- a watcher by its number
 
 -- the watcher at a place is the one with the number
 pub found_by : {A : Type 0} (id place : ℕ) (ws : List (Option A)) (w : A) → nat_eq id 0 ≡ false → place ≡ id - 1 → slice_index_or ws place None ≡ Some w
     → watcher_at id ws ≡ Some w
-found_by id place ws w positive is at =
-    ap (λ b. cond b None (slice_index_or ws (id - 1) None)) positive ∙ ap (λ (k : ℕ). slice_index_or ws k None) (sym is) ∙ at
+found_by id place ws w positive is at = grind (arith, nat_tests)
 
 pub seen_by : (floor id : ℕ) (ws : List (Option Watcher)) → watcher_at id (seen_at floor ws) ≡ option_map (watching_of floor) (watcher_at id ws)
-seen_by floor id ws = by_test (nat_eq id 0)
-  where
-    by_test : (b : Bool) → cond b None (slice_index_or (seen_at floor ws) (id - 1) None) ≡ option_map (watching_of floor) (cond b None (slice_index_or ws (id - 1) None))
-    by_test true = refl
-    by_test false = watching_at floor ws (id - 1)
+seen_by floor id ws = grind (arith, nat_tests, seen_at, watching_at)
 
 -- the watcher that stands there, and whether it is lost
 pub lost_is : (floor : ℕ) (o : Option Watcher) (result : Bool) → IfSome o (λ (w : Watcher). result ≡ is_lost floor w.first) → IsSome o
     → (w : Watcher) × (o ≡ Some w) × (is_lost floor w.first ≡ result)
-lost_is floor None result reported some = absurd (cc)
-lost_is floor (Some w) result reported some = (w, refl, sym reported)
+lost_is floor o result reported some = grind (arith, nat_tests)
 
 -- the watchers as a refused poll leaves them
 pub refused_same : (id : ℕ) (v : WatchersView) → is_one_lost (watcher_at id (watchings v)) ≡ false → view_refused id v ≡ v
@@ -162,12 +137,7 @@ module _ (h : History) (floor id most : ℕ) (old : List (Option Watcher)) (plac
           (Some (let one : Watching = record { watched = w.watched; seen = (batch_of most h (followed w)).upto; lost = b } in one))) lost_same
 
       pub found_polled : poll h id most (seen_at floor old) ≡ Ok (record { answer = batch; next = seen_at floor new })
-      found_polled =
-          polled_is
-          ∙ ap (λ (b : Batch). step b (slice_set (seen_at floor old) (id - 1) (Some (after_poll most h (watching_of floor w))))) (sym slot_polled.0)
-          ∙ ap (step batch) (sym seen_new)
+      found_polled = grind (arith, nat_tests, polled_is, seen_at, seen_new)
 
       pub polled_stand : StandAll h floor new
-      polled_stand =
-          subst (StandAll h floor) (sym did.1)
-          (stand_set h floor old place did.0 stand (subst (Stands h floor) (sym slot_polled.1) (λ still. refl)))
+      polled_stand = grind (arith, nat_tests, stand_set)

@@ -1,19 +1,17 @@
 -- Watchers that stand for a history, from call to call.
-use Rattle.std.proofs.Common.{◌≡◌, ℕ, zero, suc, ◌+◌, ◌-◌, ◌≤◌, Bool, true, false, cond, ◌||◌, inl, inr, List, [], ◌∷◌, ◌++◌, map, slice_index_or}
-use Rattle.std.proofs.Common.{slice_set, Option, Some, None, option_map, refl, sym, ◌∙◌, ap, ◌&&◌, is_some}
+use Rattle.std.proofs.Common.{◌≡◌, ℕ, zero, suc, ◌+◌, ◌-◌, ◌≤◌, Bool, true, false, cond, List, [], ◌∷◌, ◌++◌, map, slice_index_or, arith}
+use Rattle.std.proofs.Common.{slice_set, Option, Some, None, option_map, refl, sym, ◌∙◌, ap, ◌&&◌}
 use Rattle.std.specs.Prelude.{nat_eq, nat_lt}
-use Rattle.std.proofs.lemmas.Bool.{cases_Bool, le-ltb}
+use Rattle.std.proofs.lemmas.Bool.{cases_Bool, le-ltb, Decides.nat_tests}
 use Rattle.std.proofs.lemmas.List.{map-append, map-set}
 use Rattle.std.proofs.Math.ListN.{get_or-map}
 use Rattle.stm_history.specs.declared.change.Change.{Change}
 use Rattle.stm_history.specs.History.{History, now, add_revision}
 use Rattle.stm_watch.specs.Watching.{Watching}
 use Rattle.stm_watch.specs.Places.{WatchersView, is_lost, watching_of, watchings}
-use Rattle.stm_watch.specs.declared.pending_revision.PendingRevision.{PendingRevision}
 use Rattle.stm_watch.specs.declared.watched.Watcher.{Watcher}
 use Rattle.stm_watch.specs.Keys.{is_any_watched}
 use Rattle.stm_watch.specs.Touch.{touch, first_with}
-use Rattle.stm_watch.specs.Pending.{pending, number_of_first, is_any_pending}
 use Rattle.stm_watch.specs.Calls.{watcher_at, Stands, StandAll, StandFor, is_ready, is_ready_at, IsNextReady, is_pending_for, IsNextPending}
 use Rattle.stm_watch.proofs.Notifying.{first_after, some_first}
 
@@ -25,9 +23,7 @@ seen_at floor ws = map (option_map (watching_of floor)) ws
 
 -- what comes at the floor or above loses nobody
 lost_with : (floor revision : ℕ) (wants : Bool) (first : Option ℕ) → floor ≤ revision → is_lost floor (first_with revision wants first) ≡ is_lost floor first
-lost_with floor revision wants (Some number) le = refl
-lost_with floor revision true None le = le-ltb revision floor le
-lost_with floor revision false None le = refl
+lost_with floor revision wants first le = grind (arith, nat_tests, le-ltb)
 
 touched_stands : (h : History) (floor : ℕ) (changes : List Change) (revision : ℕ) (o : Option Watcher) → revision ≡ now h + 1 → floor ≤ revision
     → Stands h floor o → Stands (add_revision h changes) floor (option_map (touch revision changes) o)
@@ -40,22 +36,16 @@ touched_stands h floor changes revision (Some w) is le stands = λ still.
 pub touched_stand : (h : History) (floor : ℕ) (changes : List Change) (revision : ℕ) (ws : List (Option Watcher)) → revision ≡ now h + 1 → floor ≤ revision
     → StandAll h floor ws → StandAll (add_revision h changes) floor (map (option_map (touch revision changes)) ws)
 touched_stand h floor changes revision [] is le stand = tt
-touched_stand h floor changes revision (w ∷ ws) is le stand =
-    (touched_stands h floor changes revision w is le stand.0, touched_stand h floor changes revision ws is le stand.1)
+touched_stand h floor changes revision (w ∷ ws) is le stand = grind (arith, nat_tests, touched_stands, touched_stand h floor changes revision ws is le stand.1)
 
 touched_watches : (floor : ℕ) (changes : List Change) (revision : ℕ) (o : Option Watcher) → floor ≤ revision →
     option_map (watching_of floor) (option_map (touch revision changes) o) ≡ option_map (watching_of floor) o
-touched_watches floor changes revision None le = refl
-touched_watches floor changes revision (Some w) le =
-    ap (λ (b : Bool). Some (let one : Watching = record { watched = w.watched; seen = w.seen; lost = b } in one))
-    (lost_with floor revision (nat_lt w.seen revision && is_any_watched w.watched changes) w.first le)
+touched_watches floor changes revision o le = grind (arith, nat_tests, lost_with)
 
 pub touched_same : (floor : ℕ) (changes : List Change) (revision : ℕ) (ws : List (Option Watcher)) → floor ≤ revision →
     seen_at floor (map (option_map (touch revision changes)) ws) ≡ seen_at floor ws
 touched_same floor changes revision [] le = refl
-touched_same floor changes revision (w ∷ ws) le =
-    ap (λ o. o ∷ seen_at floor (map (option_map (touch revision changes)) ws)) (touched_watches floor changes revision w le)
-    ∙ ap (λ os. option_map (watching_of floor) w ∷ os) (touched_same floor changes revision ws le)
+touched_same floor changes revision (w ∷ ws) le = grind (arith, nat_tests, touched_watches, touched_same floor changes revision ws le)
 
 -- ---- one more, and another at a place
 
@@ -89,23 +79,13 @@ stands_at h floor [] i stand = tt
 stands_at h floor (w ∷ ws) zero stand = stand.0
 stands_at h floor (w ∷ ws) (suc i) stand = stands_at h floor ws i stand.1
 
--- a watcher is ready where it is lost, or something is pending
-ready_case : (floor : ℕ) (ts : List PendingRevision) (o : Option ℕ) → (is_lost floor o ≡ false → o ≡ number_of_first ts) → (is_lost floor o || is_any_pending ts) ≡ is_some o
-ready_case floor ts None stands = sym (ap is_some (stands refl) ∙ some_first ts)
-ready_case floor ts (Some number) stands = elim (cases_Bool (nat_lt number floor)) [
-  | inl lost ↦ ap (λ b. b || is_any_pending ts) lost
-  | inr not ↦ ap (λ b. b || is_any_pending ts) not ∙ sym (ap is_some (stands not) ∙ some_first ts)
-]
-
 ready_is_pending : (h : History) (floor : ℕ) (o : Option Watcher) → Stands h floor o → is_pending_for h (option_map (watching_of floor) o) ≡ is_ready o
-ready_is_pending h floor None stands = refl
-ready_is_pending h floor (Some w) stands = ready_case floor (pending h (watching_of floor w)) w.first stands
+ready_is_pending h floor o stands = grind (arith, nat_tests, some_first, cases_Bool)
 
 -- ---- the next one
 
 at_by : (b : Bool) (P : Bool → Type 0) → P true → P false → P b
-at_by true P if_true if_false = if_true
-at_by false P if_true if_false = if_false
+at_by b P if_true if_false = grind (arith, nat_tests)
 
 pub pending_at : (h : History) (floor : ℕ) (ws : List (Option Watcher)) (id : ℕ) → StandAll h floor ws →
     is_pending_for h (watcher_at id (seen_at floor ws)) ≡ is_ready_at id ws
@@ -117,5 +97,4 @@ pending_at h floor ws id stand =
     ∙ ready_is_pending h floor (slice_index_or ws (id - 1) None) (stands_at h floor ws (id - 1) stand))
 
 pub next_pending : (h : History) (v : WatchersView) (o : Option ℕ) → StandFor h v → IsNextReady v.places o → IsNextPending h (watchings v) o
-next_pending h v (Some id) stand next = pending_at h v.floor v.places id stand ∙ next
-next_pending h v None stand next = λ id. pending_at h v.floor v.places id stand ∙ next id
+next_pending h v o stand next = grind (arith, nat_tests, pending_at)

@@ -1,22 +1,20 @@
 -- What a new revision makes of the watchers, key by key.
-use Rattle.std.proofs.Common.{◌≡◌, ◌⊎◌, ℕ, zero, suc, ◌<◌, ◌≤◌, ◌+◌, Bool, true, false, ◌||◌, ◌&&◌}
+use Rattle.std.proofs.Common.{◌≡◌, ◌⊎◌, ℕ, zero, suc, ◌≤◌, ◌+◌, Bool, true, false, ◌&&◌}
 use Rattle.std.proofs.Common.{List, [], ◌∷◌, ◌++◌, length, map, Option, Some, None, IsSome, is_some, cond, unwrap_or, option_map, slice_index_or, slice_set}
 use Rattle.std.proofs.Common.{refl, sym, ap, subst, ◌∙◌, inl, inr, arith, length-append, append_assoc}
 use Rattle.std.specs.Prelude.{nat_lt}
-use Rattle.std.proofs.lemmas.Bool.{cases_Bool, cases_eq, ltb-true}
+use Rattle.std.proofs.lemmas.Bool.{cases_Bool, cases_eq, ltb-true, Decides.nat_tests}
 use Rattle.std.proofs.lemmas.List.{get_or-set_other, length-set, length-map, map-append, same_lists}
 use Rattle.std.proofs.lemmas.List.Folds.{list_any-append}
 use Rattle.std.proofs.lemmas.Option.{same_Some}
 use Rattle.std.proofs.lemmas.Slice.Eq.{bytes_eq-Decides}
-use Rattle.stm_history.specs.History.{key_of}
 use Rattle.stm_keys.specs.declared.event.Event.{Event}
-use Rattle.stm_keys.specs.declared.event.Event.TheVariants.{Put, Delete}
 use Rattle.stm_keys.specs.Events.{change_of_event, key_of_event}
 use Rattle.stm_lists.specs.Lists.{Lists, Place, list_at, entries_at, HasList, HasNode, StandsAt, first_node}
 use Rattle.stm_watch.specs.declared.watched.Watched.{Watched}
 use Rattle.stm_watch.specs.declared.watched.Watched.TheVariants.{Key, Range}
 use Rattle.stm_watch.specs.declared.watched.Watcher.{Watcher}
-use Rattle.stm_watch.specs.Keys.{is_watched, is_any_watched}
+use Rattle.stm_watch.specs.Keys.{is_watched}
 use Rattle.stm_watch.specs.declared.page.Page.{Page}
 use Rattle.stm_watch.specs.Kept.{Holds, AreCovered, list_in, places_on, places_at}
 use Rattle.stm_watch.specs.declared.page.RangeEntry.{RangeEntry}
@@ -30,14 +28,7 @@ use Rattle.stm_watch.proofs.Ordered.{both}
 
 touched_twice : (revision : ℕ) (key : List ℕ) (o : Option Watcher) →
     option_map (touch_key revision key) (option_map (touch_key revision key) o) ≡ option_map (touch_key revision key) o
-touched_twice revision key None = refl
-touched_twice revision key (Some w) =
-    ap (λ (o : Option ℕ). Some (record w { first = o })) (twice w.first (nat_lt w.seen revision && is_watched w.watched key))
-  where
-    twice : (o : Option ℕ) (b : Bool) → first_with revision b (first_with revision b o) ≡ first_with revision b o
-    twice (Some n) b = refl
-    twice None true = refl
-    twice None false = refl
+touched_twice revision key o = grind (arith, nat_tests)
 
 -- nothing changes past the last place
 pub touched_past : (revision : ℕ) (key : List ℕ) (i : ℕ) (ws : List (Option Watcher)) → length ws ≤ i → ws ≡ touch_at revision key i ws
@@ -50,26 +41,17 @@ touched_past revision key i ws past = set_past ws i (option_map (touch_key revis
 
 -- an idle watcher wants to know of it
 pub wanted : (revision : ℕ) (key : List ℕ) (o : Option Watcher) → wants revision key o ≡ true → (w : Watcher) × (o ≡ Some w)
-wanted revision key None is = absurd (cc)
-wanted revision key (Some w) is = (w, refl)
+wanted revision key o is = grind (arith, nat_tests)
 
 never : (revision : ℕ) (o : Option ℕ) (b : Bool) → first_with revision (b && false) o ≡ o
-never revision (Some n) b = refl
-never revision None true = refl
-never revision None false = refl
-
--- a watcher that does not want to know of it stays as it is
-untouched : (revision : ℕ) (key : List ℕ) (w : Watcher) → (nat_lt w.seen revision && is_watched w.watched key) ≡ false → touch_key revision key w ≡ w
-untouched revision key w not =
-    ap (λ b. record w { first = first_with revision b w.first }) not ∙ ap (λ (o : Option ℕ). record w { first = o }) (never revision w.first true)
+never revision o b = grind (arith, nat_tests)
 
 module _ (revision : ℕ) (key : List ℕ) where
   -- ---- several places
 
   pub length_each : (is : List ℕ) (ws : List (Option Watcher)) → length (touch_each revision key is ws) ≡ length ws
   length_each [] ws = refl
-  length_each (i ∷ is) ws =
-      length_each is (touch_at revision key i ws) ∙ length-set ws i (option_map (touch_key revision key) (slice_index_or ws i None))
+  length_each (i ∷ is) ws = grind (arith, nat_tests, length-set, length_each is (touch_at revision key i ws))
 
   each_more : (is : List ℕ) (i : ℕ) (ws : List (Option Watcher)) →
       touch_each revision key (is ++ i ∷ []) ws ≡ touch_at revision key i (touch_each revision key is ws)
@@ -87,41 +69,22 @@ module _ (revision : ℕ) (key : List ℕ) where
   at_either : (i j : ℕ) (ws : List (Option Watcher)) →
       (slice_index_or (touch_at revision key i ws) j None ≡ slice_index_or ws j None)
       ⊎ (slice_index_or (touch_at revision key i ws) j None ≡ option_map (touch_key revision key) (slice_index_or ws j None))
-  at_either i j ws = elim (cases_eq j i) [
-    | inl same ↦ inr (subst (λ (k : ℕ). slice_index_or (touch_at revision key i ws) k None ≡ option_map (touch_key revision key) (slice_index_or ws k None))
-        (sym same) (touched_here i ws))
-    | inr differs ↦ inl (get_or-set_other ws i j (option_map (touch_key revision key) (slice_index_or ws i None)) None differs)
-  ]
+  at_either i j ws = grind (arith, nat_tests, cases_eq, touched_here, get_or-set_other)
 
   each_either : (is : List ℕ) (j : ℕ) (ws : List (Option Watcher)) →
       (slice_index_or (touch_each revision key is ws) j None ≡ slice_index_or ws j None)
       ⊎ (slice_index_or (touch_each revision key is ws) j None ≡ option_map (touch_key revision key) (slice_index_or ws j None))
   each_either [] j ws = inl refl
-  each_either (i ∷ is) j ws = elim (at_either i j ws) [
-    | inl before ↦ elim (each_either is j (touch_at revision key i ws)) [
-      | inl kept ↦ inl (kept ∙ before)
-      | inr touched ↦ inr (touched ∙ ap (option_map (touch_key revision key)) before)
-    ]
-    | inr before ↦ elim (each_either is j (touch_at revision key i ws)) [
-      | inl kept ↦ inr (kept ∙ before)
-      | inr touched ↦ inr (touched ∙ ap (option_map (touch_key revision key)) before ∙ touched_twice revision key (slice_index_or ws j None))
-    ]
-  ]
+  each_either (i ∷ is) j ws = grind (arith, nat_tests, at_either, touched_twice, each_either is j (touch_at revision key i ws))
 
   again : (x o : Option Watcher) → (x ≡ o) ⊎ (x ≡ option_map (touch_key revision key) o)
       → option_map (touch_key revision key) x ≡ option_map (touch_key revision key) o
-  again x o either = elim either [
-    | inl before ↦ ap (option_map (touch_key revision key)) before
-    | inr before ↦ ap (option_map (touch_key revision key)) before ∙ touched_twice revision key o
-  ]
+  again x o either = grind (arith, nat_tests, touched_twice)
 
   -- what was touched once stays so
   each_after : (is : List ℕ) (j : ℕ) (ws : List (Option Watcher)) (o : Option Watcher) → slice_index_or ws j None ≡ option_map (touch_key revision key) o
       → slice_index_or (touch_each revision key is ws) j None ≡ option_map (touch_key revision key) o
-  each_after is j ws o was = elim (each_either is j ws) [
-    | inl kept ↦ kept ∙ was
-    | inr touched ↦ touched ∙ ap (option_map (touch_key revision key)) was ∙ touched_twice revision key o
-  ]
+  each_after is j ws o was = grind (arith, nat_tests, each_either, touched_twice)
 
   each_append : (is js : List ℕ) (ws : List (Option Watcher)) → touch_each revision key (is ++ js) ws ≡ touch_each revision key js (touch_each revision key is ws)
   each_append [] js ws = refl
@@ -183,8 +146,7 @@ module _ (revision : ℕ) (key : List ℕ) where
     pub done : ws ≡ touch_each revision key (map (λ e. e.1) passed) old
 
   there : (o : Option (List (ℕ × ℕ))) → IsSome o → o ≡ Some (unwrap_or o [])
-  there None some = absurd (cc)
-  there (Some xs) some = refl
+  there o some = grind (arith, nat_tests)
 
   pub walk_begins : (lists : Lists ℕ) (list : ℕ) (next : Option ℕ) (old : List (Option Watcher)) → HasList lists list → next ≡ first_node (entries_at lists list)
       → IsWalked lists lists list 0 next old old
@@ -212,23 +174,7 @@ module _ (revision : ℕ) (key : List ℕ) where
 
   walk_place : (first now : Lists ℕ) (list count : ℕ) (next : Option ℕ) (node : ℕ) (old ws : List (Option Watcher))
       → IsWalked first now list count next old ws → next ≡ Some node → IsNextPlace first now list count node old ws
-  walk_place first now list count next node old ws walked is = by_rest walked.rest walked.split walked.here (sym walked.next_is ∙ is)
-    where
-      by_rest : (rest : List (ℕ × ℕ)) → entries_at first list ≡ walked.passed ++ rest → list_at now list ≡ Some (walked.kept ++ rest)
-          → first_node rest ≡ Some node → IsNextPlace first now list count node old ws
-      by_rest [] split here front = absurd (cc)
-      by_rest (entry ∷ rest) split here front =
-          let same : entry.0 ≡ node = same_Some entry.0 node front in
-          record {
-            passed = walked.passed;
-            kept = walked.kept;
-            value = entry.1;
-            after = rest;
-            split = split ∙ ap (λ (n : ℕ). walked.passed ++ (n, entry.1) ∷ rest) same;
-            stands = record { stands = here ∙ ap (λ (n : ℕ). Some (walked.kept ++ (n, entry.1) ∷ rest)) same };
-            counted = walked.counted;
-            done = walked.done;
-          }
+  walk_place first now list count next node old ws walked is = grind (arith, nat_tests, same_Some)
 
   pub walk_node : (first now : Lists ℕ) (list count : ℕ) (next : Option ℕ) (node : ℕ) (old ws : List (Option Watcher))
       → IsWalked first now list count next old ws → next ≡ Some node → HasNode now node
@@ -267,11 +213,7 @@ module _ (revision : ℕ) (key : List ℕ) where
 
   -- a ready watcher stays as it is
   stays : (w : Watcher) → is_some w.first ≡ true → touch_key revision key w ≡ w
-  stays w some = ap (λ (o : Option ℕ). record w { first = o }) (by_first w.first (nat_lt w.seen revision && is_watched w.watched key) some)
-    where
-      by_first : (o : Option ℕ) (b : Bool) → is_some o ≡ true → first_with revision b o ≡ o
-      by_first None b some = absurd (cc)
-      by_first (Some n) b some = refl
+  stays w some = grind (arith, nat_tests)
 
   module _ (lists : Lists ℕ) (of_key : List ℕ → Option ℕ) (ranges ready : ℕ) (nodes : List (Option ℕ)) (pages : List Page) (ws new : List (Option Watcher))
       (covered : AreCovered lists of_key ranges ready nodes ws) (entered : AreEntered pages ws)
@@ -311,82 +253,28 @@ module _ (revision : ℕ) (key : List ℕ) where
     -- where touching makes no difference
     either_same : (j : ℕ) → option_map (touch_key revision key) (slice_index_or ws j None) ≡ slice_index_or ws j None
         → slice_index_or (touch_each revision key touched.places own) j None ≡ option_map (touch_key revision key) (slice_index_or ws j None)
-    either_same j same = each_after touched.places j own (slice_index_or ws j None) (elim (each_either (places_at lists (of_key key)) j ws) [
-      | inl kept ↦ kept ∙ sym same
-      | inr touched ↦ touched
-    ])
+    either_same j same = grind (arith, nat_tests, each_after, each_either)
 
     slot_touched : (j : ℕ) → slice_index_or (touch_each revision key touched.places own) j None ≡ option_map (touch_key revision key) (slice_index_or ws j None)
-    slot_touched j = by_slot (slice_index_or ws j None) refl
-      where
-        by_slot : (o : Option Watcher) → slice_index_or ws j None ≡ o
-            → slice_index_or (touch_each revision key touched.places own) j None ≡ option_map (touch_key revision key) (slice_index_or ws j None)
-        by_slot None is = either_same j (ap (option_map (touch_key revision key)) is ∙ sym is)
-        by_slot (Some w) is = elim (cases_Bool (is_some w.first)) [
-          | inl some ↦ either_same j (ap (option_map (touch_key revision key)) is ∙ ap Some (stays w some) ∙ sym is)
-          | inr idle ↦ elim (cases_Bool (nat_lt w.seen revision && is_watched w.watched key)) [
-            | inl wants ↦ let parts = both (nat_lt w.seen revision) (is_watched w.watched key) wants in reached w j w.watched is idle refl parts.0 parts.1
-            | inr other ↦ either_same j (ap (option_map (touch_key revision key)) is ∙ ap Some (untouched revision key w other) ∙ sym is)
-          ]
-        ]
+    slot_touched j = grind (arith, nat_tests, either_same, cases_Bool, stays, both, reached, never)
 
     pub all_touched : new ≡ map (option_map (touch_key revision key)) ws
-    all_touched = touched.done ∙ same_lists (touch_each revision key touched.places own) (map (option_map (touch_key revision key)) ws)
-        (long ∙ sym (length-map ws (option_map (touch_key revision key))))
-        (λ k d below.
-        let under : k < length ws = omega (arith, below, long) in
-        let mapped : k < length (map (option_map (touch_key revision key)) ws) = omega
-        (arith, under, length-map ws (option_map (touch_key revision key))) in
-        read_at (touch_each revision key touched.places own) k d below ∙ slot_touched k ∙ sym (slot_of_map (touch_key revision key) ws k)
-        ∙ sym (read_at (map (option_map (touch_key revision key)) ws) k d mapped))
-      where
-        long : length (touch_each revision key touched.places own) ≡ length ws
-        long = length_each touched.places own ∙ length_each (places_at lists (of_key key)) ws
+    all_touched = grind (arith, nat_tests, same_lists, length-map, read_at, slot_touched, slot_of_map, length_each)
 
 -- ---- one event after the other
-
-shown_key : (e : Event) → key_of (change_of_event e) ≡ key_of_event e
-shown_key (Put key state) = refl
-shown_key (Delete key revision) = refl
 
 touch_one_more : (revision : ℕ) (e : Event) (es : List Event) (o : Option Watcher) →
     option_map (touch_key revision (key_of_event e)) (option_map (touch revision (map change_of_event es)) o)
     ≡ option_map (touch revision (map change_of_event (es ++ e ∷ []))) o
-touch_one_more revision e es None = refl
-touch_one_more revision e es (Some w) =
-    let watched = w.watched in
-    let wants = nat_lt w.seen revision in
-    let any = is_any_watched watched (map change_of_event es) in
-    let one = is_watched watched (key_of (change_of_event e)) in
-    ap (λ k. Some (record w { first = first_with revision (wants && is_watched watched k) (first_with revision (wants && any) w.first) })) (sym (shown_key e))
-    ∙ ap (λ (o : Option ℕ). Some (record w { first = o })) (joined w.first wants any one)
-    ∙ ap (λ b. Some (record w { first = first_with revision (wants && b) w.first }))
-    (sym (ap (is_any_watched watched) (map-append change_of_event es (e ∷ []))
-    ∙ list_any-append (λ c. is_watched watched (key_of c)) (map change_of_event es) (change_of_event e ∷ [])
-    ∙ ap (λ b. any || b) (last one)))
-  where
-    joined : (o : Option ℕ) (b c d : Bool) → first_with revision (b && d) (first_with revision (b && c) o) ≡ first_with revision (b && (c || d)) o
-    joined (Some n) b c d = refl
-    joined None true true d = refl
-    joined None true false d = refl
-    joined None false c d = refl
-
-    last : (b : Bool) → (b || false) ≡ b
-    last true = refl
-    last false = refl
+touch_one_more revision e es o = grind (arith, nat_tests, map-append, list_any-append)
 
 pub touch_next : (revision : ℕ) (e : Event) (es : List Event) (ws : List (Option Watcher)) →
     map (option_map (touch_key revision (key_of_event e))) (map (option_map (touch revision (map change_of_event es))) ws)
     ≡ map (option_map (touch revision (map change_of_event (es ++ e ∷ [])))) ws
 touch_next revision e es [] = refl
-touch_next revision e es (o ∷ ws) =
-    ap (λ x. x ∷ map (option_map (touch_key revision (key_of_event e))) (map (option_map (touch revision (map change_of_event es))) ws))
-    (touch_one_more revision e es o)
-    ∙ ap (λ l. option_map (touch revision (map change_of_event (es ++ e ∷ []))) o ∷ l) (touch_next revision e es ws)
+touch_next revision e es (o ∷ ws) = grind (arith, nat_tests, touch_one_more, touch_next revision e es ws)
 
 pub touch_none : (revision : ℕ) (ws : List (Option Watcher)) → ws ≡ map (option_map (touch revision [])) ws
 touch_none revision [] = refl
 touch_none revision (None ∷ ws) = ap (λ l. None ∷ l) (touch_none revision ws)
-touch_none revision (Some w ∷ ws) =
-    ap (λ (o : Option ℕ). Some (record w { first = o }) ∷ ws) (sym (never revision w.first (nat_lt w.seen revision)))
-    ∙ ap (λ l. Some (touch revision [] w) ∷ l) (touch_none revision ws)
+touch_none revision (Some w ∷ ws) = grind (arith, nat_tests, never, touch_none revision ws)

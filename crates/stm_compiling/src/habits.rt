@@ -90,6 +90,9 @@ fn said_of_symbol(spot: Spot<'_>, symbol: Symbol) -> &'static str {
         Symbol::RightBrace | Symbol::RightParenthesis => "no bracket is open before it",
         Symbol::Arithmetic(Operator::Div) => "a comment begins with //",
         Symbol::Arithmetic(Operator::Sub) => "a name has letters, digits and _ alone",
+        Symbol::Comma if spot.is_behind(1, "grant") => {
+            "a time to live stands behind ttl: grant ID ttl SECONDS"
+        }
         Symbol::Comma if spot.event() == Some(Event::Step) => {
             "runners stand one behind another, without it"
         }

@@ -126,6 +126,9 @@ fn said_in_event(spot: Spot<'_>) -> &'static str {
     if is_of_a_program(spot) {
         return "cannot be given here: another one has this name, or it is one of v0 to v15";
     }
+    if spot.is_behind(0, "watch") {
+        return "is no constant above: a watched key is a text in quotes, watch \"KEY\", or the name of one";
+    }
     if spot.event() == Some(Event::Step) || is_awaited(spot) {
         return "is no runner above: a runner has the name that its start gives it by as NAME, or its number";
     }

@@ -7,6 +7,10 @@ use crate::wanted::is_behind_number_name;
 use stm_program::Operator;
 use stm_tokens::{Symbol, Token, TokenKind, Word};
 
+/// What is said of a function that is none.
+pub(crate) const ANY_FUNCTION: &str =
+    "the functions are get(KEY), rev(KEY), num_of(TEXT) and text_of(NUMBER)";
+
 /// What is said of a function that people know from elsewhere, by its name; nothing of others.
 fn said_of_known(name: &str) -> &'static str {
     match name {
@@ -55,7 +59,7 @@ fn said_of_known(name: &str) -> &'static str {
 pub(crate) fn said_of_function(name: &str) -> &'static str {
     let said = said_of_known(name);
     if said.is_empty() {
-        return "the functions are get(KEY), rev(KEY), num_of(TEXT) and text_of(NUMBER)";
+        return ANY_FUNCTION;
     }
     said
 }

@@ -111,6 +111,25 @@ txn_words most event succeeded revision = joined (codes "txn " ∷ failed_word s
 abbrev pub revoked_words : ℕ → ℕ → List ℕ
 revoked_words id revision = joined (codes "revoke " ∷ decimal id ∷ codes " @" ∷ decimal revision ∷ [])
 
+-- a grant of a lease for that many seconds, as a source has it
+abbrev pub grant_words : ℕ → ℕ → List ℕ
+grant_words id ttl = joined (codes "grant " ∷ decimal id ∷ codes " ttl " ∷ decimal ttl ∷ [])
+
+-- what was asked for
+abbrev pub asked_words : WorldEvent → List ℕ
+asked_words (event.Start program level limit) = codes "start"
+asked_words (event.Step runner) = codes "step"
+asked_words (event.Txn txn) = codes "txn"
+asked_words (event.Grant id ttl) = grant_words id ttl
+asked_words (event.Keep id) = codes "keep"
+asked_words (event.Revoke id) = codes "revoke"
+asked_words (event.Advance now) = codes "advance"
+asked_words (event.Compact revision) = codes "compact"
+asked_words (event.WatchKey key from) = codes "watch"
+asked_words (event.WatchRange first end from) = codes "watch"
+asked_words (event.Poll watcher most) = codes "poll"
+asked_words (event.Cancel watcher) = codes "cancel"
+
 abbrev pub advanced_words : ℕ → ℕ → List ℕ
 advanced_words now expired = joined (codes "advance to " ∷ decimal now ∷ codes ", " ∷ decimal expired ∷ codes " expired" ∷ [])
 
@@ -151,7 +170,7 @@ reply_words cuts labels h event (Aborted runner text) = reported_words cuts.valu
 reply_words cuts labels h event (Faulted runner fault) = reported_words cuts.value (codes "FAULT") (fault_name fault)
 reply_words cuts labels h event (Ended runner cause) = reported_words cuts.value (codes "ENDED") (refusal_name cause)
 reply_words cuts labels h event (Txn succeeded revision answers) = txn_words cuts.value event succeeded revision
-reply_words cuts labels h event (Granted id) = named_words (codes "grant") id
+reply_words cuts labels h event (Granted id) = asked_words event
 reply_words cuts labels h event (Kept id) = named_words (codes "keep") id
 reply_words cuts labels h event (Revoked id revision) = revoked_words id revision
 reply_words cuts labels h event (Advanced now expired) = advanced_words now (length expired)
@@ -161,23 +180,8 @@ reply_words cuts labels h event (Batch watcher upto events) = batch_words cuts w
 reply_words cuts labels h event (Lost watcher floor) = lost_words watcher floor
 reply_words cuts labels h event (Cancelled watcher) = named_words (codes "cancel") watcher
 
--- what was asked for
-abbrev pub asked_word : WorldEvent → List ℕ
-asked_word (event.Start program level limit) = codes "start"
-asked_word (event.Step runner) = codes "step"
-asked_word (event.Txn txn) = codes "txn"
-asked_word (event.Grant id ttl) = codes "grant"
-asked_word (event.Keep id) = codes "keep"
-asked_word (event.Revoke id) = codes "revoke"
-asked_word (event.Advance now) = codes "advance"
-asked_word (event.Compact revision) = codes "compact"
-asked_word (event.WatchKey key from) = codes "watch"
-asked_word (event.WatchRange first end from) = codes "watch"
-asked_word (event.Poll watcher most) = codes "poll"
-asked_word (event.Cancel watcher) = codes "cancel"
-
 abbrev pub refused_words : ℕ → WorldEvent → EventRefusal → List ℕ
-refused_words most event cause = joined (codes "REFUSED " ∷ asked_word event ∷ codes ": " ∷ shown most (refusal_name cause) ∷ [])
+refused_words most event cause = joined (codes "REFUSED " ∷ asked_words event ∷ codes ": " ∷ shown most (refusal_name cause) ∷ [])
 
 abbrev pub told_words : Cuts → List RunnerLabel → History → WorldEvent → Result Reply Denied → List ℕ
 told_words cuts labels h event (Ok reply) = reply_words cuts labels h event reply

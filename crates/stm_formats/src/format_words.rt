@@ -5,7 +5,7 @@ ghost use Rattle.stm_formats.specs.FormatWords.{named_words, reported_words, cha
 ghost use Rattle.stm_formats.specs.FormatWords.{reads_after, listed_words, attempt_words, commit_words, compared_words, compared_by, failed_word, at_words, txn_words, revoked_words};
 ghost use Rattle.stm_formats.specs.FormatKeys.{key_words};
 ghost use Rattle.stm_formats.specs.FormatPieces.{joined};
-ghost use Rattle.stm_formats.specs.FormatWords.{advanced_words, from_words, watched_words, watch_words, events_word, batch_words, lost_words, reply_words, asked_word, refused_words, told_words, words_of};
+ghost use Rattle.stm_formats.specs.FormatWords.{advanced_words, from_words, watched_words, watch_words, events_word, batch_words, lost_words, reply_words, grant_words, asked_words, refused_words, told_words, words_of};
 
 use crate::format_changes::{MOST_CHANGES, between, changed_since, changes_words, known_words};
 use crate::format_keys::{Cuts, key_words};
@@ -341,6 +341,39 @@ fn revoked(alloc: Global, id: u64, revision: u64) -> Result<Sequence<u8>, AllocE
     said(alloc, &pieces)
 }
 
+/// The words of a grant of a lease, as a source has it.
+fn grant_words(alloc: Global, id: u64, ttl: u64) -> Result<Sequence<u8>, AllocError>
+    ensures { IfOk result (λ words. words ≡ grant_words id ttl) }
+{
+    let pieces = [
+        Piece::Say("grant "),
+        Piece::Number(id),
+        Piece::Say(" ttl "),
+        Piece::Number(ttl),
+    ];
+    said(alloc, &pieces)
+}
+
+/// What an event asked for.
+fn asked_words(alloc: Global, event: &WorldEvent) -> Result<Sequence<u8>, AllocError>
+    ensures { IfOk result (λ words. words ≡ asked_words event.now) }
+{
+    match event {
+        WorldEvent::Start { .. } => said(alloc, &[Piece::Say("start")]),
+        WorldEvent::Step { .. } => said(alloc, &[Piece::Say("step")]),
+        WorldEvent::Txn { .. } => said(alloc, &[Piece::Say("txn")]),
+        WorldEvent::Grant { id, ttl } => grant_words(alloc, *id, *ttl),
+        WorldEvent::Keep { .. } => said(alloc, &[Piece::Say("keep")]),
+        WorldEvent::Revoke { .. } => said(alloc, &[Piece::Say("revoke")]),
+        WorldEvent::Advance { .. } => said(alloc, &[Piece::Say("advance")]),
+        WorldEvent::Compact { .. } => said(alloc, &[Piece::Say("compact")]),
+        WorldEvent::WatchKey { .. } => said(alloc, &[Piece::Say("watch")]),
+        WorldEvent::WatchRange { .. } => said(alloc, &[Piece::Say("watch")]),
+        WorldEvent::Poll { .. } => said(alloc, &[Piece::Say("poll")]),
+        WorldEvent::Cancel { .. } => said(alloc, &[Piece::Say("cancel")]),
+    }
+}
+
 /// The words of an advance.
 fn advanced(alloc: Global, now: u64, expired: u64) -> Result<Sequence<u8>, AllocError>
     ensures { IfOk result (λ words. words ≡ advanced_words now expired) }
@@ -536,7 +569,7 @@ fn taken_words(
             revision,
             ..
         } => transacted(alloc, cuts.value, event, *succeeded, *revision),
-        Reply::Granted { id } => named(alloc, "grant", *id),
+        Reply::Granted { .. } => asked_words(alloc, event),
         Reply::Kept { id } => named(alloc, "keep", *id),
         Reply::Revoked { id, revision } => revoked(alloc, *id, *revision),
         Reply::Advanced { now, expired } => advanced(alloc, *now, expired.len() as u64),
@@ -552,26 +585,6 @@ fn taken_words(
     }
 }
 
-/// What an event asked for.
-fn asked_word(event: &WorldEvent) -> &'static str
-    ensures { result.now ≡ asked_word event.now }
-{
-    match event {
-        WorldEvent::Start { .. } => "start",
-        WorldEvent::Step { .. } => "step",
-        WorldEvent::Txn { .. } => "txn",
-        WorldEvent::Grant { .. } => "grant",
-        WorldEvent::Keep { .. } => "keep",
-        WorldEvent::Revoke { .. } => "revoke",
-        WorldEvent::Advance { .. } => "advance",
-        WorldEvent::Compact { .. } => "compact",
-        WorldEvent::WatchKey { .. } => "watch",
-        WorldEvent::WatchRange { .. } => "watch",
-        WorldEvent::Poll { .. } => "poll",
-        WorldEvent::Cancel { .. } => "cancel",
-    }
-}
-
 /// The words of an event that was refused.
 fn refused(
     alloc: Global,
@@ -581,9 +594,10 @@ fn refused(
 ) -> Result<Sequence<u8>, AllocError>
     ensures { IfOk result (λ words. words ≡ refused_words most event.now cause) }
 {
+    let asked = asked_words(alloc, event)?;
     let pieces = [
         Piece::Say("REFUSED "),
-        Piece::Say(asked_word(event)),
+        Piece::Raw(asked.as_slice()),
         Piece::Say(": "),
         Piece::Shown(most, cause.name()),
     ];

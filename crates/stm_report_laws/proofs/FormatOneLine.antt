@@ -40,7 +40,7 @@ use Rattle.stm_reasons.specs.Causes.{state_by}
 use Rattle.stm_formats.specs.FormatChanges.{state_words, known_words, change_words, between, counted_change, changes_after, revision_words, changed_since}
 use Rattle.stm_formats.specs.FormatWords.{named_words, reported_words, called_words, start_words, link, seen_words, as_of, fetched_words, counted_read, reads_after, listed_words}
 use Rattle.stm_formats.specs.FormatWords.{attempt_words, commit_words, compared_words, compared_by, failed_word, at_words, txn_words, revoked_words, changed_words, advanced_words, from_words, watched_words, watch_words, events_word, batch_words}
-use Rattle.stm_formats.specs.FormatWords.{lost_words, asked_word, refused_words, reply_words, told_words, words_of}
+use Rattle.stm_formats.specs.FormatWords.{lost_words, grant_words, asked_words, refused_words, reply_words, told_words, words_of}
 use Rattle.stm_formats.specs.FormatRows.{lane_of, row_of, rows_of}
 use Rattle.stm_formats.specs.FormatColumns.{column, place}
 use Rattle.stm_formats.specs.FormatText.{spaces, row_text, rows_text}
@@ -154,10 +154,6 @@ start_without most labels runner (event.Start program level limit) =
     joined_without (codes "start " ∷ level_text level ∷ called_words most (program_of labels runner) program ∷ [])
     (refl, (level_without level, (called_without most (program_of labels runner) program, tt)))
 start_without most labels runner _ = refl
-
-asked_without : (e : WorldEvent) → has 10 (asked_word e) ≡ false
-asked_without (event.Start program level limit) = refl
-asked_without _ = refl
 
 compared_by_without : (most : ℕ) (e : WorldEvent) → has 10 (compared_by most e) ≡ false
 compared_by_without most (event.Txn txn) = joined_without (source_shown most (shown_compares txn.compares) ∷ []) (source_without most (shown_compares txn.compares), tt)
@@ -294,6 +290,14 @@ revoked_without : (id revision : ℕ) → has 10 (revoked_words id revision) ≡
 revoked_without id revision =
     joined_without (codes "revoke " ∷ decimal id ∷ codes " @" ∷ decimal revision ∷ []) (refl, (decimal_without id, (refl, (decimal_without revision, tt))))
 
+grant_without : (id ttl : ℕ) → has 10 (grant_words id ttl) ≡ false
+grant_without id ttl =
+    joined_without (codes "grant " ∷ decimal id ∷ codes " ttl " ∷ decimal ttl ∷ []) (refl, (decimal_without id, (refl, (decimal_without ttl, tt))))
+
+asked_without : (e : WorldEvent) → has 10 (asked_words e) ≡ false
+asked_without (event.Grant id ttl) = grant_without id ttl
+asked_without _ = refl
+
 advanced_without : (now expired : ℕ) → has 10 (advanced_words now expired) ≡ false
 advanced_without now expired =
     joined_without (codes "advance to " ∷ decimal now ∷ codes ", " ∷ decimal expired ∷ codes " expired" ∷ [])
@@ -327,7 +331,7 @@ lost_without watcher floor =
 
 refused_without : (most : ℕ) (e : WorldEvent) (cause : EventRefusal) → has 10 (refused_words most e cause) ≡ false
 refused_without most e cause =
-    joined_without (codes "REFUSED " ∷ asked_word e ∷ codes ": " ∷ shown most (refusal_name cause) ∷ [])
+    joined_without (codes "REFUSED " ∷ asked_words e ∷ codes ": " ∷ shown most (refusal_name cause) ∷ [])
     (refl, (asked_without e, (refl, (shown_without most (refusal_name cause), tt))))
 
 reply_without : (cuts : Cuts) (labels : List RunnerLabel) (h : History) (e : WorldEvent) (reply : Reply) → has 10 (reply_words cuts labels h e reply) ≡ false
@@ -341,7 +345,7 @@ reply_without cuts labels h e (Aborted runner text) = reported_without cuts.valu
 reply_without cuts labels h e (Faulted runner fault) = reported_without cuts.value (codes "FAULT") (fault_name fault) refl
 reply_without cuts labels h e (Ended runner cause) = reported_without cuts.value (codes "ENDED") (refusal_name cause) refl
 reply_without cuts labels h e (Txn succeeded revision answers) = txn_without cuts.value e succeeded revision
-reply_without cuts labels h e (Granted id) = named_without (codes "grant") id refl
+reply_without cuts labels h e (Granted id) = asked_without e
 reply_without cuts labels h e (Kept id) = named_without (codes "keep") id refl
 reply_without cuts labels h e (Revoked id revision) = revoked_without id revision
 reply_without cuts labels h e (Advanced now expired) = advanced_without now (length expired)

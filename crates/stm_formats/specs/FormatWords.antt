@@ -3,6 +3,7 @@ use Rattle.std.specs.Prelude.{ℕ, suc, List, [], ◌∷◌, ◌++◌, length, n
 use Rattle.stm_history.specs.History.{History}
 use Rattle.stm_program.specs.Syntax.{ProgramTree}
 use Rattle.stm_meaning.specs.Faults.{fault_name}
+use Rattle.stm_outcome.specs.declared.advance.Expired.{Expired}
 use Rattle.stm_events.specs.declared.event.WorldEvent.{WorldEvent}
 use Rattle.stm_events.specs.declared.event.WorldEvent.TheVariants as event
 use Rattle.stm_events.specs.declared.reply.Reply.{Reply}
@@ -130,8 +131,23 @@ asked_words (event.WatchRange first end from) = codes "watch"
 asked_words (event.Poll watcher most) = codes "poll"
 asked_words (event.Cancel watcher) = codes "cancel"
 
-abbrev pub advanced_words : ℕ → ℕ → List ℕ
-advanced_words now expired = joined (codes "advance to " ∷ decimal now ∷ codes ", " ∷ decimal expired ∷ codes " expired" ∷ [])
+-- what stands before a lease that ended after that many
+abbrev pub lease_after : ℕ → List ℕ
+lease_after count = if nat_eq count 0 then codes ": lease " else codes ", lease "
+
+-- a lease that ended after that many, and the revision after it: of more than are shown only that there are more
+abbrev pub counted_end : ℕ → Expired → List ℕ
+counted_end count lease =
+    if nat_lt count MOST_CHANGES then joined (lease_after count ∷ decimal lease.id ∷ codes " ended @" ∷ decimal lease.revision ∷ [])
+    else (if nat_eq count MOST_CHANGES then codes ", .." else [])
+
+-- the leases that ended after that many
+abbrev pub ends_after : ℕ → List Expired → List ℕ
+ends_after count [] = []
+ends_after count (lease ∷ expired) = counted_end count lease ++ ends_after (suc count) expired
+
+abbrev pub advanced_words : ℕ → List Expired → List ℕ
+advanced_words now expired = joined (codes "advance to " ∷ decimal now ∷ ends_after 0 expired ∷ [])
 
 -- from which revision on is watched, where that is said
 abbrev pub from_words : ℕ → List ℕ
@@ -173,7 +189,7 @@ reply_words cuts labels h event (Txn succeeded revision answers) = txn_words cut
 reply_words cuts labels h event (Granted id) = asked_words event
 reply_words cuts labels h event (Kept id) = named_words (codes "keep") id
 reply_words cuts labels h event (Revoked id revision) = revoked_words id revision
-reply_words cuts labels h event (Advanced now expired) = advanced_words now (length expired)
+reply_words cuts labels h event (Advanced now expired) = advanced_words now expired
 reply_words cuts labels h event (Compacted revision) = changed_words (codes "compact") revision
 reply_words cuts labels h event (Watching watcher) = watch_words cuts watcher event
 reply_words cuts labels h event (Batch watcher upto events) = batch_words cuts watcher upto events

@@ -10,7 +10,7 @@ use stm_history::{KeyState, Sequence};
 use stm_keys::Keys;
 use stm_reasons::state_by;
 
-/// So many changes of a revision, or keys of a list, are shown.
+/// So many changes of a revision, keys of a list, or leases that ended are shown.
 pub(crate) const MOST_CHANGES: u64 = 3;
 
 /// The words of a key that was looked up.

@@ -5,7 +5,7 @@ ghost use Rattle.stm_formats.specs.FormatWords.{named_words, reported_words, cha
 ghost use Rattle.stm_formats.specs.FormatWords.{reads_after, listed_words, attempt_words, commit_words, compared_words, compared_by, failed_word, at_words, txn_words, revoked_words};
 ghost use Rattle.stm_formats.specs.FormatKeys.{key_words};
 ghost use Rattle.stm_formats.specs.FormatPieces.{joined};
-ghost use Rattle.stm_formats.specs.FormatWords.{advanced_words, from_words, watched_words, watch_words, events_word, batch_words, lost_words, reply_words, grant_words, asked_words, refused_words, told_words, words_of};
+ghost use Rattle.stm_formats.specs.FormatWords.{lease_after, counted_end, ends_after, advanced_words, from_words, watched_words, watch_words, events_word, batch_words, lost_words, reply_words, grant_words, asked_words, refused_words, told_words, words_of};
 
 use crate::format_changes::{MOST_CHANGES, between, changed_since, changes_words, known_words};
 use crate::format_keys::{Cuts, key_words};
@@ -13,7 +13,7 @@ use crate::format_label::{RunnerLabel, program_of};
 use crate::format_pieces::{Piece, push_pieces, said};
 use crate::format_source::{compare_words, program_words, source_words};
 use std::alloc::{AllocError, Global};
-use stm_events::{Event, EventRefusal, KeyRead};
+use stm_events::{Event, EventRefusal, Expired, KeyRead};
 use stm_history::Sequence;
 use stm_keys::Keys;
 use stm_program::{Level, Program};
@@ -374,16 +374,52 @@ fn asked_words(alloc: Global, event: &WorldEvent) -> Result<Sequence<u8>, AllocE
     }
 }
 
-/// The words of an advance.
-fn advanced(alloc: Global, now: u64, expired: u64) -> Result<Sequence<u8>, AllocError>
-    ensures { IfOk result (λ words. words ≡ advanced_words now expired) }
+/// What stands before a lease that ended after so many.
+fn lease_after(count: u64) -> &'static str
+    ensures { result.now ≡ lease_after count }
 {
+    if count == 0 { ": lease " } else { ", lease " }
+}
+
+/// Adds a lease that ended after so many.
+fn push_end(out: &mut Vec<u8>, count: u64, lease: Expired) -> Result<(), AllocError>
+    ensures { OnOk result (out.new.items ≡ out.old.items ++ counted_end count lease) }
+{
+    if count < MOST_CHANGES {
+        let pieces = [
+            Piece::Say(lease_after(count)),
+            Piece::Number(lease.id),
+            Piece::Say(" ended @"),
+            Piece::Number(lease.revision),
+        ];
+        return push_pieces(out, &pieces);
+    }
+    if count == MOST_CHANGES {
+        return out.extend_from_slice(b", ..");
+    }
+    Ok(())
+}
+
+/// The words of leases that ended.
+fn ends_words(alloc: Global, expired: &[Expired]) -> Result<Vec<u8>, AllocError>
+    ensures { IfOk result (λ words. words.items ≡ ends_after 0 expired.now) }
+{
+    let mut out = Vec::new(alloc);
+    for (count, lease) in expired.iter().enumerate() {
+        push_end(&mut out, count as u64, *lease)?;
+    }
+    Ok(out)
+}
+
+/// The words of an advance.
+fn advanced(alloc: Global, now: u64, expired: &[Expired]) -> Result<Sequence<u8>, AllocError>
+    ensures { IfOk result (λ words. words ≡ advanced_words now expired.now) }
+{
+    let ended = ends_words(alloc, expired)?;
     let pieces = [
         Piece::Say("advance to "),
         Piece::Number(now),
-        Piece::Say(", "),
-        Piece::Number(expired),
-        Piece::Say(" expired"),
+        Piece::Raw(ended.as_slice()),
     ];
     said(alloc, &pieces)
 }
@@ -572,7 +608,7 @@ fn taken_words(
         Reply::Granted { .. } => asked_words(alloc, event),
         Reply::Kept { id } => named(alloc, "keep", *id),
         Reply::Revoked { id, revision } => revoked(alloc, *id, *revision),
-        Reply::Advanced { now, expired } => advanced(alloc, *now, expired.len() as u64),
+        Reply::Advanced { now, expired } => advanced(alloc, *now, expired.as_slice()),
         Reply::Compacted { revision } => changed(alloc, "compact", *revision),
         Reply::Watching { watcher } => watching(alloc, cuts, *watcher, event),
         Reply::Batch {

@@ -13,6 +13,7 @@ use Rattle.stm_history.specs.History.{History, now}
 use Rattle.stm_keys.specs.declared.event.Event.{Event}
 use Rattle.stm_keys.specs.declared.event.Event.TheVariants as change
 use Rattle.stm_keys.specs.Events.{events_of}
+use Rattle.stm_outcome.specs.declared.advance.Expired.{Expired}
 use Rattle.stm_events.specs.declared.event.WorldEvent.{WorldEvent}
 use Rattle.stm_events.specs.declared.event.WorldEvent.TheVariants as event
 use Rattle.stm_events.specs.declared.reply.Reply.{Reply}
@@ -25,6 +26,7 @@ use Rattle.stm_meaning.specs.Faults.{fault_name}
 use Rattle.stm_program.specs.Syntax.{ProgramTree}
 use Rattle.stm_formats.specs.declared.format_keys.Cuts.{Cuts}
 use Rattle.stm_formats.specs.declared.format_label.RunnerLabel.{RunnerLabel}
+use Rattle.stm_formats.specs.declared.format_changes.TheConstants.{MOST_CHANGES}
 use Rattle.stm_formats.specs.FormatLabels.{program_of}
 use Rattle.stm_formats.specs.declared.format_row.Lane.{Lane}
 use Rattle.stm_formats.specs.declared.format_row.Lane.TheVariants.{Store, Runner}
@@ -39,7 +41,7 @@ use Rattle.stm_reasons.specs.Counters.{counter_after}
 use Rattle.stm_reasons.specs.Causes.{state_by}
 use Rattle.stm_formats.specs.FormatChanges.{state_words, known_words, change_words, between, counted_change, changes_after, revision_words, changed_since}
 use Rattle.stm_formats.specs.FormatWords.{named_words, reported_words, called_words, start_words, link, seen_words, as_of, fetched_words, counted_read, reads_after, listed_words}
-use Rattle.stm_formats.specs.FormatWords.{attempt_words, commit_words, compared_words, compared_by, failed_word, at_words, txn_words, revoked_words, changed_words, advanced_words, from_words, watched_words, watch_words, events_word, batch_words}
+use Rattle.stm_formats.specs.FormatWords.{attempt_words, commit_words, compared_words, compared_by, failed_word, at_words, txn_words, revoked_words, changed_words, ends_after, counted_end, lease_after, advanced_words, from_words, watched_words, watch_words, events_word, batch_words}
 use Rattle.stm_formats.specs.FormatWords.{lost_words, grant_words, asked_words, refused_words, reply_words, told_words, words_of}
 use Rattle.stm_formats.specs.FormatRows.{lane_of, row_of, rows_of}
 use Rattle.stm_formats.specs.FormatColumns.{column, place}
@@ -298,10 +300,22 @@ asked_without : (e : WorldEvent) → has 10 (asked_words e) ≡ false
 asked_without (event.Grant id ttl) = grant_without id ttl
 asked_without _ = refl
 
-advanced_without : (now expired : ℕ) → has 10 (advanced_words now expired) ≡ false
+end_without : (count : ℕ) (lease : Expired) → has 10 (counted_end count lease) ≡ false
+end_without count lease =
+    let ended : List ℕ = joined (lease_after count ∷ decimal lease.id ∷ codes " ended @" ∷ decimal lease.revision ∷ []) in
+    either_without (nat_lt count MOST_CHANGES) ended (cond (nat_eq count MOST_CHANGES) (codes ", ..") [])
+    (joined_without (lease_after count ∷ decimal lease.id ∷ codes " ended @" ∷ decimal lease.revision ∷ []) (
+      either_without (nat_eq count 0) (codes ": lease ") (codes ", lease ") refl refl,
+      (decimal_without lease.id, (refl, (decimal_without lease.revision, tt))),
+    )) (either_without (nat_eq count MOST_CHANGES) (codes ", ..") [] refl refl)
+
+ends_without : (count : ℕ) (expired : List Expired) → has 10 (ends_after count expired) ≡ false
+ends_without count [] = refl
+ends_without count (lease ∷ expired) = has-append 10 (counted_end count lease) (ends_after (suc count) expired) (end_without count lease) (ends_without (suc count) expired)
+
+advanced_without : (now : ℕ) (expired : List Expired) → has 10 (advanced_words now expired) ≡ false
 advanced_without now expired =
-    joined_without (codes "advance to " ∷ decimal now ∷ codes ", " ∷ decimal expired ∷ codes " expired" ∷ [])
-    (refl, (decimal_without now, (refl, (decimal_without expired, (refl, tt)))))
+    joined_without (codes "advance to " ∷ decimal now ∷ ends_after 0 expired ∷ []) (refl, (decimal_without now, (ends_without 0 expired, tt)))
 
 from_without : (from : ℕ) → has 10 (from_words from) ≡ false
 from_without from =
@@ -348,7 +362,7 @@ reply_without cuts labels h e (Txn succeeded revision answers) = txn_without cut
 reply_without cuts labels h e (Granted id) = asked_without e
 reply_without cuts labels h e (Kept id) = named_without (codes "keep") id refl
 reply_without cuts labels h e (Revoked id revision) = revoked_without id revision
-reply_without cuts labels h e (Advanced now expired) = advanced_without now (length expired)
+reply_without cuts labels h e (Advanced now expired) = advanced_without now expired
 reply_without cuts labels h e (Compacted revision) = compacted_without revision
 reply_without cuts labels h e (Watching watcher) = watch_without cuts watcher e
 reply_without cuts labels h e (Batch watcher upto events) = batch_without cuts watcher upto events

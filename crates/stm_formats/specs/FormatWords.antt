@@ -1,5 +1,5 @@
 -- What a row says of an event and its reply. A revision comes after `@`, 0 where the key is absent.
-use Rattle.std.specs.Prelude.{ℕ, suc, List, [], ◌∷◌, ◌++◌, length, nat_eq, nat_lt, Bool, if◌then◌else◌, Option, None, Some, Result, Ok, Err, codes, decimal}
+use Rattle.std.specs.Prelude.{ℕ, suc, List, [], ◌∷◌, ◌++◌, length, nat_eq, nat_lt, nat_le, Bool, if◌then◌else◌, Option, None, Some, Result, Ok, Err, codes, decimal}
 use Rattle.stm_history.specs.History.{History}
 use Rattle.stm_program.specs.Syntax.{ProgramTree}
 use Rattle.stm_meaning.specs.Faults.{fault_name}
@@ -85,8 +85,12 @@ listed_words cuts h revision reads = joined (codes "read the list" ∷ reads_aft
 abbrev pub attempt_words : ℕ → List ℕ
 attempt_words attempts = if nat_eq attempts 1 then [] else joined (codes ", attempt " ∷ decimal attempts ∷ [])
 
-abbrev pub commit_words : ℕ → ℕ → List ℕ
-commit_words revision attempts = joined (codes "COMMIT @" ∷ decimal revision ∷ attempt_words attempts ∷ [])
+-- Where the store's revision after a commit is not above that before it, the commit changed no key.
+abbrev pub commit_word : ℕ → ℕ → List ℕ
+commit_word before revision = if nat_le revision before then codes "COMMIT, no change, at @" else codes "COMMIT @"
+
+abbrev pub commit_words : ℕ → ℕ → ℕ → List ℕ
+commit_words before revision attempts = joined (commit_word before revision ∷ decimal revision ∷ attempt_words attempts ∷ [])
 
 -- what a failed compare was about: the key, what was seen of it, and what it is now
 abbrev pub compared_words : Cuts → History → List ℕ → List ℕ → ℕ → ℕ → List ℕ
@@ -175,34 +179,35 @@ batch_words cuts watcher upto events =
 abbrev pub lost_words : ℕ → ℕ → List ℕ
 lost_words watcher floor = joined (codes "LOST watcher " ∷ decimal watcher ∷ codes ": kept from @" ∷ decimal floor ∷ [])
 
-abbrev pub reply_words : Cuts → List RunnerLabel → History → WorldEvent → Reply → List ℕ
-reply_words cuts labels h event (Started runner) = start_words cuts.value labels runner event
-reply_words cuts labels h event (Prefetched runner revision reads) = listed_words cuts h revision reads
-reply_words cuts labels h event (Fetched runner key mod_rev of_rev revision) = fetched_words cuts h key mod_rev of_rev revision
-reply_words cuts labels h event (Committed runner revision attempts output trace answers) = commit_words revision attempts
-reply_words cuts labels h event (Conflict runner key seen now) = compared_words cuts h (codes "CONFLICT") key seen now
-reply_words cuts labels h event (GaveUp runner attempts key seen now) = compared_words cuts h (codes "GAVE UP") key seen now
-reply_words cuts labels h event (Aborted runner text) = reported_words cuts.value (codes "ABORT") text
-reply_words cuts labels h event (Faulted runner fault) = reported_words cuts.value (codes "FAULT") (fault_name fault)
-reply_words cuts labels h event (Ended runner cause) = reported_words cuts.value (codes "ENDED") (refusal_name cause)
-reply_words cuts labels h event (Txn succeeded revision answers) = txn_words cuts.value event succeeded revision
-reply_words cuts labels h event (Granted id) = asked_words event
-reply_words cuts labels h event (Kept id) = named_words (codes "keep") id
-reply_words cuts labels h event (Revoked id revision) = revoked_words id revision
-reply_words cuts labels h event (Advanced now expired) = advanced_words now expired
-reply_words cuts labels h event (Compacted revision) = changed_words (codes "compact") revision
-reply_words cuts labels h event (Watching watcher) = watch_words cuts watcher event
-reply_words cuts labels h event (Batch watcher upto events) = batch_words cuts watcher upto events
-reply_words cuts labels h event (Lost watcher floor) = lost_words watcher floor
-reply_words cuts labels h event (Cancelled watcher) = named_words (codes "cancel") watcher
+-- the words of an event that was taken, before which the store was at a revision
+abbrev pub reply_words : Cuts → List RunnerLabel → History → ℕ → WorldEvent → Reply → List ℕ
+reply_words cuts labels h before event (Started runner) = start_words cuts.value labels runner event
+reply_words cuts labels h before event (Prefetched runner revision reads) = listed_words cuts h revision reads
+reply_words cuts labels h before event (Fetched runner key mod_rev of_rev revision) = fetched_words cuts h key mod_rev of_rev revision
+reply_words cuts labels h before event (Committed runner revision attempts output trace answers) = commit_words before revision attempts
+reply_words cuts labels h before event (Conflict runner key seen now) = compared_words cuts h (codes "CONFLICT") key seen now
+reply_words cuts labels h before event (GaveUp runner attempts key seen now) = compared_words cuts h (codes "GAVE UP") key seen now
+reply_words cuts labels h before event (Aborted runner text) = reported_words cuts.value (codes "ABORT") text
+reply_words cuts labels h before event (Faulted runner fault) = reported_words cuts.value (codes "FAULT") (fault_name fault)
+reply_words cuts labels h before event (Ended runner cause) = reported_words cuts.value (codes "ENDED") (refusal_name cause)
+reply_words cuts labels h before event (Txn succeeded revision answers) = txn_words cuts.value event succeeded revision
+reply_words cuts labels h before event (Granted id) = asked_words event
+reply_words cuts labels h before event (Kept id) = named_words (codes "keep") id
+reply_words cuts labels h before event (Revoked id revision) = revoked_words id revision
+reply_words cuts labels h before event (Advanced now expired) = advanced_words now expired
+reply_words cuts labels h before event (Compacted revision) = changed_words (codes "compact") revision
+reply_words cuts labels h before event (Watching watcher) = watch_words cuts watcher event
+reply_words cuts labels h before event (Batch watcher upto events) = batch_words cuts watcher upto events
+reply_words cuts labels h before event (Lost watcher floor) = lost_words watcher floor
+reply_words cuts labels h before event (Cancelled watcher) = named_words (codes "cancel") watcher
 
 abbrev pub refused_words : ℕ → WorldEvent → EventRefusal → List ℕ
 refused_words most event cause = joined (codes "REFUSED " ∷ asked_words event ∷ codes ": " ∷ shown most (refusal_name cause) ∷ [])
 
-abbrev pub told_words : Cuts → List RunnerLabel → History → WorldEvent → Result Reply Denied → List ℕ
-told_words cuts labels h event (Ok reply) = reply_words cuts labels h event reply
-told_words cuts labels h event (Err denied) = refused_words cuts.value event denied.cause
+abbrev pub told_words : Cuts → List RunnerLabel → History → ℕ → WorldEvent → Result Reply Denied → List ℕ
+told_words cuts labels h before event (Ok reply) = reply_words cuts labels h before event reply
+told_words cuts labels h before event (Err denied) = refused_words cuts.value event denied.cause
 
 -- what a row says of an event before which the store was at a revision: of its reply, and what it changed
 abbrev pub words_of : Cuts → List RunnerLabel → History → ℕ → WorldEvent → Result Reply Denied → List ℕ
-words_of cuts labels h before event reply = joined (told_words cuts labels h event reply ∷ changed_since cuts h before (counter_after before reply) ∷ [])
+words_of cuts labels h before event reply = joined (told_words cuts labels h before event reply ∷ changed_since cuts h before (counter_after before reply) ∷ [])

@@ -2,7 +2,7 @@
 ghost use Rattle.std.specs.Prelude.{◌≡◌, ◌++◌, [], ◌∷◌, codes, option_map, IfOk, OnOk};
 ghost use Rattle.stm_texts.specs.Grammar.{level_text};
 ghost use Rattle.stm_formats.specs.FormatWords.{named_words, reported_words, changed_words, called_words, start_words, link, seen_words, as_of, fetched_words, counted_read};
-ghost use Rattle.stm_formats.specs.FormatWords.{reads_after, listed_words, attempt_words, commit_words, compared_words, compared_by, failed_word, at_words, txn_words, revoked_words};
+ghost use Rattle.stm_formats.specs.FormatWords.{reads_after, listed_words, attempt_words, commit_word, commit_words, compared_words, compared_by, failed_word, at_words, txn_words, revoked_words};
 ghost use Rattle.stm_formats.specs.FormatKeys.{key_words};
 ghost use Rattle.stm_formats.specs.FormatPieces.{joined};
 ghost use Rattle.stm_formats.specs.FormatWords.{lease_after, counted_end, ends_after, advanced_words, from_words, watched_words, watch_words, events_word, batch_words, lost_words, reply_words, grant_words, asked_words, refused_words, told_words, words_of};
@@ -243,13 +243,29 @@ fn attempt_words(alloc: Global, attempts: u64) -> Result<Sequence<u8>, AllocErro
     said(alloc, &[Piece::Say(", attempt "), Piece::Number(attempts)])
 }
 
-/// The words of a commit.
-fn committed(alloc: Global, revision: u64, attempts: u64) -> Result<Sequence<u8>, AllocError>
-    ensures { IfOk result (λ words. words ≡ commit_words revision attempts) }
+/// What stands before the revision after a commit: that it changed nothing, where the store was at that revision before it.
+fn commit_word(before: u64, revision: u64) -> &'static str
+    ensures { result.now ≡ commit_word before revision }
+{
+    if revision <= before {
+        "COMMIT, no change, at @"
+    } else {
+        "COMMIT @"
+    }
+}
+
+/// The words of a commit, before which the store was at a revision.
+fn committed(
+    alloc: Global,
+    before: u64,
+    revision: u64,
+    attempts: u64,
+) -> Result<Sequence<u8>, AllocError>
+    ensures { IfOk result (λ words. words ≡ commit_words before revision attempts) }
 {
     let attempt = attempt_words(alloc, attempts)?;
     let pieces = [
-        Piece::Say("COMMIT @"),
+        Piece::Say(commit_word(before, revision)),
         Piece::Number(revision),
         Piece::Raw(attempt.as_slice()),
     ];
@@ -553,16 +569,17 @@ fn lost(alloc: Global, watcher: u64, floor: u64) -> Result<Sequence<u8>, AllocEr
     said(alloc, &pieces)
 }
 
-/// The words of an event that was taken.
+/// The words of an event that was taken, before which the store was at a revision.
 fn taken_words(
     alloc: Global,
     cuts: &Cuts,
     labels: &[RunnerLabel],
     keys: &Keys,
+    before: u64,
     event: &WorldEvent,
     reply: &Reply,
 ) -> Result<Sequence<u8>, AllocError>
-    ensures { IfOk result (λ words. words ≡ reply_words cuts.now labels.now keys.now.history event.now reply.now) }
+    ensures { IfOk result (λ words. words ≡ reply_words cuts.now labels.now keys.now.history before event.now reply.now) }
 {
     match reply {
         Reply::Started { runner } => started(alloc, cuts.value, labels, *runner, event),
@@ -590,7 +607,7 @@ fn taken_words(
             revision,
             attempts,
             ..
-        } => committed(alloc, *revision, *attempts),
+        } => committed(alloc, before, *revision, *attempts),
         Reply::Conflict { key, seen, now, .. } => {
             compared(alloc, cuts, keys, "CONFLICT", key.as_str(), *seen, *now)
         }
@@ -646,13 +663,14 @@ fn told_words(
     cuts: &Cuts,
     labels: &[RunnerLabel],
     keys: &Keys,
+    before: u64,
     event: &WorldEvent,
     reply: &Result<Reply, Denied>,
 ) -> Result<Sequence<u8>, AllocError>
-    ensures { IfOk result (λ words. words ≡ told_words cuts.now labels.now keys.now.history event.now reply.now) }
+    ensures { IfOk result (λ words. words ≡ told_words cuts.now labels.now keys.now.history before event.now reply.now) }
 {
     match reply {
-        Ok(reply) => taken_words(alloc, cuts, labels, keys, event, reply),
+        Ok(reply) => taken_words(alloc, cuts, labels, keys, before, event, reply),
         Err(denied) => refused(alloc, cuts.value, event, denied.cause),
     }
 }
@@ -670,7 +688,7 @@ pub(crate) fn words_of(
 ) -> Result<Sequence<u8>, AllocError>
     ensures { IfOk result (λ words. words ≡ words_of cuts.now labels.now keys.now.history before event.now reply.now) }
 {
-    let told = told_words(alloc, cuts, labels, keys, event, reply)?;
+    let told = told_words(alloc, cuts, labels, keys, before, event, reply)?;
     let changed = changed_since(alloc, cuts, keys, before, counter_after(before, reply))?;
     said(
         alloc,

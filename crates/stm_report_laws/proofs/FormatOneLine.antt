@@ -41,7 +41,7 @@ use Rattle.stm_reasons.specs.Counters.{counter_after}
 use Rattle.stm_reasons.specs.Causes.{state_by}
 use Rattle.stm_formats.specs.FormatChanges.{state_words, known_words, change_words, between, counted_change, changes_after, revision_words, changed_since}
 use Rattle.stm_formats.specs.FormatWords.{named_words, reported_words, called_words, start_words, link, seen_words, as_of, fetched_words, counted_read, reads_after, listed_words}
-use Rattle.stm_formats.specs.FormatWords.{attempt_words, commit_words, compared_words, compared_by, failed_word, at_words, txn_words, revoked_words, changed_words, ends_after, counted_end, lease_after, advanced_words, from_words, watched_words, watch_words, events_word, batch_words}
+use Rattle.stm_formats.specs.FormatWords.{attempt_words, commit_word, commit_words, compared_words, compared_by, failed_word, at_words, txn_words, revoked_words, changed_words, ends_after, counted_end, lease_after, advanced_words, from_words, watched_words, watch_words, events_word, batch_words}
 use Rattle.stm_formats.specs.FormatWords.{lost_words, grant_words, asked_words, refused_words, reply_words, told_words, words_of}
 use Rattle.stm_formats.specs.FormatRows.{lane_of, row_of, rows_of}
 use Rattle.stm_formats.specs.FormatColumns.{column, place}
@@ -266,11 +266,11 @@ listed_without : (cuts : Cuts) (h : History) (revision : ℕ) (reads : List KeyR
 listed_without cuts h revision reads =
     joined_without (codes "read the list" ∷ reads_after cuts h revision 0 reads ∷ []) (refl, (reads_without cuts h revision 0 reads, tt))
 
-commit_without : (revision attempts : ℕ) → has 10 (commit_words revision attempts) ≡ false
-commit_without revision attempts =
+commit_without : (before revision attempts : ℕ) → has 10 (commit_words before revision attempts) ≡ false
+commit_without before revision attempts =
     let attempt : List ℕ = joined (codes ", attempt " ∷ decimal attempts ∷ []) in
-    joined_without (codes "COMMIT @" ∷ decimal revision ∷ attempt_words attempts ∷ []) (
-      refl,
+    joined_without (commit_word before revision ∷ decimal revision ∷ attempt_words attempts ∷ []) (
+      either_without (nat_le revision before) (codes "COMMIT, no change, at @") (codes "COMMIT @") refl refl,
       (
         decimal_without revision,
         (
@@ -348,35 +348,35 @@ refused_without most e cause =
     joined_without (codes "REFUSED " ∷ asked_words e ∷ codes ": " ∷ shown most (refusal_name cause) ∷ [])
     (refl, (asked_without e, (refl, (shown_without most (refusal_name cause), tt))))
 
-reply_without : (cuts : Cuts) (labels : List RunnerLabel) (h : History) (e : WorldEvent) (reply : Reply) → has 10 (reply_words cuts labels h e reply) ≡ false
-reply_without cuts labels h e (Started runner) = start_without cuts.value labels runner e
-reply_without cuts labels h e (Prefetched runner revision reads) = listed_without cuts h revision reads
-reply_without cuts labels h e (Fetched runner key mod_rev of_rev revision) = fetched_without cuts h key mod_rev of_rev revision
-reply_without cuts labels h e (Committed runner revision attempts output trace answers) = commit_without revision attempts
-reply_without cuts labels h e (Conflict runner key seen now) = compared_without cuts h (codes "CONFLICT") key seen now refl
-reply_without cuts labels h e (GaveUp runner attempts key seen now) = compared_without cuts h (codes "GAVE UP") key seen now refl
-reply_without cuts labels h e (Aborted runner text) = reported_without cuts.value (codes "ABORT") text refl
-reply_without cuts labels h e (Faulted runner fault) = reported_without cuts.value (codes "FAULT") (fault_name fault) refl
-reply_without cuts labels h e (Ended runner cause) = reported_without cuts.value (codes "ENDED") (refusal_name cause) refl
-reply_without cuts labels h e (Txn succeeded revision answers) = txn_without cuts.value e succeeded revision
-reply_without cuts labels h e (Granted id) = asked_without e
-reply_without cuts labels h e (Kept id) = named_without (codes "keep") id refl
-reply_without cuts labels h e (Revoked id revision) = revoked_without id revision
-reply_without cuts labels h e (Advanced now expired) = advanced_without now expired
-reply_without cuts labels h e (Compacted revision) = compacted_without revision
-reply_without cuts labels h e (Watching watcher) = watch_without cuts watcher e
-reply_without cuts labels h e (Batch watcher upto events) = batch_without cuts watcher upto events
-reply_without cuts labels h e (Lost watcher floor) = lost_without watcher floor
-reply_without cuts labels h e (Cancelled watcher) = named_without (codes "cancel") watcher refl
+reply_without : (cuts : Cuts) (labels : List RunnerLabel) (h : History) (before : ℕ) (e : WorldEvent) (reply : Reply) → has 10 (reply_words cuts labels h before e reply) ≡ false
+reply_without cuts labels h before e (Started runner) = start_without cuts.value labels runner e
+reply_without cuts labels h before e (Prefetched runner revision reads) = listed_without cuts h revision reads
+reply_without cuts labels h before e (Fetched runner key mod_rev of_rev revision) = fetched_without cuts h key mod_rev of_rev revision
+reply_without cuts labels h before e (Committed runner revision attempts output trace answers) = commit_without before revision attempts
+reply_without cuts labels h before e (Conflict runner key seen now) = compared_without cuts h (codes "CONFLICT") key seen now refl
+reply_without cuts labels h before e (GaveUp runner attempts key seen now) = compared_without cuts h (codes "GAVE UP") key seen now refl
+reply_without cuts labels h before e (Aborted runner text) = reported_without cuts.value (codes "ABORT") text refl
+reply_without cuts labels h before e (Faulted runner fault) = reported_without cuts.value (codes "FAULT") (fault_name fault) refl
+reply_without cuts labels h before e (Ended runner cause) = reported_without cuts.value (codes "ENDED") (refusal_name cause) refl
+reply_without cuts labels h before e (Txn succeeded revision answers) = txn_without cuts.value e succeeded revision
+reply_without cuts labels h before e (Granted id) = asked_without e
+reply_without cuts labels h before e (Kept id) = named_without (codes "keep") id refl
+reply_without cuts labels h before e (Revoked id revision) = revoked_without id revision
+reply_without cuts labels h before e (Advanced now expired) = advanced_without now expired
+reply_without cuts labels h before e (Compacted revision) = compacted_without revision
+reply_without cuts labels h before e (Watching watcher) = watch_without cuts watcher e
+reply_without cuts labels h before e (Batch watcher upto events) = batch_without cuts watcher upto events
+reply_without cuts labels h before e (Lost watcher floor) = lost_without watcher floor
+reply_without cuts labels h before e (Cancelled watcher) = named_without (codes "cancel") watcher refl
 
-told_without : (cuts : Cuts) (labels : List RunnerLabel) (h : History) (e : WorldEvent) (reply : Result Reply Denied) → has 10 (told_words cuts labels h e reply) ≡ false
-told_without cuts labels h e (Ok reply) = reply_without cuts labels h e reply
-told_without cuts labels h e (Err denied) = refused_without cuts.value e denied.cause
+told_without : (cuts : Cuts) (labels : List RunnerLabel) (h : History) (before : ℕ) (e : WorldEvent) (reply : Result Reply Denied) → has 10 (told_words cuts labels h before e reply) ≡ false
+told_without cuts labels h before e (Ok reply) = reply_without cuts labels h before e reply
+told_without cuts labels h before e (Err denied) = refused_without cuts.value e denied.cause
 
 words_without : (cuts : Cuts) (labels : List RunnerLabel) (h : History) (before : ℕ) (e : WorldEvent) (reply : Result Reply Denied) → has 10 (words_of cuts labels h before e reply) ≡ false
 words_without cuts labels h before e reply =
-    joined_without (told_words cuts labels h e reply ∷ changed_since cuts h before (counter_after before reply) ∷ [])
-    (told_without cuts labels h e reply, (changed_without cuts h before (counter_after before reply), tt))
+    joined_without (told_words cuts labels h before e reply ∷ changed_since cuts h before (counter_after before reply) ∷ [])
+    (told_without cuts labels h before e reply, (changed_without cuts h before (counter_after before reply), tt))
 
 -- ---- a row
 

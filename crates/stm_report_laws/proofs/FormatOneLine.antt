@@ -39,7 +39,7 @@ use Rattle.stm_formats.specs.FormatSource.{line_after, source_words}
 use Rattle.stm_events.specs.declared.reply.KeyRead.{KeyRead}
 use Rattle.stm_reasons.specs.Counters.{counter_after}
 use Rattle.stm_reasons.specs.Causes.{state_by}
-use Rattle.stm_formats.specs.FormatChanges.{state_words, known_words, change_words, between, counted_change, changes_after, revision_words, changed_since}
+use Rattle.stm_formats.specs.FormatChanges.{state_words, known_words, lease_words, change_words, between, counted_change, changes_after, revision_words, changed_since}
 use Rattle.stm_formats.specs.FormatWords.{named_words, reported_words, called_words, start_words, link, seen_words, as_of, fetched_words, counted_read, reads_after, listed_words}
 use Rattle.stm_formats.specs.FormatWords.{attempt_words, commit_word, commit_words, compared_words, compared_by, failed_word, at_words, txn_words, revoked_words, changed_words, ends_after, counted_end, lease_after, advanced_words, from_words, watched_words, watch_words, events_word, batch_words}
 use Rattle.stm_formats.specs.FormatWords.{lost_words, grant_words, asked_words, refused_words, reply_words, told_words, words_of}
@@ -201,10 +201,15 @@ known_without most h key mod_rev revision =
     (either_without (nat_lt revision h.opening.number) number kept (joined_without (codes "@" ∷ decimal mod_rev ∷ []) (refl, (decimal_without mod_rev, tt)))
     (state_without most (state_by h key revision)))
 
+lease_without : (lease : ℕ) → has 10 (lease_words lease) ≡ false
+lease_without lease =
+    either_without (nat_eq lease 0) [] (joined (codes " on lease " ∷ decimal lease ∷ [])) refl
+    (joined_without (codes " on lease " ∷ decimal lease ∷ []) (refl, (decimal_without lease, tt)))
+
 change_without : (cuts : Cuts) (e : Event) → has 10 (change_words cuts e) ≡ false
 change_without cuts (change.Put key state) =
-    joined_without (key_words cuts key ∷ codes " = \"" ∷ shown cuts.value state.value ∷ codes "\"" ∷ [])
-    (key_without cuts key, (refl, (shown_without cuts.value state.value, (refl, tt))))
+    joined_without (key_words cuts key ∷ codes " = \"" ∷ shown cuts.value state.value ∷ codes "\"" ∷ lease_words state.lease ∷ [])
+    (key_without cuts key, (refl, (shown_without cuts.value state.value, (refl, (lease_without state.lease, tt)))))
 change_without cuts (change.Delete key revision) = joined_without (key_words cuts key ∷ codes " deleted" ∷ []) (key_without cuts key, (refl, tt))
 
 between_without : (count : ℕ) → has 10 (between count) ≡ false

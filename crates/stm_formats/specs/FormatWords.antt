@@ -126,14 +126,14 @@ asked_words (event.Start program level limit) = codes "start"
 asked_words (event.Step runner) = codes "step"
 asked_words (event.Txn txn) = codes "txn"
 asked_words (event.Grant id ttl) = grant_words id ttl
-asked_words (event.Keep id) = codes "keep"
-asked_words (event.Revoke id) = codes "revoke"
-asked_words (event.Advance now) = codes "advance"
-asked_words (event.Compact revision) = codes "compact"
+asked_words (event.Keep id) = named_words (codes "keep") id
+asked_words (event.Revoke id) = named_words (codes "revoke") id
+asked_words (event.Advance now) = named_words (codes "advance to") now
+asked_words (event.Compact revision) = changed_words (codes "compact") revision
 asked_words (event.WatchKey key from) = codes "watch"
 asked_words (event.WatchRange first end from) = codes "watch"
-asked_words (event.Poll watcher most) = codes "poll"
-asked_words (event.Cancel watcher) = codes "cancel"
+asked_words (event.Poll watcher most) = named_words (codes "poll") watcher
+asked_words (event.Cancel watcher) = named_words (codes "cancel") watcher
 
 -- what stands before a lease that ended after that many
 abbrev pub lease_after : ℕ → List ℕ

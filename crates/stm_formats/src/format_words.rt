@@ -379,14 +379,14 @@ fn asked_words(alloc: Global, event: &WorldEvent) -> Result<Sequence<u8>, AllocE
         WorldEvent::Step { .. } => said(alloc, &[Piece::Say("step")]),
         WorldEvent::Txn { .. } => said(alloc, &[Piece::Say("txn")]),
         WorldEvent::Grant { id, ttl } => grant_words(alloc, *id, *ttl),
-        WorldEvent::Keep { .. } => said(alloc, &[Piece::Say("keep")]),
-        WorldEvent::Revoke { .. } => said(alloc, &[Piece::Say("revoke")]),
-        WorldEvent::Advance { .. } => said(alloc, &[Piece::Say("advance")]),
-        WorldEvent::Compact { .. } => said(alloc, &[Piece::Say("compact")]),
+        WorldEvent::Keep { id } => named(alloc, "keep", *id),
+        WorldEvent::Revoke { id } => named(alloc, "revoke", *id),
+        WorldEvent::Advance { now } => named(alloc, "advance to", *now),
+        WorldEvent::Compact { revision } => changed(alloc, "compact", *revision),
         WorldEvent::WatchKey { .. } => said(alloc, &[Piece::Say("watch")]),
         WorldEvent::WatchRange { .. } => said(alloc, &[Piece::Say("watch")]),
-        WorldEvent::Poll { .. } => said(alloc, &[Piece::Say("poll")]),
-        WorldEvent::Cancel { .. } => said(alloc, &[Piece::Say("cancel")]),
+        WorldEvent::Poll { watcher, .. } => named(alloc, "poll", *watcher),
+        WorldEvent::Cancel { watcher } => named(alloc, "cancel", *watcher),
     }
 }
 

@@ -303,6 +303,12 @@ grant_without id ttl =
 
 asked_without : (e : WorldEvent) → has 10 (asked_words e) ≡ false
 asked_without (event.Grant id ttl) = grant_without id ttl
+asked_without (event.Keep id) = named_without (codes "keep") id refl
+asked_without (event.Revoke id) = named_without (codes "revoke") id refl
+asked_without (event.Advance now) = named_without (codes "advance to") now refl
+asked_without (event.Compact revision) = compacted_without revision
+asked_without (event.Poll watcher most) = named_without (codes "poll") watcher refl
+asked_without (event.Cancel watcher) = named_without (codes "cancel") watcher refl
 asked_without _ = refl
 
 end_without : (count : ℕ) (lease : Expired) → has 10 (counted_end count lease) ≡ false

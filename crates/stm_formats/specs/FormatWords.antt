@@ -24,6 +24,7 @@ use Rattle.stm_formats.specs.FormatKeys.{key_words}
 use Rattle.stm_formats.specs.FormatPieces.{joined}
 use Rattle.stm_formats.specs.FormatLabels.{program_of}
 use Rattle.stm_formats.specs.FormatSource.{source_words, program_words, compare_words}
+use Rattle.stm_formats.specs.FormatOutput.{emitted_words}
 use Rattle.stm_formats.specs.FormatChanges.{known_words, between, changes_after, changed_since}
 
 -- a word and the number or the text that it is about
@@ -208,6 +209,7 @@ abbrev pub told_words : Cuts → List RunnerLabel → History → ℕ → WorldE
 told_words cuts labels h before event (Ok reply) = reply_words cuts labels h before event reply
 told_words cuts labels h before event (Err denied) = refused_words cuts.value event denied.cause
 
--- what a row says of an event before which the store was at a revision: of its reply, and what it changed
+-- what a row says of an event before which the store was at a revision: of its reply, what it changed, and what was emitted
 abbrev pub words_of : Cuts → List RunnerLabel → History → ℕ → WorldEvent → Result Reply Denied → List ℕ
-words_of cuts labels h before event reply = joined (told_words cuts labels h before event reply ∷ changed_since cuts h before (counter_after before reply) ∷ [])
+words_of cuts labels h before event reply =
+    joined (told_words cuts labels h before event reply ∷ changed_since cuts h before (counter_after before reply) ∷ emitted_words cuts.value reply ∷ [])

@@ -10,6 +10,7 @@ ghost use Rattle.stm_formats.specs.FormatWords.{lease_after, counted_end, ends_a
 use crate::format_changes::{MOST_CHANGES, between, changed_since, changes_words, known_words};
 use crate::format_keys::{Cuts, key_words};
 use crate::format_label::{RunnerLabel, program_of};
+use crate::format_output::emitted_words;
 use crate::format_pieces::{Piece, push_pieces, said};
 use crate::format_source::{compare_words, program_words, source_words};
 use std::alloc::{AllocError, Global};
@@ -675,8 +676,8 @@ fn told_words(
     }
 }
 
-/// What a row says of an event before which the store was at a revision: of its reply, and what it changed. The keys are those of the store since. It fails
-/// where a growth was refused.
+/// What a row says of an event before which the store was at a revision: of its reply, what it changed, and what was emitted. The keys are those of the
+/// store since. It fails where a growth was refused.
 pub(crate) fn words_of(
     alloc: Global,
     cuts: &Cuts,
@@ -690,8 +691,11 @@ pub(crate) fn words_of(
 {
     let told = told_words(alloc, cuts, labels, keys, before, event, reply)?;
     let changed = changed_since(alloc, cuts, keys, before, counter_after(before, reply))?;
-    said(
-        alloc,
-        &[Piece::Raw(told.as_slice()), Piece::Raw(changed.as_slice())],
-    )
+    let emitted = emitted_words(alloc, cuts.value, reply)?;
+    let pieces = [
+        Piece::Raw(told.as_slice()),
+        Piece::Raw(changed.as_slice()),
+        Piece::Raw(emitted.as_slice()),
+    ];
+    said(alloc, &pieces)
 }

@@ -1,9 +1,9 @@
 -- The words of a row have no line feed, and so each row is one line.
-use Rattle.std.proofs.Common.{◌≡◌, ℕ, zero, suc, pred, ◌+◌, ◌-◌, ◌/◌, ◌%◌, Bool, true, false, cond, ◌&&◌, ◌||◌, ◌==◌, List, [], ◌∷◌, ◌++◌, length}
+use Rattle.std.proofs.Common.{◌≡◌, ℕ, ℤ, pos, negsuc, zero, suc, pred, ◌+◌, ◌-◌, ◌/◌, ◌%◌, Bool, true, false, cond, ◌&&◌, ◌||◌, ◌==◌, List, [], ◌∷◌, ◌++◌, length}
 use Rattle.std.proofs.Common.{replicate, true≢false, sym}
 use Rattle.std.proofs.Common.{nat_eq, nat_lt, nat_le, Option, Some, None, codes, decimal, Result, Ok, Err, refl, ap, ◌∙◌, arith}
 use Rattle.std.proofs.lemmas.Bool.Decides.{nat_tests}
-use Rattle.std.specs.Fmt.{digits, digits_onto, digit_glyph}
+use Rattle.std.specs.Fmt.{digits, digits_onto, digit_glyph, signed_decimal}
 use Rattle.std.proofs.lemmas.Bool.{cond-false, or_from, or_parts}
 use Rattle.stm_program.specs.declared.level.Level.{Level}
 use Rattle.stm_program.specs.declared.level.Level.TheVariants.{SerializableSnapshot}
@@ -24,6 +24,8 @@ use Rattle.stm_events.specs.declared.refusal.EventRefusal.{EventRefusal}
 use Rattle.stm_events.specs.Names.{refusal_name}
 use Rattle.stm_meaning.specs.Faults.{fault_name}
 use Rattle.stm_program.specs.Syntax.{ProgramTree}
+use Rattle.stm_steps.specs.declared.value.Value.{Value}
+use Rattle.stm_steps.specs.declared.value.Value.TheVariants.{Text, Number}
 use Rattle.stm_formats.specs.declared.format_keys.Cuts.{Cuts}
 use Rattle.stm_formats.specs.declared.format_label.RunnerLabel.{RunnerLabel}
 use Rattle.stm_formats.specs.declared.format_changes.TheConstants.{MOST_CHANGES}
@@ -43,6 +45,7 @@ use Rattle.stm_formats.specs.FormatChanges.{state_words, known_words, lease_word
 use Rattle.stm_formats.specs.FormatWords.{named_words, reported_words, called_words, start_words, link, seen_words, as_of, fetched_words, counted_read, reads_after, listed_words}
 use Rattle.stm_formats.specs.FormatWords.{attempt_words, commit_word, commit_words, compared_words, compared_by, failed_word, at_words, txn_words, revoked_words, changed_words, ends_after, counted_end, lease_after, advanced_words, from_words, watched_words, watch_words, events_word, batch_words}
 use Rattle.stm_formats.specs.FormatWords.{lost_words, grant_words, asked_words, refused_words, reply_words, told_words, words_of}
+use Rattle.stm_formats.specs.FormatOutput.{value_words, value_after, counted_value, output_after, emitted_words}
 use Rattle.stm_formats.specs.FormatRows.{lane_of, row_of, rows_of}
 use Rattle.stm_formats.specs.FormatColumns.{column, place}
 use Rattle.stm_formats.specs.FormatText.{spaces, row_text, rows_text}
@@ -384,10 +387,34 @@ told_without : (cuts : Cuts) (labels : List RunnerLabel) (h : History) (before :
 told_without cuts labels h before e (Ok reply) = reply_without cuts labels h before e reply
 told_without cuts labels h before e (Err denied) = refused_without cuts.value e denied.cause
 
+signed_without : (z : ℤ) → has 10 (signed_decimal z) ≡ false
+signed_without (pos n) = decimal_without n
+signed_without (negsuc n) = or_from (nat_eq 45 10) (has 10 (decimal (suc n))) refl (decimal_without (suc n))
+
+value_without : (most : ℕ) (value : Value) → has 10 (value_words most value) ≡ false
+value_without most (Text text) = joined_without (codes "\"" ∷ shown most text ∷ codes "\"" ∷ []) (refl, (shown_without most text, (refl, tt)))
+value_without most (Number number) = signed_without number
+
+output_without : (most count : ℕ) (output : List Value) → has 10 (output_after most count output) ≡ false
+output_without most count [] = refl
+output_without most count (v ∷ vs) =
+    let first : List ℕ = joined (value_after count ∷ value_words most v ∷ []) in
+    let more : List ℕ = cond (nat_eq count MOST_CHANGES) (codes ", ..") [] in
+    has-append 10 (counted_value most count v) (output_after most (suc count) vs)
+    (either_without (nat_lt count MOST_CHANGES) first more
+    (joined_without (value_after count ∷ value_words most v ∷ [])
+    (either_without (nat_eq count 0) (codes "  emits ") (codes ", ") refl refl, (value_without most v, tt)))
+    (either_without (nat_eq count MOST_CHANGES) (codes ", ..") [] refl refl)) (output_without most (suc count) vs)
+
+emitted_without : (most : ℕ) (reply : Result Reply Denied) → has 10 (emitted_words most reply) ≡ false
+emitted_without most (Ok (Committed runner revision attempts output trace answers)) = output_without most 0 output
+emitted_without most (Ok _) = refl
+emitted_without most (Err denied) = refl
+
 words_without : (cuts : Cuts) (labels : List RunnerLabel) (h : History) (before : ℕ) (e : WorldEvent) (reply : Result Reply Denied) → has 10 (words_of cuts labels h before e reply) ≡ false
 words_without cuts labels h before e reply =
-    joined_without (told_words cuts labels h before e reply ∷ changed_since cuts h before (counter_after before reply) ∷ [])
-    (told_without cuts labels h before e reply, (changed_without cuts h before (counter_after before reply), tt))
+    joined_without (told_words cuts labels h before e reply ∷ changed_since cuts h before (counter_after before reply) ∷ emitted_words cuts.value reply ∷ [])
+    (told_without cuts labels h before e reply, (changed_without cuts h before (counter_after before reply), (emitted_without cuts.value reply, tt)))
 
 -- ---- a row
 

@@ -28,7 +28,6 @@ use Rattle.stm_steps.specs.declared.value.Value.{Value}
 use Rattle.stm_steps.specs.declared.value.Value.TheVariants.{Text, Number}
 use Rattle.stm_formats.specs.declared.format_keys.Cuts.{Cuts}
 use Rattle.stm_formats.specs.declared.format_label.RunnerLabel.{RunnerLabel}
-use Rattle.stm_formats.specs.declared.format_changes.TheConstants.{MOST_CHANGES}
 use Rattle.stm_formats.specs.FormatLabels.{program_of}
 use Rattle.stm_formats.specs.declared.format_row.Lane.{Lane}
 use Rattle.stm_formats.specs.declared.format_row.Lane.TheVariants.{Store, Runner}
@@ -219,16 +218,16 @@ between_without : (count : ℕ) → has 10 (between count) ≡ false
 between_without count = either_without (nat_eq count 0) (codes "  ") (codes ", ") refl refl
 
 -- one of the first few, or that there are more
-few_without : (few last : Bool) (count : ℕ) (words : List ℕ) → has 10 words ≡ false
-    → has 10 (cond few (joined (between count ∷ words ∷ [])) (cond last (codes ", ..") [])) ≡ false
-few_without few last count words none =
-    either_without few (joined (between count ∷ words ∷ [])) (cond last (codes ", ..") [])
-    (joined_without (between count ∷ words ∷ []) (between_without count, (none, tt))) (either_without last (codes ", ..") [] refl refl)
+few_without : (few last : Bool) (words : List ℕ) → has 10 words ≡ false → has 10 (cond few words (cond last (codes ", ..") [])) ≡ false
+few_without few last words none = either_without few words (cond last (codes ", ..") []) none (either_without last (codes ", ..") [] refl refl)
+
+behind_without : (count : ℕ) (words : List ℕ) → has 10 words ≡ false → has 10 (joined (between count ∷ words ∷ [])) ≡ false
+behind_without count words none = joined_without (between count ∷ words ∷ []) (between_without count, (none, tt))
 
 changes_without : (cuts : Cuts) (count : ℕ) (events : List Event) → has 10 (changes_after cuts count events) ≡ false
 changes_without cuts count [] = refl
 changes_without cuts count (e ∷ es) =
-    has-append 10 (counted_change cuts count e) (changes_after cuts (suc count) es) (few_without _ _ count (change_words cuts e) (change_without cuts e)) (changes_without cuts (suc count) es)
+    has-append 10 (counted_change cuts count e) (changes_after cuts (suc count) es) (few_without _ _ (joined (between count ∷ change_words cuts e ∷ [])) (behind_without count (change_words cuts e) (change_without cuts e))) (changes_without cuts (suc count) es)
 
 revision_without : (cuts : Cuts) (h : History) (revision : ℕ) → has 10 (revision_words cuts h revision) ≡ false
 revision_without cuts h revision =
@@ -268,7 +267,8 @@ reads_without : (cuts : Cuts) (h : History) (revision count : ℕ) (reads : List
 reads_without cuts h revision count [] = refl
 reads_without cuts h revision count (r ∷ rs) =
     has-append 10 (counted_read cuts h revision count r) (reads_after cuts h revision (suc count) rs)
-    (few_without _ _ count (seen_words cuts h r.key r.mod_rev revision) (seen_without cuts h r.key r.mod_rev revision)) (reads_without cuts h revision (suc count) rs)
+    (few_without _ _ (joined (between count ∷ seen_words cuts h r.key r.mod_rev revision ∷ []))
+    (behind_without count (seen_words cuts h r.key r.mod_rev revision) (seen_without cuts h r.key r.mod_rev revision))) (reads_without cuts h revision (suc count) rs)
 
 listed_without : (cuts : Cuts) (h : History) (revision : ℕ) (reads : List KeyRead) → has 10 (listed_words cuts h revision reads) ≡ false
 listed_without cuts h revision reads =
@@ -316,12 +316,10 @@ asked_without _ = refl
 
 end_without : (count : ℕ) (lease : Expired) → has 10 (counted_end count lease) ≡ false
 end_without count lease =
-    let ended : List ℕ = joined (lease_after count ∷ decimal lease.id ∷ codes " ended @" ∷ decimal lease.revision ∷ []) in
-    either_without (nat_lt count MOST_CHANGES) ended (cond (nat_eq count MOST_CHANGES) (codes ", ..") [])
-    (joined_without (lease_after count ∷ decimal lease.id ∷ codes " ended @" ∷ decimal lease.revision ∷ []) (
-      either_without (nat_eq count 0) (codes ": lease ") (codes ", lease ") refl refl,
-      (decimal_without lease.id, (refl, (decimal_without lease.revision, tt))),
-    )) (either_without (nat_eq count MOST_CHANGES) (codes ", ..") [] refl refl)
+    let word : has 10 (lease_after count) ≡ false = either_without (nat_eq count 0) (codes ": lease ") (codes ", lease ") refl refl in
+    few_without _ _ (joined (lease_after count ∷ decimal lease.id ∷ codes " ended @" ∷ decimal lease.revision ∷ []))
+    (joined_without (lease_after count ∷ decimal lease.id ∷ codes " ended @" ∷ decimal lease.revision ∷ [])
+    (word, (decimal_without lease.id, (refl, (decimal_without lease.revision, tt)))))
 
 ends_without : (count : ℕ) (expired : List Expired) → has 10 (ends_after count expired) ≡ false
 ends_without count [] = refl
@@ -398,13 +396,10 @@ value_without most (Number number) = signed_without number
 output_without : (most count : ℕ) (output : List Value) → has 10 (output_after most count output) ≡ false
 output_without most count [] = refl
 output_without most count (v ∷ vs) =
-    let first : List ℕ = joined (value_after count ∷ value_words most v ∷ []) in
-    let more : List ℕ = cond (nat_eq count MOST_CHANGES) (codes ", ..") [] in
+    let word : has 10 (value_after count) ≡ false = either_without (nat_eq count 0) (codes "  emits ") (codes ", ") refl refl in
     has-append 10 (counted_value most count v) (output_after most (suc count) vs)
-    (either_without (nat_lt count MOST_CHANGES) first more
-    (joined_without (value_after count ∷ value_words most v ∷ [])
-    (either_without (nat_eq count 0) (codes "  emits ") (codes ", ") refl refl, (value_without most v, tt)))
-    (either_without (nat_eq count MOST_CHANGES) (codes ", ..") [] refl refl)) (output_without most (suc count) vs)
+    (few_without _ _ (joined (value_after count ∷ value_words most v ∷ []))
+    (joined_without (value_after count ∷ value_words most v ∷ []) (word, (value_without most v, tt)))) (output_without most (suc count) vs)
 
 emitted_without : (most : ℕ) (reply : Result Reply Denied) → has 10 (emitted_words most reply) ≡ false
 emitted_without most (Ok (Committed runner revision attempts output trace answers)) = output_without most 0 output

@@ -211,7 +211,7 @@ fn known_from(opening: &Option<Checkpoint>) -> u64
 /// Audits a trace; none where no store can be as it says that its own was (`can_restore`): its keys do not ascend, or a revision is above the store's.
 ///
 /// A read has to say what its key was at the revision that it is of. At a level that compares the keys read, each of
-/// these has to be at the commit as it was read; at `SerializableSnapshot` no key that is written may have been put after the revision of the first read. What
+/// these has to be at the commit as it was read; at `SerializableSnapshot` no key that is written may have been put above the least revision that a read is of. What
 /// breaks one of these is a broken promise; a read whose key has been changed is a finding at ReadCommitted, too. Of a commit the first of these is found.
 ///
 /// It takes a step for each read and each write, and for each of these a search by halves in its key's revisions. It fails only where an allocation does.

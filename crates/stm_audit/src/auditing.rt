@@ -132,7 +132,7 @@ fn any_is_put(writes: &[Write]) -> bool
 }
 
 /// Whether the last write of a key does.
-fn leaves_a_key(alloc: Global, writes: &[Write]) -> Result<bool, AllocError>
+pub(crate) fn leaves_a_key(alloc: Global, writes: &[Write]) -> Result<bool, AllocError>
     ensures { IfOk result (λ b. b ≡ list_any is_put (latest_writes writes.now)) }
 {
     let latest = latest_writes(alloc, writes)?;

@@ -41,7 +41,7 @@ is_untrue h known a = not (is_so h known a)
 abbrev pub is_stale : History → CommittedRead → Bool
 is_stale h a = not (nat_eq a.mod_rev (mod_of (key_now h a.key)))
 
--- the first revision after the read that changed its key
+-- the first revision after the read that is known to have changed its key: a change before the opening is not
 abbrev pub changed_at : History → CommittedRead → Option ℕ
 changed_at h a = next_change h a.key a.of_rev
 

@@ -96,7 +96,7 @@ pub(crate) fn find_stale<'a>(keys: &Keys, reads: &'a [CommittedRead]) -> Option<
     reads.iter().find(|read| is_stale(keys, read))
 }
 
-/// The first revision after a read that changed its key.
+/// The first revision after a read that is known to have changed its key: a change before the opening is not.
 pub(crate) fn changed_at(keys: &Keys, read: &CommittedRead) -> Option<u64>
     ensures { result ≡ changed_at keys.now.history read.now }
 {

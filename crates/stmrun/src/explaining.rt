@@ -4,7 +4,7 @@ ghost use Rattle.std.specs.Prelude.{◌≡◌, false};
 use crate::files::{Opened, open};
 use crate::naming::RUNNERS;
 use crate::noting::Noting;
-use crate::sources::{ENDING, Given, JsonFile, begins_source, say_ended};
+use crate::sources::{ENDING, Given, JsonFile, begins_source, say_ended, say_leases};
 use std::io;
 use std::io::{Input, Write};
 use std::rt::Files;
@@ -142,6 +142,7 @@ pub(crate) fn run_script(
     let mut err = Std::new(said);
     let status = script_on(rt, &given.scenario, format, labels, explain, &mut err);
     say_still(rt, given);
+    say_leases(rt, given, RUNNERS);
     say_ended(rt, given, RUNNERS, status, &err)
 }
 

@@ -25,7 +25,7 @@ it comes to its last statement the schedule keeps the rule; where it aborts, or 
                            a broken rule that they find need not be the first, nor the shortest
   [\"broken\",LENGTH,END]    this is the first that does not, with [\"aborted\",TEXT] or [\"faulted\",FAULT], and the next line
                            is the scenario with its steps in it, which stmrun script takes
-  [\"open\",LENGTH]          N events were taken before that was decided; every schedule of up to LENGTH moves keeps it
+  [\"open\",LENGTH]          N moves were made before that was decided; every schedule of up to LENGTH moves keeps it
 
 PROGRAM is a file of JSON, or a source: FILE.stm for each rule in it, FILE.stm:NAME for one of them, or for a program of it
 without parameters. A SCENARIO that is a source asks its own rules where no --keeps is said, and its runners wait as its after
@@ -68,7 +68,7 @@ nothing, and counts as one that never began.
   [\"anomaly\",LENGTH,STATE,ENDS]
                            this one is not, and the next line is the scenario with a schedule of LENGTH moves that
                            comes to it
-  [\"open\",LENGTH]          N events were taken before that was decided
+  [\"open\",LENGTH]          N moves were made before that was decided
 
 With --level all there is a line for each level, the weakest first, without the scenario, and then [\"enough\",LEVEL]. With
 --witness and --serial a source's rules are not asked.
@@ -92,7 +92,7 @@ pub struct ExploreWords<'a> {
     pub keeps: Vec<&'a str>,
     /// At which levels the starts are taken.
     pub levels: Levels,
-    /// At most this many events are taken.
+    /// At most this many moves are made.
     pub budget: u64,
     /// Which runners wait for which others, as it is spelled.
     pub after: Option<&'a str>,
@@ -130,7 +130,7 @@ const EXPLORE: Table = Table {
         (
             "budget",
             Form::Value("N", ValueParser::Unsigned(0, u64::MAX)),
-            "How many events are taken at most, 1500000 if not said",
+            "How many moves are made at most, 1500000 if not said",
         ),
         (
             "after",

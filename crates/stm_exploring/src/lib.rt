@@ -7,6 +7,7 @@
 
 mod aborting;
 mod accounts;
+mod advice;
 mod asked_keys;
 mod asking;
 mod audience;

@@ -75,7 +75,7 @@ With --level all there is a line for each level, the weakest first, without the 
 
 Where SCENARIO is a source, a source stands in the place of each scenario that is printed. With --format text a table does, as
 script --format text prints it, by --width N for a terminal of N characters, and the lines are words; with --level all and a rule, a
-last one is the table of the weakest level at which a rule is broken.
+last one is the table of the weakest level at which a rule is broken, or, where none is enough, of the strongest.
 
 Statuses: 0 always, serial, or all outcomes were found, 1 broken or an anomaly, 2 bad input or usage, 3 out of memory or a
 failed device, 4 open.";

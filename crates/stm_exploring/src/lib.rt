@@ -41,6 +41,7 @@ mod reading;
 mod refused;
 mod replaying;
 mod rules;
+mod run_texts;
 mod schedule_lines;
 mod searching;
 mod seen_ends;

@@ -147,10 +147,11 @@ impl<W: Write, C: Clock> ProgressNotes<'_, W, C> {
         }
     }
 
-    /// Writes how far the search came, where there was a line before: so many moves are left.
+    /// Writes how far the search came, where there was a line before: so many moves are left, or as few as it was notified of,
+    /// at the last of several levels.
     pub fn close(&mut self, left: u64) {
         if self.pauses > 0 {
-            self.left = left;
+            self.left = self.left.min(left);
             let seconds = self.seconds();
             self.write("ended: ", seconds);
         }

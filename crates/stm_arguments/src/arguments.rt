@@ -101,7 +101,7 @@ A store that lasts stands in a file: script, threads and run go on from it with 
 prints what it has (stmrun store --help).
 
 Statuses: 0 done or yes, 1 no, 2 bad input or usage, 3 out of memory, a failed device, or a run of threads
-that was broken off; of explore also 1 for a rule that is broken, and 4 where all its events were taken.";
+that was broken off; of explore also 1 for a rule that is broken, and 4 where all its moves were made.";
 
 /// The command without its subcommands.
 fn bare_command<'a>(alloc: Global) -> Command<'a> {

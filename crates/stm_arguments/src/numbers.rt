@@ -11,7 +11,7 @@ pub const MOST_WORKERS: usize = 16;
 /// How many runs may be made, at most.
 pub const MOST_RUNS: u64 = 1000000;
 
-/// At most this many events are taken, where no number is named.
+/// At most this many moves are made, where no number is named.
 pub const USUAL_BUDGET: u64 = 1500000;
 
 /// How many commits a run may send, at most.
@@ -87,7 +87,7 @@ pub(crate) fn width_at(word: Option<&str>) -> Result<Option<u32>, Unasked>
     }
 }
 
-/// How many events are taken at most: the number that a word spells, or `USUAL_BUDGET`.
+/// How many moves are made at most: the number that a word spells, or `USUAL_BUDGET`.
 pub(crate) fn budget_at(word: Option<&str>) -> Result<u64, Unasked>
     ensures budget { IfOk result (BudgetAt (option_map (λ t. t.now) word.entry)) }
     ensures none { IfErr result (λ _. IfSome word.entry (λ t. IsUnsignedIn 0 18446744073709551615 t.now) → ⊥) }

@@ -15,7 +15,7 @@ use stm_commands::{
 use stm_explain::is_hidden;
 
 /// With this begins a start, and in JSON no text has it.
-const START: &str = "[\"start\",";
+pub(crate) const START: &str = "[\"start\",";
 
 /// The same of a step.
 const STEP: &str = "[\"step\",";

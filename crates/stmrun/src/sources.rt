@@ -33,6 +33,9 @@ const STANDARD: &str = "-";
 /// What stands before what a command has to say, also where it explains nothing.
 const OWN: &str = "stmrun: ";
 
+/// The line of a scenario without events.
+const NO_EVENTS: &str = "[]";
+
 /// What is read as JSON.
 #[derive(Drop)]
 pub(crate) enum JsonFile<'a> {
@@ -455,7 +458,18 @@ fn say_left_out(rt: &HostRuntime, given: &Given<'_>) -> Result<(), u8> {
     }
 }
 
-/// The scenario of a path alone: it is said which rules of its source are not asked, and which runners do not wait. Else all is as with `source_at`.
+/// Says of the source of a path that it has no events, if it has none.
+fn say_empty(rt: &HostRuntime, path: &str, given: &Given<'_>) {
+    if let JsonFile::Compiled(line, _) = &given.scenario {
+        if line.as_str().trim() == NO_EVENTS {
+            let name = name_of(path);
+            let _ = eprintln!(rt; "stmrun: {name} has no events");
+        }
+    }
+}
+
+/// The scenario of a path alone: it is said which rules of its source are not asked, which runners do not wait, and that it has no events, where that is so.
+/// Else all is as with `source_at`.
 pub(crate) fn given_at<'a>(
     rt: &HostRuntime,
     path: &'a str,
@@ -463,6 +477,7 @@ pub(crate) fn given_at<'a>(
 ) -> Result<Given<'a>, u8> {
     let given = source_at(rt, path, explain)?;
     say_left_out(rt, &given)?;
+    say_empty(rt, path, &given);
     Ok(given)
 }
 

@@ -1,12 +1,11 @@
 -- A step from a world with what can be seen of its attempts.
-use Rattle.std.proofs.Common.{◌≡◌, ℕ, ◌+◌, ◌-◌, Bool, true, false, cond, List, [], ◌∷◌, ◌++◌, length, map, Option, Some, None, option_map, Result, Ok, Err}
-use Rattle.std.proofs.Common.{refl, sym, ◌∙◌, ap, subst}
+use Rattle.std.proofs.Common.{◌≡◌, ℕ, Bool, cond, List, [], ◌∷◌, ◌++◌, length, map, Option, Some, None, option_map, Result, Ok, Err}
+use Rattle.std.proofs.Common.{refl, sym, ◌∙◌, ap, subst, arith}
 use Rattle.std.proofs.lemmas.List.{map-set, length-map}
 use Rattle.std.proofs.lemmas.Option.{slice_get-map}
-use Rattle.std.specs.Prelude.{nat_lt, nat_eq, slice_get, slice_set}
+use Rattle.std.specs.Prelude.{nat_lt}
+use Rattle.std.proofs.lemmas.Bool.Decides.{nat_tests}
 use Rattle.stm_history.specs.declared.key_state.ReadAnswer.{ReadAnswer}
-use Rattle.stm_history.specs.History.{now}
-use Rattle.stm_program.specs.Writes.{latest_writes}
 use Rattle.stm_steps.specs.declared.run.End.{End}
 use Rattle.stm_steps.specs.declared.run.End.TheVariants.{Done as DoneEnd, Aborted as AbortedEnd, Faulted as FaultedEnd}
 use Rattle.stm_steps.specs.declared.run.Run.{Run}
@@ -17,25 +16,20 @@ use Rattle.stm_outcome.specs.declared.refusal.Refusal.{Refusal as StoreRefusal}
 use Rattle.stm_outcome.specs.Outcome.{Done}
 use Rattle.stm_outcome.specs.Commits.{revision_read}
 use Rattle.stm_outcome.specs.Terms.{is_below_floor}
-use Rattle.stm_txn.specs.Standing.{Standing, terms_of, with_history}
-use Rattle.stm_compile.specs.Answers.{answer_now}
-use Rattle.stm_compile.specs.Committed.{committed, conflict_now}
-use Rattle.stm_compile.specs.Conflicts.{Seen, seen_by, seen_in}
+use Rattle.stm_txn.specs.Standing.{Standing, terms_of}
+use Rattle.stm_compile.specs.Committed.{committed}
 use Rattle.stm_attempt.specs.Known.{known_of}
 use Rattle.stm_attempt.specs.Settled.{run_on}
-use Rattle.stm_attempt.specs.Entering.{is_due, gone_on}
+use Rattle.stm_attempt.specs.Entering.{is_due}
 use Rattle.stm_attempt.specs.Fetches.{at_of}
 use Rattle.stm_events.specs.declared.event.WorldEvent.{WorldEvent}
 use Rattle.stm_events.specs.declared.event.WorldEvent.TheVariants.{Start, Step}
 use Rattle.stm_events.specs.declared.reply.Reply.{Reply}
-use Rattle.stm_events.specs.declared.reply.Reply.TheVariants.{Started, Committed, Conflict, GaveUp}
-use Rattle.stm_events.specs.declared.reply.CommittedRead.{CommittedRead}
-use Rattle.stm_events.specs.declared.refusal.Denied.{Denied}
 use Rattle.stm_world.specs.Task.{Task, answer_at}
-use Rattle.stm_world.specs.World.{World, Runner, Slot, Over, Live, Stepped, live_in, runner_at, with_slot, begin, start_runner, replied, fetch, fetch_at, fetch_list, decided}
+use Rattle.stm_world.specs.World.{World, Runner, Slot, Over, Live, Stepped, runner_at, with_slot, start_runner, replied, fetch, fetch_at, fetch_list, decided}
 use Rattle.stm_world.specs.World.{commit_reported, commit, finish, step_on, step_live, step_runner, step}
 use Rattle.stm_world.proofs.CommitCases.{fails}
-use Rattle.stm_alike.specs.Levelled.{reported_of, reads_seen}
+use Rattle.stm_alike.specs.Levelled.{reads_seen}
 use Rattle.stm_alike.specs.Seen.{seen_runner, seen_slot, seen_reply}
 use Rattle.stm_alike.proofs.SeenAttempts.{seen_again, seen_more, seen_run, seen_due, seen_at, seen_reread, seen_commit, seen_conflict, seen_kept}
 
@@ -46,9 +40,7 @@ levelled_world w = record { standing = w.standing; runners = map seen_slot w.run
 -- ---- places of runners
 
 slot_again : (slot : Slot) → seen_slot (seen_slot slot) ≡ seen_slot slot
-slot_again Over = refl
-slot_again (Live r) =
-    ap (λ reads. Live (record { task = r.task; failures = r.failures; known = known_of reads r.known.prefetched })) (seen_again r.task.level r.known.prefetched r.known.reads)
+slot_again slot = grind (arith, nat_tests, seen_again)
 
 pub slots_again : (slots : List Slot) → map seen_slot (map seen_slot slots) ≡ map seen_slot slots
 slots_again [] = refl
@@ -56,23 +48,10 @@ slots_again (slot ∷ slots) = ap (λ s. s ∷ map seen_slot (map seen_slot slot
 
 both_put : (id : ℕ) (one other : Slot) (slots : List Slot) → seen_slot one ≡ seen_slot other →
     map seen_slot (with_slot id one (map seen_slot slots)) ≡ map seen_slot (with_slot id other slots)
-both_put id one other slots same =
-    map-set seen_slot (map seen_slot slots) (id - 1) one
-    ∙ ap (λ ss. slice_set ss (id - 1) (seen_slot one)) (slots_again slots)
-    ∙ ap (slice_set (map seen_slot slots) (id - 1)) same
-    ∙ sym (map-set seen_slot slots (id - 1) other)
-
-live_seen : (o : Option Slot) → live_in (option_map seen_slot o) ≡ option_map seen_runner (live_in o)
-live_seen None = refl
-live_seen (Some Over) = refl
-live_seen (Some (Live r)) = refl
+both_put id one other slots same = grind (arith, nat_tests, map-set, slots_again)
 
 pub runner_seen : (id : ℕ) (slots : List Slot) → runner_at id (map seen_slot slots) ≡ option_map seen_runner (runner_at id slots)
-runner_seen id slots = by_zero (nat_eq id 0)
-  where
-    by_zero : (b : Bool) → cond b None (live_in (slice_get (map seen_slot slots) (id - 1))) ≡ option_map seen_runner (cond b None (live_in (slice_get slots (id - 1))))
-    by_zero true = refl
-    by_zero false = ap live_in (slice_get-map seen_slot slots (id - 1)) ∙ live_seen (slice_get slots (id - 1))
+runner_seen id slots = grind (arith, nat_tests, slice_get-map)
 
 -- ---- what comes of a step
 
@@ -84,15 +63,11 @@ in_store : (s : Standing) (one other : List Slot) → one ≡ other → (let it 
 in_store s one other same = ap (λ slots. let it : World = record { standing = s; runners = slots; entries = [] } in it) same
 
 by_test : (b : Bool) (x1 y1 x2 y2 : Stepped) → Same x1 x2 → Same y1 y2 → Same (cond b x1 y1) (cond b x2 y2)
-by_test true x1 y1 x2 y2 first second = first
-by_test false x1 y1 x2 y2 first second = second
+by_test b x1 y1 x2 y2 first second = grind (arith, nat_tests)
 
 replied_same : (reply1 reply2 : Reply) (id : ℕ) (slot1 slot2 : Slot) (w : World) → reply1 ≡ reply2 → seen_slot slot1 ≡ seen_slot slot2 →
     Same (replied reply1 id slot1 (levelled_world w)) (replied reply2 id slot2 w)
-replied_same reply1 reply2 id slot1 slot2 w reply slot = record {
-  reply = ap (λ r. let it : Result Reply Denied = seen_reply (Ok r) in it) reply;
-  next = in_store w.standing _ _ (both_put id slot1 slot2 w.runners slot);
-}
+replied_same reply1 reply2 id slot1 slot2 w reply slot = grind (arith, nat_tests, in_store, both_put)
 
 fetch_same : (id : ℕ) (r : Runner) (key : List ℕ) (of_rev : ℕ) (w : World) → Same (fetch id (seen_runner r) key of_rev (levelled_world w)) (fetch id r key of_rev w)
 unfolding fetch
@@ -115,29 +90,7 @@ seen_reads r = reads_seen r.task.level r.known.prefetched r.known.reads
 decided_same : (id : ℕ) (r : Runner) (run : Run) (done : Done) (o : Option FailedCompare) (w : World) →
     committed (terms_of w.standing) r.task.level r.known.reads run ≡ Ok done → done.answer.failed ≡ o →
     Same (decided id (seen_runner r) (seen_reads r) run done o (levelled_world w)) (decided id r r.known.reads run done o w)
-decided_same id r run done None w is found = record {
-  reply = ap (λ (reads : List CommittedRead). let it : Result Reply Denied = Ok (Committed id (now done.history) (r.failures + 1) run.output run.trace reads) in it)
-      (seen_kept r.task.level r.known.prefetched r.known.reads);
-  next = in_store (with_history w.standing done.history) _ _ (both_put id Over Over w.runners refl);
-}
-decided_same id r run done (Some failed) w is found =
-    let conflict : conflict_now w.standing.history r.task.level r.known.reads (latest_writes run.writes) ≡ Some failed =
-    (fails (terms_of w.standing) r.task.level r.known.reads run failed done is found).conflict in
-    let seen : reported_of (seen_in (slice_get (seen_by (seen_reads r) (latest_writes run.writes)) failed.index))
-    ≡ reported_of (seen_in (slice_get (seen_by r.known.reads (latest_writes run.writes)) failed.index)) =
-    seen_conflict w.standing.history r.task.level r.known.prefetched r.known.reads (latest_writes run.writes) failed conflict in
-    by_test (nat_lt (r.failures + 1) r.task.limit) _ _ _ _
-    (replied_same _ _ id _ _ w (ap (λ (s : Seen). Conflict id s.key s.mod_rev failed.mod_rev) seen)
-    (ap (λ keys. Live (seen_runner (record {
-      task = r.task;
-      failures = r.failures + 1;
-      known = record {
-        reads = gone_on r.task.program (known_of [] (map (answer_now w.standing.history) keys));
-        prefetched = map (answer_now w.standing.history) keys;
-      };
-    })))
-    (seen_reread r.task.level r.known.prefetched r.known.reads)))
-    (replied_same _ _ id Over Over w (ap (λ (s : Seen). GaveUp id (r.failures + 1) s.key s.mod_rev failed.mod_rev) seen) refl)
+decided_same id r run done o w is found = grind (arith, nat_tests, seen_kept, in_store, both_put, fails, seen_conflict, by_test, replied_same, seen_reread)
 
 reported_same : (id : ℕ) (r : Runner) (run : Run) (o : Result Done StoreRefusal) (w : World) → committed (terms_of w.standing) r.task.level r.known.reads run ≡ o →
     Same (commit_reported id (seen_runner r) (seen_reads r) run o (levelled_world w)) (commit_reported id r r.known.reads run o w)
@@ -194,17 +147,11 @@ step_same id w =
 
 more_slots : (slots : List Slot) (slot : Slot) → map seen_slot (map seen_slot slots ++ slot ∷ []) ≡ map seen_slot (slots ++ slot ∷ [])
 more_slots [] slot = refl
-more_slots (s ∷ slots) slot =
-    ap (λ x. x ∷ map seen_slot (map seen_slot slots ++ slot ∷ [])) (slot_again s) ∙ ap (λ rest. seen_slot s ∷ rest) (more_slots slots slot)
+more_slots (s ∷ slots) slot = grind (arith, nat_tests, slot_again, more_slots slots slot)
 
 started_same : (task : Task) (w : World) → Same (start_runner task (levelled_world w)) (start_runner task w)
 unfolding start_runner
-started_same task w = by_test (nat_eq task.limit 0) _ _ _ _
-    (record { reply = refl; next = world_again w })
-    (record {
-      reply = ap (λ n. let it : Result Reply Denied = Ok (Started (n + 1)) in it) (length-map w.runners seen_slot);
-      next = in_store w.standing _ _ (more_slots w.runners (Live (begin task)));
-    })
+started_same task w = grind (arith, nat_tests, by_test, world_again, length-map, in_store, more_slots)
 
 pub next_levelled : (event : WorldEvent) (w : World) → levelled_world (step event (levelled_world w)).next ≡ levelled_world (step event w).next
 next_levelled (Start program level limit) w = (started_same (record { program = program; level = level; limit = limit }) w).next
@@ -212,6 +159,4 @@ next_levelled (Step id) w = (step_same id w).next
 next_levelled _ w = in_store _ _ _ (slots_again w.runners)
 
 pub told_levelled : (event : WorldEvent) (w : World) → seen_reply (step event (levelled_world w)).reply ≡ seen_reply (step event w).reply
-told_levelled (Start program level limit) w = (started_same (record { program = program; level = level; limit = limit }) w).reply
-told_levelled (Step id) w = (step_same id w).reply
-told_levelled _ w = refl
+told_levelled event w = grind (arith, nat_tests, started_same, step_same)

@@ -1,5 +1,6 @@
 -- What can be seen of the answers of an attempt at its level: what the attempt does is the same.
-use Rattle.std.proofs.Common.{◌≡◌, ℕ, Bool, false, List, [], ◌∷◌, ◌++◌, map, Some, slice_get, refl, sym, ◌∙◌, ap}
+use Rattle.std.proofs.Common.{◌≡◌, ℕ, false, List, [], ◌∷◌, ◌++◌, map, Some, slice_get, refl, ap, arith}
+use Rattle.std.proofs.lemmas.Bool.Decides.{nat_tests}
 use Rattle.stm_history.specs.declared.key_state.ReadAnswer.{ReadAnswer}
 use Rattle.stm_history.specs.declared.change.Change.{Change}
 use Rattle.stm_history.specs.History.{History}
@@ -27,27 +28,11 @@ use Rattle.stm_alike.proofs.Undating.{undated_map, gone_alone, undated_attempts_
 -- what holds of answers that are levelled, and, where each key is read as it is now, of undated ones, holds of what can be seen of them
 by_seen : (P : List ReadAnswer → Type 0) (level : Level) (prefetched reads : List ReadAnswer) → P (levelled reads) →
     (is_serializable level ≡ false → P (map undated reads)) → P (reads_seen level prefetched reads)
-by_seen P SerializableSnapshot prefetched reads level undate = level
-by_seen P Serializable prefetched reads level undate = level
-by_seen P RepeatableReads [] reads level undate = undate refl
-by_seen P RepeatableReads (a ∷ prefetched) reads level undate = level
-by_seen P ReadCommitted [] reads level undate = undate refl
-by_seen P ReadCommitted (a ∷ prefetched) reads level undate = level
+by_seen P level prefetched reads h5 undate = grind (arith, nat_tests)
 
 -- answers that are levelled alike are seen alike
 pub seen_level : (level : Level) (prefetched r q : List ReadAnswer) → levelled r ≡ levelled q → reads_seen level prefetched r ≡ reads_seen level prefetched q
-seen_level level prefetched r q same = by_level level prefetched
-  where
-    undate : map undated r ≡ map undated q
-    undate = sym (mapped_same undated r (λ n a. refl)) ∙ ap (map undated) same ∙ mapped_same undated q (λ n a. refl)
-
-    by_level : (l : Level) (p : List ReadAnswer) → reads_seen l p r ≡ reads_seen l p q
-    by_level SerializableSnapshot p = same
-    by_level Serializable p = same
-    by_level RepeatableReads [] = undate
-    by_level RepeatableReads (a ∷ p) = same
-    by_level ReadCommitted [] = undate
-    by_level ReadCommitted (a ∷ p) = same
+seen_level level prefetched r q same = grind (arith, nat_tests, mapped_same)
 
 pub seen_again : (level : Level) (prefetched reads : List ReadAnswer) →
     reads_seen level prefetched (reads_seen level prefetched reads) ≡ reads_seen level prefetched reads
@@ -61,12 +46,7 @@ seen_again ReadCommitted (a ∷ prefetched) reads = levelled_again reads
 -- attempts that are seen alike are seen alike once they went on
 pub seen_gone : (level : Level) (program : ProgramTree) (prefetched r q : List ReadAnswer) → reads_seen level prefetched r ≡ reads_seen level prefetched q →
     reads_seen level prefetched (gone_on program (known_of r prefetched)) ≡ reads_seen level prefetched (gone_on program (known_of q prefetched))
-seen_gone SerializableSnapshot program prefetched r q same = both_gone_on program prefetched r q same
-seen_gone Serializable program prefetched r q same = both_gone_on program prefetched r q same
-seen_gone RepeatableReads program [] r q same = ap (map undated) (gone_alone program r) ∙ same ∙ sym (ap (map undated) (gone_alone program q))
-seen_gone RepeatableReads program (a ∷ prefetched) r q same = both_gone_on program (a ∷ prefetched) r q same
-seen_gone ReadCommitted program [] r q same = ap (map undated) (gone_alone program r) ∙ same ∙ sym (ap (map undated) (gone_alone program q))
-seen_gone ReadCommitted program (a ∷ prefetched) r q same = both_gone_on program (a ∷ prefetched) r q same
+seen_gone level program prefetched r q same = grind (arith, nat_tests, both_gone_on, gone_alone)
 
 pub seen_more : (level : Level) (program : ProgramTree) (prefetched reads : List ReadAnswer) (a : ReadAnswer) →
     reads_seen level prefetched (gone_on program (known_of (reads_seen level prefetched reads ++ a ∷ []) prefetched))
@@ -83,22 +63,13 @@ seen_run level program prefetched reads =
     by_seen (λ xs. run_on program xs ≡ run_on program reads) level prefetched reads (same_run program reads) (λ now. undated_attempts_are_same.run program reads)
 
 pub seen_due : (level : Level) (keys : List (List ℕ)) (prefetched reads : List ReadAnswer) → is_due keys (reads_seen level prefetched reads) ≡ is_due keys reads
-seen_due level keys prefetched reads =
-    by_seen (λ xs. is_due keys xs ≡ is_due keys reads) level prefetched reads (same_due keys reads) (λ now. undated_attempts_are_same.due keys reads)
+seen_due level keys prefetched reads = grind (arith, nat_tests, by_seen, same_due)
 
 pub seen_at : (level : Level) (prefetched reads : List ReadAnswer) → at_of level (reads_seen level prefetched reads) ≡ at_of level reads
-seen_at level prefetched reads =
-    by_seen (λ xs. at_of level xs ≡ at_of level reads) level prefetched reads (same_at level reads) (λ now. undated_attempts_are_same.at level reads now)
+seen_at level prefetched reads = grind (arith, nat_tests, by_seen, same_at)
 
 pub seen_reread : (level : Level) (prefetched reads : List ReadAnswer) → reread_keys level (reads_seen level prefetched reads) ≡ reread_keys level reads
-seen_reread level prefetched reads =
-    by_seen (λ xs. reread_keys level xs ≡ reread_keys level reads) level prefetched reads (same_reread level reads) (undated_reread level)
-  where
-    undated_reread : (l : Level) → is_serializable l ≡ false → reread_keys l (map undated reads) ≡ reread_keys l reads
-    undated_reread SerializableSnapshot now = undated_map (λ (a : ReadAnswer). a.key) reads (λ a. refl)
-    undated_reread Serializable now = undated_map (λ (a : ReadAnswer). a.key) reads (λ a. refl)
-    undated_reread RepeatableReads now = refl
-    undated_reread ReadCommitted now = refl
+seen_reread level prefetched reads = grind (arith, nat_tests, by_seen, same_reread, undated_map)
 
 pub seen_commit : (terms : Terms) (level : Level) (prefetched reads : List ReadAnswer) (run : Run) →
     committed terms level (reads_seen level prefetched reads) run ≡ committed terms level reads run

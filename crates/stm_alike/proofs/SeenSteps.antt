@@ -1,5 +1,6 @@
 -- A step from what can be seen of a world.
-use Rattle.std.proofs.Common.{◌≡◌, sym, ◌∙◌, ap}
+use Rattle.std.proofs.Common.{◌≡◌, ◌∙◌, ap, arith}
+use Rattle.std.proofs.lemmas.Bool.Decides.{nat_tests}
 use Rattle.stm_events.specs.declared.event.WorldEvent.{WorldEvent}
 use Rattle.stm_world.specs.World.{World, step}
 use Rattle.stm_alike.specs.Seen.{seen_world, seen_reply, IsNoWatch, AlikeWorldsAreSame}
@@ -15,10 +16,4 @@ told_seen : (event : WorldEvent) (w : World) → IsNoWatch event → seen_reply 
 told_seen event w plain = ap seen_reply (told_same event (levelled_world w) plain) ∙ told_levelled event w
 
 pub alike_worlds_are_same : AlikeWorldsAreSame
-alike_worlds_are_same = record {
-  next = next_seen;
-  told = told_seen;
-  after = λ event v w same. sym (next_seen event v) ∙ ap (λ x. seen_world (step event x).next) same ∙ next_seen event w;
-  replies = λ event v w plain same. sym (told_seen event v plain) ∙ ap (λ x. seen_reply (step event x).reply) same ∙ told_seen event w plain;
-  seen_at = runner_seen;
-}
+alike_worlds_are_same = grind (arith, nat_tests, next_seen, told_seen, runner_seen)

@@ -1,6 +1,6 @@
 -- Answers without the revisions that they show and carry: what an attempt does that reads each key as it is now is the same.
-use Rattle.std.proofs.Common.{◌≡◌, ℕ, zero, suc, ◌+◌, ◌<◌, Bool, true, false, cond, List, [], ◌∷◌, ◌++◌, length, map, Option, Some, None, option_map, slice_get, refl, sym, ◌∙◌, ap, arith}
-use Rattle.std.specs.Prelude.{bytes_eq}
+use Rattle.std.proofs.Common.{◌≡◌, ℕ, suc, ◌+◌, Bool, true, false, cond, List, [], ◌∷◌, ◌++◌, length, map, Option, Some, option_map, slice_get, refl, sym, ◌∙◌, ap, arith}
+use Rattle.std.proofs.lemmas.Bool.Decides.{nat_tests}
 use Rattle.stm_history.specs.declared.key_state.ReadAnswer.{ReadAnswer}
 use Rattle.stm_history.specs.declared.key_state.KeyState.{KeyState}
 use Rattle.stm_history.specs.declared.change.Change.{Change}
@@ -9,20 +9,17 @@ use Rattle.stm_program.specs.Syntax.{ProgramTree}
 use Rattle.stm_program.specs.declared.level.Level.{Level}
 use Rattle.stm_program.specs.declared.level.Level.TheVariants.{SerializableSnapshot, Serializable, RepeatableReads, ReadCommitted}
 use Rattle.stm_program.specs.Levels.{is_serializable}
-use Rattle.stm_program.specs.Writes.{latest_writes}
 use Rattle.stm_steps.specs.declared.run.Run.{Run}
-use Rattle.stm_meaning.specs.Answer.{Lookup}
-use Rattle.stm_meaning.specs.Meaning.{run_over}
 use Rattle.stm_outcome.specs.declared.answer.FailedCompare.{FailedCompare}
 use Rattle.stm_outcome.specs.Compares.{holds, first_failed}
 use Rattle.stm_outcome.specs.Terms.{Terms}
-use Rattle.stm_compile.specs.Answers.{answer_in, look_up, said}
-use Rattle.stm_compile.specs.CommitTxn.{first_carried, is_as_read, compares_of, reread_keys}
+use Rattle.stm_compile.specs.Answers.{answer_in, said}
+use Rattle.stm_compile.specs.CommitTxn.{first_carried, is_as_read, reread_keys}
 use Rattle.stm_compile.specs.Conflicts.{Seen, seen_by, seen_in, seen_of_read, seen_of_write}
 use Rattle.stm_compile.specs.Committed.{conflict_now, committed}
 use Rattle.stm_attempt.specs.Known.{known_of}
-use Rattle.stm_attempt.specs.Settled.{run_on, settle, settled}
-use Rattle.stm_attempt.specs.Entering.{is_due, answers_of_all, after_list, gone_on}
+use Rattle.stm_attempt.specs.Settled.{run_on, settle}
+use Rattle.stm_attempt.specs.Entering.{is_due, gone_on}
 use Rattle.stm_attempt.specs.Fetches.{at_of}
 use Rattle.stm_alike.specs.Levelled.{undated, reported_of, UndatedAttemptsAreSame}
 use Rattle.stm_alike.proofs.Levelling.{commit_by}
@@ -30,9 +27,6 @@ use Rattle.stm_alike.proofs.Levelling.{commit_by}
 pub undated_map : {B : Type 0} (f : ReadAnswer → B) (reads : List ReadAnswer) → ((a : ReadAnswer) → f (undated a) ≡ f a) → map f (map undated reads) ≡ map f reads
 undated_map f [] same = refl
 undated_map {B} f (x ∷ xs) same = ap (λ (y : B). y ∷ map f (map undated xs)) (same x) ∙ ap (λ (ys : List B). f x ∷ ys) (undated_map f xs same)
-
-undated_again : (reads : List ReadAnswer) → map undated (map undated reads) ≡ map undated reads
-undated_again reads = undated_map undated reads (λ a. refl)
 
 undated_more : (reads more : List ReadAnswer) → map undated (map undated reads ++ more) ≡ map undated (reads ++ more)
 undated_more [] more = refl
@@ -46,66 +40,34 @@ length_undated (x ∷ xs) = ap suc (length_undated xs)
 
 found_undated : (key : List ℕ) (reads : List ReadAnswer) → option_map said (answer_in key (map undated reads)) ≡ option_map said (answer_in key reads)
 found_undated key [] = refl
-found_undated key (a ∷ reads) = by_key (found_undated key reads) (bytes_eq a.key key)
-  where
-    by_key : option_map said (answer_in key (map undated reads)) ≡ option_map said (answer_in key reads) → (b : Bool) →
-        option_map said (cond b (Some (undated a)) (answer_in key (map undated reads))) ≡ option_map said (cond b (Some a) (answer_in key reads))
-    by_key further true = refl
-    by_key further false = further
+found_undated key (a ∷ reads) = grind (arith, nat_tests, found_undated key reads)
 
 undated_run : (program : ProgramTree) (reads : List ReadAnswer) → run_on program (map undated reads) ≡ run_on program reads
-undated_run program reads =
-    let look : look_up (map undated reads) ≡ look_up reads = (λ i key. found_undated key reads i) in
-    ap (λ (look : Lookup). run_over look program.statements) look
+undated_run program reads = grind (arith, nat_tests, found_undated)
 
 undated_due : (keys : List (List ℕ)) (reads : List ReadAnswer) → is_due keys (map undated reads) ≡ is_due keys reads
-undated_due [] reads = refl
-undated_due (key ∷ keys) [] = refl
-undated_due (key ∷ keys) (a ∷ reads) = refl
+undated_due keys reads = grind (arith, nat_tests)
 
 undated_at : (level : Level) (reads : List ReadAnswer) → is_serializable level ≡ false → at_of level (map undated reads) ≡ at_of level reads
-undated_at SerializableSnapshot reads not = absurd (cc)
-undated_at Serializable reads not = absurd (cc)
-undated_at RepeatableReads reads not = refl
-undated_at ReadCommitted reads not = refl
+undated_at level reads not = grind (arith, nat_tests)
 
 -- where nothing is prefetched nothing serves
 pub gone_alone : (program : ProgramTree) (reads : List ReadAnswer) → gone_on program (known_of reads []) ≡ reads
 unfolding settle
-gone_alone program reads = by_list program.prefetch reads
-  where
-    by_list : (keys : List (List ℕ)) (xs : List ReadAnswer) →
-        cond (is_due keys xs) (after_list program (known_of xs []) (answers_of_all keys [])) (settled program (known_of xs [])) ≡ xs
-    by_list [] xs = refl
-    by_list (key ∷ keys) [] = refl
-    by_list (key ∷ keys) (a ∷ xs) = refl
+gone_alone program reads = grind (arith, nat_tests)
 
 undated_gone : (program : ProgramTree) (reads : List ReadAnswer) (a : ReadAnswer) →
     map undated (gone_on program (known_of (map undated reads ++ a ∷ []) [])) ≡ map undated (gone_on program (known_of (reads ++ a ∷ []) []))
-undated_gone program reads a =
-    ap (map undated) (gone_alone program (map undated reads ++ a ∷ [])) ∙ undated_more reads (a ∷ []) ∙ sym (ap (map undated) (gone_alone program (reads ++ a ∷ [])))
+undated_gone program reads a = grind (arith, nat_tests, gone_alone, undated_more)
 
 -- ---- a commit
 
-undated_compares : (level : Level) (reads : List ReadAnswer) (writes : List Change) → is_serializable level ≡ false →
-    compares_of level (map undated reads) writes ≡ compares_of level reads writes
-undated_compares SerializableSnapshot reads writes not = absurd (cc)
-undated_compares Serializable reads writes not = absurd (cc)
-undated_compares RepeatableReads reads writes not = undated_map is_as_read reads (λ a. refl)
-undated_compares ReadCommitted reads writes not = refl
-
 undated_reread : (level : Level) (reads : List ReadAnswer) → is_serializable level ≡ false → reread_keys level (map undated reads) ≡ reread_keys level reads
-undated_reread level reads not = undated_keys (is_serializable level)
-  where
-    undated_keys : (b : Bool) → cond b (map (λ (a : ReadAnswer). a.key) (map undated reads)) [] ≡ cond b (map (λ (a : ReadAnswer). a.key) reads) []
-    undated_keys true = undated_map (λ (a : ReadAnswer). a.key) reads (λ a. refl)
-    undated_keys false = refl
+undated_reread level reads not = grind (arith, nat_tests, undated_map)
 
 undated_commit : (terms : Terms) (level : Level) (reads : List ReadAnswer) (run : Run) → is_serializable level ≡ false →
     committed terms level (map undated reads) run ≡ committed terms level reads run
-undated_commit terms level reads run not =
-    commit_by terms level (map undated reads) reads run (length_undated reads) (undated_compares level reads (latest_writes run.writes) not)
-    (undated_reread level reads not)
+undated_commit terms level reads run not = grind (arith, nat_tests, commit_by, length_undated, undated_reread, undated_map)
 
 -- ---- a conflict
 
@@ -150,12 +112,4 @@ undated_conflict h RepeatableReads reads writes failed not is =
 undated_conflict h ReadCommitted reads writes failed not is = absurd (cc)
 
 pub undated_attempts_are_same : UndatedAttemptsAreSame
-undated_attempts_are_same = record {
-  again = undated_again;
-  run = undated_run;
-  due = undated_due;
-  at = undated_at;
-  more = undated_gone;
-  commit = undated_commit;
-  conflict = undated_conflict;
-}
+undated_attempts_are_same = grind (arith, nat_tests, undated_run, undated_due, undated_at, undated_gone, undated_commit, undated_conflict, undated_map)

@@ -1,17 +1,16 @@
 -- The answers of an attempt at a serializable level are of one revision.
-use Rattle.std.proofs.Common.{◌≡◌, ◌≤◌, ℕ, Bool, true, false, cond, List, [], ◌∷◌, ◌++◌, filter, refl, sym, ◌∙◌, ap, subst, arith}
-use Rattle.std.specs.Prelude.{Option, None, Some, ◌==◌}
+use Rattle.std.proofs.Common.{◌≡◌, ◌≤◌, ℕ, Bool, cond, List, [], ◌∷◌, ◌++◌, filter, arith}
+use Rattle.std.specs.Prelude.{Option, Some, ◌==◌}
 use Rattle.std.specs.List.{AllByRecursion}
 use Rattle.std.proofs.lemmas.List.Elements.{recursion_from_All}
+use Rattle.std.proofs.lemmas.Bool.Decides.{nat_tests}
 use Rattle.stm_history.specs.declared.key_state.ReadAnswer.{ReadAnswer}
 use Rattle.stm_history.specs.History.{History, now}
 use Rattle.stm_program.specs.Syntax.{ProgramTree}
-use Rattle.stm_program.specs.declared.level.Level.{Level}
 use Rattle.stm_outcome.specs.Commits.{revision_read}
-use Rattle.stm_program.specs.Levels.{is_serializable}
 use Rattle.stm_attempt.specs.Known.{serving}
 use Rattle.stm_attempt.specs.Settled.{run_on, wanted, answer_for, served}
-use Rattle.stm_attempt.specs.Fetches.{base_of, at_of, AllShow, HaveOneBase}
+use Rattle.stm_attempt.specs.Fetches.{base_of, AllShow, HaveOneBase}
 use Rattle.stm_attempt.specs.Laws.{SettlingKeepsTheBase, FetchingKeepsTheBase}
 use Rattle.stm_attempt.proofs.SettleLemmas.{served_is_one, settled_keeps, found_is_one}
 
@@ -25,19 +24,16 @@ show_push revision (x ∷ answers) a all new = (all.0, show_push revision answer
 shown_by : (revision : ℕ) (b : Bool) (a : ReadAnswer) (answers : List ReadAnswer) → (a.of_rev == revision) ≡ b →
     AllByRecursion (λ (x : ReadAnswer). x.of_rev ≡ revision) answers →
     AllByRecursion (λ (x : ReadAnswer). x.of_rev ≡ revision) (cond b (a ∷ answers) answers)
-shown_by revision true a answers is all = (grind (arith, is), all)
-shown_by revision false a answers is all = all
+shown_by revision b a answers is all = grind (arith, nat_tests)
 
 filtered_show : (revision : ℕ) (answers : List ReadAnswer) →
     AllByRecursion (λ (x : ReadAnswer). x.of_rev ≡ revision) (filter (λ (x : ReadAnswer). x.of_rev == revision) answers)
 filtered_show revision [] = tt
-filtered_show revision (a ∷ answers) =
-    shown_by revision (a.of_rev == revision) a (filter (λ (x : ReadAnswer). x.of_rev == revision) answers) refl (filtered_show revision answers)
+filtered_show revision (a ∷ answers) = grind (arith, nat_tests, shown_by, filtered_show revision answers)
 
 for_is_one : (P : ReadAnswer → Type 0) (o : Option (List ℕ)) (answers : List ReadAnswer) (a : ReadAnswer) → AllByRecursion P answers →
     answer_for o answers ≡ Some a → P a
-for_is_one P None answers a all found = absurd (cc)
-for_is_one P (Some key) answers a all found = found_is_one P key answers a all found
+for_is_one P o answers a all found = grind (arith, nat_tests, found_is_one)
 
 base_step : (program : ProgramTree) (prefetched reads : List ReadAnswer) (a : ReadAnswer) → AllByRecursion (λ (x : ReadAnswer). 1 ≤ x.of_rev) prefetched →
     served program prefetched reads ≡ Some a → HaveOneBase reads → HaveOneBase (reads ++ a ∷ [])
@@ -56,17 +52,9 @@ settling_keeps_the_base program known positive one =
 
 -- ---- a fetch
 
-at_base : (level : Level) (reads : List ReadAnswer) → is_serializable level ≡ true → at_of level reads ≡ base_of reads
-at_base level reads is = ap (λ (b : Bool). cond b (base_of reads) 0) is
-
-read_at : (h : History) (revision : ℕ) → 1 ≤ revision → revision_read h revision ≡ revision
-read_at h revision some = grind (arith, some)
-
 fetched : (h : History) (reads : List ReadAnswer) (a : ReadAnswer) → 1 ≤ now h → a.of_rev ≡ revision_read h (base_of reads) → HaveOneBase reads →
     HaveOneBase (reads ++ a ∷ [])
-fetched h [] a some shows one = (subst (λ (n : ℕ). 1 ≤ n) (sym shows) some, tt)
-fetched h (first ∷ rest) a some shows one = (one.0, show_push first.of_rev rest a one.1 (shows ∙ read_at h first.of_rev one.0))
+fetched h reads a some shows one = grind (arith, nat_tests, show_push)
 
 pub fetching_keeps_the_base : FetchingKeepsTheBase
-fetching_keeps_the_base h level reads a serializable some shows one =
-    fetched h reads a some (shows ∙ ap (revision_read h) (at_base level reads serializable)) one
+fetching_keeps_the_base h level reads a serializable some shows one = grind (arith, nat_tests, fetched)

@@ -5,6 +5,7 @@ use Rattle.std.specs.Prelude.{bytes_eq, ◌||◌, nat_eq, nat_lt, Option, None, 
 use Rattle.std.specs.List.{AllByRecursion, list_any}
 use Rattle.std.proofs.lemmas.List.Elements.{recursion_from_All}
 use Rattle.std.proofs.lemmas.Slice.Eq.{bytes_eq-Decides}
+use Rattle.std.proofs.lemmas.Bool.Decides.{nat_tests}
 use Rattle.stm_history.specs.declared.key_state.ReadAnswer.{ReadAnswer}
 use Rattle.stm_program.specs.Syntax.{ProgramTree}
 use Rattle.stm_program.specs.declared.limits.TheConstants.{MAX_DEPTH, MAX_NODES, MAX_TEXT}
@@ -213,11 +214,6 @@ settles_none_served program known s =
     ap (λ (l : List ReadAnswer). served program known.prefetched l) s.settles
     ∙ nothing_serves_the_settled program (known_of s.start known.prefetched)
 
-again_due : (program : ProgramTree) (known : Known) → StaysDue program known → gone_on program (with_reads (gone_on program known) known) ≡ gone_on program known
-again_due program known d =
-    let still : is_due program.prefetch (gone_on program known) ≡ true = ap (is_due program.prefetch) d.stays ∙ d.due in
-    gone_after program (with_reads (gone_on program known) known) None still d.none
-
 again_settled : (program : ProgramTree) (known : Known) (s : Settles program known)
     → gone_on program (with_reads (gone_on program known) known) ≡ gone_on program known
 again_settled program known s =
@@ -227,7 +223,7 @@ again_settled program known s =
     ∙ sym s.settles
 
 pub gone_on_is_gone_on : GoneOnIsGoneOn
-gone_on_is_gone_on program known = elim (where_it_comes program known) [ inl d ↦ again_due program known d | inr s ↦ again_settled program known s ]
+gone_on_is_gone_on program known = grind (arith, nat_tests, where_it_comes, again_settled, gone_after)
 
 -- ---- what is answered
 

@@ -1,6 +1,7 @@
 -- What an attempt answers, and what its calls may rely on.
-use Rattle.std.proofs.Common.{◌≡◌, inl, inr, ℕ, Bool, true, false, cond, List, refl, sym, ◌∙◌, ap, subst}
+use Rattle.std.proofs.Common.{◌≡◌, inl, inr, ℕ, Bool, true, false, cond, List, refl, sym, ◌∙◌, ap, subst, arith}
 use Rattle.std.specs.Prelude.{Option, None, Some, is_some}
+use Rattle.std.proofs.lemmas.Bool.Decides.{nat_tests}
 use Rattle.stm_history.specs.declared.key_state.ReadAnswer.{ReadAnswer}
 use Rattle.stm_program.specs.Syntax.{ProgramTree}
 use Rattle.stm_program.specs.declared.level.Level.{Level}
@@ -40,13 +41,8 @@ after : (program : ProgramTree) (level : Level) (reads : List ReadAnswer) (x : A
 after program level reads (Wants key trace) ready is reported = absurd (cc)
 after program level reads (Ended run) ready is reported = at_end program level reads run run.end ready is refl reported
 
-on_reads : (program : ProgramTree) (level : Level) (reads : List ReadAnswer) (ready : ReadyRun) (due : Bool) →
-    cond due (FetchAll program.prefetch 0) (next_after program level reads (run_on program reads)) ≡ Ready ready → IsRunOnItsAnswers ready
-on_reads program level reads ready true reported = absurd (cc)
-on_reads program level reads ready false reported = after program level reads (run_on program reads) ready refl reported
-
 pub ready_is_the_run : ReadyIsTheRun
-ready_is_the_run program level known ready reported = on_reads program level (gone_on program known) ready (is_due program.prefetch (gone_on program known)) reported
+ready_is_the_run program level known ready reported = grind (arith, nat_tests, after)
 
 -- ---- a call more
 
@@ -137,16 +133,9 @@ pub awaits_unserved : (program : ProgramTree) (known : Known) (key : List ℕ) �
 awaits_unserved program known key is =
     (unless_due (is_due program.prefetch known.reads) (unserved (serving known.reads known.prefetched) (wanted (run_on program known.reads))) key is).1
 
-awaited_by_new : (program : Option ProgramTree) (level : Level) (known : Known) (key : List ℕ) →
-    awaited (record { program = program; level = level; known = known }) ≡ Some key → answer_in key known.reads ≡ None
-awaited_by_new None level known key is = absurd (cc)
-awaited_by_new (Some program) level known key is =
-    wanted_is_new program known.reads key (wanted_by (serving known.reads known.prefetched) (wanted (run_on program known.reads)) key
-    (awaits_unserved program known key is))
-
 -- an awaited key has no answer yet
 pub awaited_is_new : (attempt : AttemptState) (key : List ℕ) → awaited attempt ≡ Some key → answer_in key attempt.known.reads ≡ None
-awaited_is_new attempt key is = awaited_by_new attempt.program attempt.level attempt.known key is
+awaited_is_new attempt key is = grind (arith, nat_tests, wanted_is_new, wanted_by, awaits_unserved)
 
 -- ---- an advance, by what the code has at hand
 

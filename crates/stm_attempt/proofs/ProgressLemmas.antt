@@ -2,9 +2,10 @@
 use Rattle.std.proofs.Common.{◌≡◌, refl, sym, ◌∙◌, ap, subst, ℕ, Bool, true, false, cond, List, [], ◌∷◌, ◌++◌, ◌+◌, ◌<◌, ◌≤◌, length, take}
 use Rattle.std.proofs.Common.{length-append, length-take-le, append_assoc, append-nil, arith}
 use Rattle.std.proofs.Math.Seq.{take-length}
-use Rattle.std.specs.Prelude.{bytes_eq, Option, None, Some, Result, Ok, Err, IfOk, OnOk, option_map, is_some, IsSome}
+use Rattle.std.specs.Prelude.{bytes_eq, Option, None, Some, Result, Ok, Err, IfOk, OnOk, is_some, IsSome}
 use Rattle.std.specs.declared.alloc.AllocError.{AllocError}
 use Rattle.std.proofs.lemmas.Slice.Eq.{bytes_eq-Decides}
+use Rattle.std.proofs.lemmas.Bool.Decides.{nat_tests}
 use Rattle.stm_history.specs.declared.key_state.ReadAnswer.{ReadAnswer}
 use Rattle.stm_program.specs.Syntax.{ProgramTree}
 use Rattle.stm_steps.specs.declared.run.End.{End}
@@ -12,14 +13,13 @@ use Rattle.stm_steps.specs.declared.run.End.TheVariants.{Done, Aborted as Aborte
 use Rattle.stm_steps.specs.declared.run.Run.{Run}
 use Rattle.stm_steps.specs.declared.run.Answered.{Answered}
 use Rattle.stm_steps.specs.declared.run.Answered.TheVariants.{Ended, Wants}
-use Rattle.stm_meaning.specs.Answer.{Answer}
 use Rattle.stm_meaning.specs.Meaning.{answered}
 use Rattle.stm_meaning.specs.Laws.{AgreesWith}
 use Rattle.stm_machine.specs.State.{MachineState, key_asked, run_at}
 use Rattle.stm_machine.specs.Steps.{Stands}
 use Rattle.stm_machine.specs.Laws.{FinishAlike}
 use Rattle.stm_machine.proofs.StepLemmas.{standing_at_a_key_wants_it, standing_at_no_key_has_run, ended_machines_have_run, wanted_key_is_unknown}
-use Rattle.stm_compile.specs.Answers.{answer_in, said, look_up}
+use Rattle.stm_compile.specs.Answers.{answer_in, look_up}
 use Rattle.stm_attempt.specs.Known.{known_of, serving}
 use Rattle.stm_attempt.specs.Settled.{run_on, wanted, answer_for, served, settled}
 use Rattle.stm_attempt.specs.AttemptState.{unserved, awaited_by}
@@ -49,12 +49,8 @@ kept_answer key [] a b is = absurd (cc)
 kept_answer key (x ∷ reads) a b is =
     kept_by (bytes_eq x.key key) x b (answer_in key reads) (answer_in key (reads ++ a ∷ [])) (kept_answer key reads a b) is
 
-kept_said : (o p : Option ReadAnswer) (c : Answer) → ((b : ReadAnswer) → o ≡ Some b → p ≡ Some b) → option_map said o ≡ Some c → option_map said p ≡ Some c
-kept_said None p c kept is = absurd (cc)
-kept_said (Some b) p c kept is = ap (λ (q : Option ReadAnswer). option_map said q) (kept b refl) ∙ is
-
 pub knows_more : (reads : List ReadAnswer) (a : ReadAnswer) → AgreesWith (look_up reads) (look_up (reads ++ a ∷ []))
-knows_more reads a key c is = kept_said (answer_in key reads) (answer_in key (reads ++ a ∷ [])) c (λ b. kept_answer key reads a b) is
+knows_more reads a key c is = grind (arith, nat_tests, kept_answer)
 
 -- ---- a machine that finishes as the run
 
@@ -271,10 +267,6 @@ pub kept_come : (program : ProgramTree) (reads : List ReadAnswer) (m : MachineSt
 kept_come program reads m p finishes stands asked kept =
     come_by program reads m p (run_at m) finishes refl (standing_at_no_key_has_run (look_up reads) m stands (sym asked)) kept
 
-end_by : (m : MachineState) (p : Progress) (o : Option Run) → run_at m ≡ o → IsSome o → ((run : Run) → run_at m ≡ Some run → p ≡ EndedProgress run) → HasEnded p
-end_by m p None is some kept = absurd (cc)
-end_by m p (Some run) is some kept = subst (λ (q : Progress). HasEnded q) (sym (kept run is)) tt
-
 pub kept_end : (reads : List ReadAnswer) (m : MachineState) (p : Progress) → Stands (look_up reads) m → None ≡ key_asked m.focus →
     ((run : Run) → run_at m ≡ Some run → p ≡ EndedProgress run) → HasEnded p
-kept_end reads m p stands asked kept = end_by m p (run_at m) refl (standing_at_no_key_has_run (look_up reads) m stands (sym asked)) kept
+kept_end reads m p stands asked kept = grind (arith, nat_tests, standing_at_no_key_has_run)

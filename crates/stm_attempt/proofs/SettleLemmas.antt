@@ -4,12 +4,11 @@ use Rattle.std.proofs.Common.{append_assoc, append-nil}
 use Rattle.std.specs.Prelude.{bytes_eq, Option, None, Some, option_map, Contains}
 use Rattle.std.specs.List.{AllByRecursion}
 use Rattle.std.proofs.lemmas.List.Elements.{All-from_recursion, recursion_from_All, All-contains_itself}
+use Rattle.std.proofs.lemmas.Bool.Decides.{nat_tests}
 use Rattle.stm_history.specs.declared.key_state.ReadAnswer.{ReadAnswer}
 use Rattle.stm_program.specs.Syntax.{ProgramTree}
-use Rattle.stm_steps.specs.declared.run.Answered.{Answered}
-use Rattle.stm_steps.specs.declared.run.Answered.TheVariants.{Ended, Wants}
 use Rattle.stm_meaning.proofs.RunLaws.{wanted_keys_are_unknown}
-use Rattle.stm_compile.specs.Answers.{answer_in, said, look_up}
+use Rattle.stm_compile.specs.Answers.{answer_in, said}
 use Rattle.stm_attempt.specs.Known.{Known, is_of_base, serving}
 use Rattle.stm_attempt.specs.Settled.{run_on, wanted, answer_for, served, taken, settle, settled}
 use Rattle.stm_attempt.specs.Laws.{NothingServesTheSettled, SettledIsSettled, WhatServesIsTaken, AddsPrefetched, SettlingAddsPrefetched}
@@ -21,17 +20,9 @@ pub no_answer : (o : Option ReadAnswer) → option_map said o ≡ None → o ≡
 no_answer None e = refl
 no_answer (Some a) e = absurd (cc)
 
-new_by : (program : ProgramTree) (reads : List ReadAnswer) (key : List ℕ) (x : Answered) → run_on program reads ≡ x → wanted x ≡ Some key →
-    answer_in key reads ≡ None
-new_by program reads key (Ended run) e is = absurd (cc)
-new_by program reads key (Wants k trace) e is =
-    let same : k ≡ key = cc in
-    let unknown = wanted_keys_are_unknown (look_up reads) program.statements k trace e in
-    no_answer (answer_in key reads) (subst (λ (l : List ℕ). option_map said (answer_in l reads) ≡ None) same unknown.0)
-
 -- the run wants a key that has no answer yet
 pub wanted_is_new : (program : ProgramTree) (reads : List ReadAnswer) (key : List ℕ) → wanted (run_on program reads) ≡ Some key → answer_in key reads ≡ None
-wanted_is_new program reads key is = new_by program reads key (run_on program reads) refl is
+wanted_is_new program reads key is = grind (arith, nat_tests, wanted_keys_are_unknown, no_answer)
 
 -- ---- what is taken
 

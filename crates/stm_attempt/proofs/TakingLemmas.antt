@@ -1,12 +1,12 @@
 -- The steps by which a list is taken from the prefetched answers, by what the code has at hand.
-use Rattle.std.proofs.Common.{◌≡◌, ◌≤◌, ◌+◌, ◌-◌, ℕ, false, List, [], ◌∷◌, ◌++◌, length, map, take, drop, get_or, String, sym, ◌∙◌, ap, subst, arith}
+use Rattle.std.proofs.Common.{◌≡◌, ◌≤◌, ◌-◌, ℕ, false, List, [], ◌∷◌, ◌++◌, length, map, take, drop, get_or, String, sym, ◌∙◌, ap, subst, arith}
 use Rattle.std.specs.Prelude.{Option, None, Some, option_map, string_bytes}
 use Rattle.std.proofs.lemmas.List.{take_rest}
 use Rattle.std.proofs.lemmas.Slice.Eq.{bytes_eq-Decides}
+use Rattle.std.proofs.lemmas.Bool.Decides.{nat_tests}
 use Rattle.stm_history.specs.declared.key_state.ReadAnswer.{ReadAnswer}
 use Rattle.stm_program.specs.Syntax.{ProgramTree}
-use Rattle.stm_program.specs.declared.limits.TheConstants.{MAX_DEPTH, MAX_NODES}
-use Rattle.stm_program.specs.Limits.{BlockFits, has_repeat, Fits}
+use Rattle.stm_program.specs.Limits.{has_repeat, Fits}
 use Rattle.stm_program.proofs.ListLemmas.{list_parts, list_of_program}
 use Rattle.stm_compile.specs.Answers.{answer_in}
 use Rattle.stm_attempt.specs.Known.{HaveDistinctKeys}
@@ -31,10 +31,7 @@ of_the_key key prefetched a copy found copied =
 pub take_stops : {A : Type 0} (keys : List (String A)) (first : String A) (key : List ℕ) (taken prefetched : List ReadAnswer) → 1 ≤ length keys
     → first ≡ get_or keys 0 first → key ≡ string_bytes first → None ≡ answer_in key prefetched
     → None ≡ option_map (λ more. taken ++ more) (answers_of_all (map string_bytes keys) prefetched)
-take_stops keys first key taken prefetched some is bytes none =
-    let rest : List (List ℕ) = map string_bytes (take (length keys - 1) (drop 1 keys)) in
-    sym (ap (λ (l : List (List ℕ)). option_map (λ more. taken ++ more) (answers_of_all l prefetched)) (first_and_rest keys first some is)
-    ∙ take_none taken (string_bytes first) rest prefetched (ap (λ (k : List ℕ). answer_in k prefetched) (sym bytes) ∙ sym none))
+take_stops keys first key taken prefetched some is bytes none = grind (arith, nat_tests, first_and_rest, take_none)
 
 -- what is taken next is of a key that has no answer yet
 pub take_is_new : {A : Type 0} (keys : List (String A)) (first : String A) (key : List ℕ) (taken prefetched : List ReadAnswer) (a copy : ReadAnswer)
@@ -78,19 +75,11 @@ take_goes_on keys first key taken more prefetched a copy found some is bytes has
 
 -- ---- a program's list
 
-list_once : (program : ProgramTree) → Fits program → has_repeat program.prefetch ≡ false
-list_once program fits =
-    (list_parts program.prefetch (list_of_program program.prefetch (BlockFits MAX_DEPTH MAX_NODES program.statements) fits)).once
-
 pub starts_taking : (program : ProgramTree) (taken prefetched : List ReadAnswer) (keys : List (List ℕ)) (found : Option (List ReadAnswer)) → taken ≡ []
     → keys ≡ program.prefetch → found ≡ option_map (λ more. taken ++ more) (answers_of_all keys prefetched) → found ≡ answers_of_all program.prefetch prefetched
-starts_taking program taken prefetched keys found none same reported =
-    reported
-    ∙ ap (λ (l : List ReadAnswer). option_map (λ more. l ++ more) (answers_of_all keys prefetched)) none
-    ∙ take_all (answers_of_all keys prefetched)
-    ∙ ap (λ (ks : List (List ℕ)). answers_of_all ks prefetched) same
+starts_taking program taken prefetched keys found none same reported = grind (arith, nat_tests, take_all)
 
 -- the answers to a program's list are of keys that differ
 pub listed_are_distinct : (program : ProgramTree) (answers : List ReadAnswer) → Fits program → program.prefetch ≡ map (λ (a : ReadAnswer). a.key) answers
     → HaveDistinctKeys answers
-listed_are_distinct program answers fits same = once-have_distinct answers (ap has_repeat (sym same) ∙ list_once program fits)
+listed_are_distinct program answers fits same = grind (arith, nat_tests, once-have_distinct, list_parts, list_of_program)

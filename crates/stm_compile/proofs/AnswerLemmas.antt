@@ -1,6 +1,6 @@
 -- The places of the answers of an attempt, as an answer is added.
 use Rattle.std.proofs.Common.{◌≡◌, ℕ, ◌<◌, Bool, true, false, cond, List, [], ◌∷◌, ◌++◌, length, Option, None, Some, refl, sym, ◌∙◌, ap, arith}
-use Rattle.std.proofs.Common.{length-append, IfSome, All, String, map, ◌≤◌, drop, take, subst}
+use Rattle.std.proofs.Common.{length-append, IfSome, All, String, map, ◌≤◌, drop, take}
 use Rattle.std.specs.Prelude.{bytes_eq, slice_get, string_bytes, fold, min}
 use Rattle.std.specs.Map.{update, lookup}
 use Rattle.std.specs.List.{AllByRecursion, AllZip, IsDistinct, find}
@@ -8,6 +8,7 @@ use Rattle.std.proofs.lemmas.List.{get_or_append_left, drop_all, drop-append-le,
 use Rattle.std.proofs.lemmas.List.Elements.{recursion_from_All, All-from_recursion}
 use Rattle.std.proofs.lemmas.Option.{slice_get-get_or, none-some, same_Some}
 use Rattle.std.proofs.Math.Seq.{get_or-append_seam}
+use Rattle.std.proofs.lemmas.Bool.Decides.{nat_tests}
 use Rattle.stm_history.specs.declared.key_state.ReadAnswer.{ReadAnswer}
 use Rattle.stm_program.proofs.WriteLemmas.{bytes_eq-self, bytes_eq-same}
 use Rattle.stm_outcome.specs.Numbers.{ReadFits}
@@ -18,13 +19,10 @@ use Rattle.stm_compile.specs.Places.{answer_at, AreAnswerPlaces, AreRead}
 
 passed : (b c : Bool) (x a : ReadAnswer) (more rest : Option ReadAnswer) → (b ≡ true → c ≡ true → ⊥) → more ≡ cond c (Some a) rest →
     cond b (Some x) more ≡ cond c (Some a) (cond b (Some x) rest)
-passed true true x a more rest apart e = absurd (apart refl refl)
-passed true false x a more rest apart e = refl
-passed false c x a more rest apart e = e
+passed b c x a more rest apart e = grind (arith, nat_tests)
 
 none_first : (b : Bool) (x : ReadAnswer) (rest : Option ReadAnswer) → cond b (Some x) rest ≡ None → (b ≡ false) × (rest ≡ None)
-none_first true x rest e = absurd (cc)
-none_first false x rest e = (refl, e)
+none_first b x rest e = grind (arith, nat_tests)
 
 pub answer_in-more : (answers : List ReadAnswer) (a : ReadAnswer) (key : List ℕ) → answer_in a.key answers ≡ None →
     answer_in key (answers ++ a ∷ []) ≡ cond (bytes_eq a.key key) (Some a) (answer_in key answers)
@@ -40,10 +38,6 @@ answer_in-more (x ∷ answers) a key new =
     (answer_in-more answers a key parts.1)
 
 -- ---- keys that differ
-
-none_alike : IsDistinct bytes_eq (map (λ (a : ReadAnswer). a.key) [])
-unfolding IsDistinct
-none_alike = tt
 
 others_and_one : (key : List ℕ) (answers : List ReadAnswer) (a : ReadAnswer) →
     AllByRecursion (λ k. bytes_eq key k ≡ false) (map (λ (x : ReadAnswer). x.key) answers) → bytes_eq key a.key ≡ false →
@@ -64,26 +58,16 @@ distinct_added (x ∷ answers) a distinct new =
 
 -- no answers, and no places
 none_read : (places : List ℕ → Option ℕ) → ((key : List ℕ) → places key ≡ None) → AreAnswerPlaces [] places
-none_read places none = record {
-  within = λ key i at. absurd (none-some i (sym (none key) ∙ at));
-  answer = λ key. ap (λ place. answer_at [] place) (none key);
-}
+none_read places none = grind (arith, nat_tests, none-some)
 
 pub nothing_found : {A : Type 0} (es : List (String A × ℕ)) (key : List ℕ) → es ≡ [] → lookup (λ k. bytes_eq key (string_bytes k)) es ≡ None
-nothing_found [] key none = refl
-nothing_found (e ∷ es) key none = absurd (cc)
+nothing_found es key none = grind (arith, nat_tests)
 
 -- a set of which nothing was read
 pub none_kept : (n : ℕ) (answers : List ReadAnswer) (places : List ℕ → Option ℕ) → answers ≡ [] → ((key : List ℕ) → places key ≡ None) →
     All ReadFits answers × AreRead n answers places
-none_kept n [] places none absent = (
-  All-from_recursion ReadFits [] tt,
-  record {
-    placed = subst (λ (l : List ReadAnswer). AreAnswerPlaces l places) (sym (drop_all n [] (omega arith))) (none_read places absent);
-    distinct = none_alike;
-  },
-)
-none_kept n (a ∷ answers) places none absent = absurd (cc)
+unfolding IsDistinct
+none_kept n answers places none absent = grind (arith, nat_tests, All-from_recursion, drop_all, none_read)
 
 -- the added answer stands at the end
 last_place : (answers : List ReadAnswer) (a : ReadAnswer) → slice_get (answers ++ a ∷ []) (length answers) ≡ Some a
@@ -99,32 +83,17 @@ earlier_place answers a i below =
 
 earlier_answer : (answers : List ReadAnswer) (a : ReadAnswer) (place : Option ℕ) → ((i : ℕ) → place ≡ Some i → i < length answers) →
     answer_at (answers ++ a ∷ []) place ≡ answer_at answers place
-earlier_answer answers a None within = refl
-earlier_answer answers a (Some i) within = earlier_place answers a i (within i refl)
-
-within_after : (b : Bool) (answers : List ReadAnswer) (a : ReadAnswer) (place : Option ℕ) → ((i : ℕ) → place ≡ Some i → i < length answers) → (i : ℕ) →
-    cond b (Some (length answers)) place ≡ Some i → i < length (answers ++ a ∷ [])
-within_after true answers a place within i at =
-    let same : length answers ≡ i = same_Some (length answers) i at in omega (arith, length-append answers (a ∷ []), same)
-within_after false answers a place within i at = omega (arith, length-append answers (a ∷ []), within i at)
+earlier_answer answers a place within = grind (arith, nat_tests, earlier_place)
 
 answer_after : (b : Bool) (answers : List ReadAnswer) (a : ReadAnswer) (place : Option ℕ) → ((i : ℕ) → place ≡ Some i → i < length answers) →
     answer_at (answers ++ a ∷ []) (cond b (Some (length answers)) place) ≡ cond b (Some a) (answer_at answers place)
-answer_after true answers a place within = last_place answers a
-answer_after false answers a place within = earlier_answer answers a place within
+answer_after b answers a place within = grind (arith, nat_tests, last_place, earlier_answer)
 
 -- the place of the added answer is that of its key, and the other keys keep theirs
 pub place_added : (answers : List ReadAnswer) (a : ReadAnswer) (places after : List ℕ → Option ℕ) → AreAnswerPlaces answers places →
     answer_in a.key answers ≡ None → ((key : List ℕ) → after key ≡ update bytes_eq places a.key (Some (length answers)) key) →
     AreAnswerPlaces (answers ++ a ∷ []) after
-place_added answers a places after kept new reported = record {
-  within = λ key i at. within_after (bytes_eq a.key key) answers a (places key) (kept.within key) i (sym (reported key) ∙ at);
-  answer = λ key.
-      ap (λ place. answer_at (answers ++ a ∷ []) place) (reported key)
-      ∙ answer_after (bytes_eq a.key key) answers a (places key) (kept.within key)
-      ∙ ap (λ found. cond (bytes_eq a.key key) (Some a) found) (kept.answer key)
-      ∙ sym (answer_in-more answers a key new);
-}
+place_added answers a places after kept new reported = grind (arith, nat_tests, answer_after, answer_in-more, same_Some, length-append)
 
 -- ---- answers that are searched, and those after them
 
@@ -135,12 +104,7 @@ or_else (Some a) other = Some a
 
 answer_in-append : (key : List ℕ) (xs ys : List ReadAnswer) → answer_in key (xs ++ ys) ≡ or_else (answer_in key xs) (answer_in key ys)
 answer_in-append key [] ys = refl
-answer_in-append key (x ∷ xs) ys = by (bytes_eq x.key key) (answer_in-append key xs ys)
-  where
-    by : (b : Bool) → answer_in key (xs ++ ys) ≡ or_else (answer_in key xs) (answer_in key ys)
-        → cond b (Some x) (answer_in key (xs ++ ys)) ≡ or_else (cond b (Some x) (answer_in key xs)) (answer_in key ys)
-    by true e = refl
-    by false e = e
+answer_in-append key (x ∷ xs) ys = grind (arith, nat_tests, answer_in-append key xs ys)
 
 -- the answer for a key in a list that is cut in two: the first part is looked at first
 pub answer_of_both : (key : List ℕ) (n : ℕ) (answers : List ReadAnswer) (found : Option ReadAnswer) → answer_in key (take n answers) ≡ found →
@@ -150,8 +114,7 @@ answer_of_both key n answers found in_first =
     ∙ ap (λ o. or_else o (answer_in key (drop n answers))) in_first
 
 none_second : (first second : Option ReadAnswer) → or_else first second ≡ None → second ≡ None
-none_second None second none = none
-none_second (Some a) second none = absurd (cc)
+none_second first second none = grind (arith, nat_tests)
 
 -- a key that has no answer has none after the first n
 new_after : (key : List ℕ) (n : ℕ) (answers : List ReadAnswer) → answer_in key answers ≡ None → answer_in key (drop n answers) ≡ None
@@ -166,29 +129,18 @@ first_is_answer key (a ∷ answers) = ap (cond (bytes_eq a.key key) (Some a)) (f
 -- one answer more, of those that are searched
 pub read_searched : (n : ℕ) (answers : List ReadAnswer) (a : ReadAnswer) (places : List ℕ → Option ℕ) → AreRead n answers places →
     length answers < n → answer_in a.key answers ≡ None → AreRead n (answers ++ a ∷ []) places
-read_searched n answers a places read few new =
-    let same : drop n (answers ++ a ∷ []) ≡ drop n answers =
-    drop_all n (answers ++ a ∷ []) (omega (arith, length-append answers (a ∷ []))) ∙ sym (drop_all n answers (omega arith)) in
-    record {
-      placed = subst (λ l. AreAnswerPlaces l places) (sym same) read.placed;
-      distinct = distinct_added answers a read.distinct new;
-    }
+read_searched n answers a places read few new = grind (arith, nat_tests, drop_all, length-append, distinct_added)
 
 -- one answer more after them, whose place is given
 pub read_indexed : (n : ℕ) (answers : List ReadAnswer) (a : ReadAnswer) (places after : List ℕ → Option ℕ) → AreRead n answers places →
     n ≤ length answers → answer_in a.key answers ≡ None →
     ((key : List ℕ) → after key ≡ update bytes_eq places a.key (Some (length (drop n answers))) key) → AreRead n (answers ++ a ∷ []) after
-read_indexed n answers a places after read many new reported = record {
-  placed = subst (λ l. AreAnswerPlaces l after) (sym (drop-append-le n answers (a ∷ []) many))
-      (place_added (drop n answers) a places after read.placed (new_after a.key n answers new) reported);
-  distinct = distinct_added answers a read.distinct new;
-}
+read_indexed n answers a places after read many new reported = grind (arith, nat_tests, drop-append-le, place_added, new_after, distinct_added)
 
 -- ---- an answer that is found fits where all do
 
 chosen_fits : (b : Bool) (a : ReadAnswer) (rest : Option ReadAnswer) → ReadFits a → IfSome rest ReadFits → IfSome (cond b (Some a) rest) ReadFits
-chosen_fits true a rest first others = first
-chosen_fits false a rest first others = others
+chosen_fits b a rest first others = grind (arith, nat_tests)
 
 found_fits : (key : List ℕ) (answers : List ReadAnswer) → AllByRecursion ReadFits answers → IfSome (answer_in key answers) ReadFits
 found_fits key [] all = tt
@@ -206,20 +158,13 @@ fold_is_below n first (a ∷ answers) e = omega (arith, fold_is_below n (min fir
 -- what is least after all of them
 pub least_is_below : (n first i : ℕ) (answers : List ReadAnswer) → fold (λ least (b : ReadAnswer). min least b.revision) n (drop i answers)
     ≡ fold (λ least (b : ReadAnswer). min least b.revision) first answers → length answers ≤ i → n ≤ first
-least_is_below n first i answers kept all =
-    fold_is_below n first answers (sym (ap (λ (l : List ReadAnswer). fold (λ least (b : ReadAnswer). min least b.revision) n l) (drop_all i answers all)) ∙ kept)
+least_is_below n first i answers kept all = grind (arith, nat_tests, fold_is_below, drop_all)
 
 -- ---- a copy of the index
 
 pub places_copied : (n : ℕ) (answers : List ReadAnswer) (places copy : List ℕ → Option ℕ) → AreRead n answers places →
     ((key : List ℕ) → copy key ≡ places key) → AreRead n answers copy
-places_copied n answers places copy read same = record {
-  placed = record {
-    within = λ key i at. read.placed.within key i (sym (same key) ∙ at);
-    answer = λ key. ap (answer_at (drop n answers)) (same key) ∙ read.placed.answer key;
-  };
-  distinct = read.distinct;
-}
+places_copied n answers places copy read same = grind (arith, nat_tests)
 
 -- copies of texts and numbers are found like their originals
 pub copy_finds : {A : Type 0} (es fs : List (String A × ℕ)) (key : List ℕ) →
@@ -228,7 +173,4 @@ pub copy_finds : {A : Type 0} (es fs : List (String A × ℕ)) (key : List ℕ) 
 copy_finds [] [] key same = refl
 copy_finds [] (f ∷ fs) key same = absurd same
 copy_finds (e ∷ es) [] key same = absurd same
-copy_finds (e ∷ es) (f ∷ fs) key same =
-    ap (λ t. cond (bytes_eq key t) (Some f.1) (lookup (λ k. bytes_eq key (string_bytes k)) fs)) same.0.0
-    ∙ ap (λ n. cond (bytes_eq key (string_bytes e.0)) (Some n) (lookup (λ k. bytes_eq key (string_bytes k)) fs)) same.0.1
-    ∙ ap (cond (bytes_eq key (string_bytes e.0)) (Some e.1)) (copy_finds es fs key same.1)
+copy_finds (e ∷ es) (f ∷ fs) key same = grind (arith, nat_tests, copy_finds es fs key same.1)

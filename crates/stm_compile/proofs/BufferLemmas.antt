@@ -7,6 +7,7 @@ use Rattle.std.proofs.lemmas.Option.{same_Some}
 use Rattle.std.proofs.lemmas.Iterator.Adapters.{position_from-zero}
 use Rattle.std.specs.Prelude.{bytes_eq, ◌||◌, not, is_some}
 use Rattle.std.specs.List.{IsDistinct, AllByRecursion, position, position_from}
+use Rattle.std.proofs.lemmas.Bool.Decides.{nat_tests}
 use Rattle.stm_history.specs.declared.change.Change.{Change}
 use Rattle.stm_history.specs.History.{key_of}
 use Rattle.stm_program.specs.Writes.{last_write, is_written, latest_of, latest_after, latest_writes}
@@ -31,26 +32,20 @@ latest_of-alone : (earlier later : List Change) (w : Change) → is_written (key
 latest_of-alone earlier later w unwritten alone = rw (unwritten, alone) refl
 
 neither : (a b : Bool) → a ≡ false → b ≡ false → (a || b) ≡ false
-neither true b p q = p
-neither false b p q = q
+neither a b p q = grind (arith, nat_tests)
 
 -- these keys stay unwritten by one write more of another key
 unwritten_more : (earlier : List Change) (w : Change) (ws : List Change) → IsNew (key_of w) ws → AllByRecursion (λ v. is_written (key_of v) earlier ≡ false) ws →
     AllByRecursion (λ v. is_written (key_of v) (earlier ++ w ∷ []) ≡ false) ws
 unwritten_more earlier w [] new unwritten = tt
-unwritten_more earlier w (v ∷ ws) new unwritten = (
-  is_written-more (key_of v) earlier w ∙ neither (bytes_eq (key_of w) (key_of v)) (is_written (key_of v) earlier) new.0 unwritten.0,
-  unwritten_more earlier w ws new.1 unwritten.1,
-)
+unwritten_more earlier w (v ∷ ws) new unwritten = grind (arith, nat_tests, is_written-more, neither, unwritten_more earlier w ws new.1 unwritten.1)
 
 latest_of-distinct : (earlier ws : List Change) → IsDistinct bytes_eq (map key_of ws) → AllByRecursion (λ v. is_written (key_of v) earlier ≡ false) ws →
     latest_after earlier ws ≡ ws
 unfolding IsDistinct
 latest_of-distinct earlier [] distinct unwritten = refl
 latest_of-distinct earlier (w ∷ ws) distinct unwritten =
-    ap (λ l. l ++ latest_after (earlier ++ w ∷ []) ws)
-    (latest_of-alone earlier ws w unwritten.0 (new_unwritten (key_of w) ws distinct.0))
-    ∙ ap (λ l. w ∷ l) (latest_of-distinct (earlier ++ w ∷ []) ws distinct.1 (unwritten_more earlier w ws distinct.0 unwritten.1))
+    grind (arith, nat_tests, latest_of-alone, new_unwritten, unwritten_more, latest_of-distinct (earlier ++ w ∷ []) ws distinct.1 (unwritten_more earlier w ws distinct.0 unwritten.1))
 
 nothing_written : (ws : List Change) → AllByRecursion (λ v. is_written (key_of v) [] ≡ false) ws
 nothing_written [] = tt
@@ -63,19 +58,12 @@ latest_of_distinct ws distinct = latest_of-distinct [] ws distinct (nothing_writ
 
 -- one write more on the latest writes is one write more
 pub latest_and_more : (ws : List Change) (w : Change) → latest_writes (latest_writes ws ++ w ∷ []) ≡ latest_writes (ws ++ w ∷ [])
-latest_and_more ws w =
-    latest_writes-more (latest_writes ws) w
-    ∙ ap (with_write w) (latest_of_distinct (latest_writes ws) (latest_writes-distinct ws))
-    ∙ sym (latest_writes-more ws w)
+latest_and_more ws w = grind (arith, nat_tests, latest_writes-more, with_write, latest_of_distinct, latest_writes-distinct)
 
 -- the buffer of one write more
 pub buffer_taken : (ws : List Change) (i : ℕ) (w copy : Change) (old new : List Change) → i < length ws → w ≡ get_or ws i w → copy ≡ w →
     new ≡ latest_writes (old ++ copy ∷ []) → old ≡ latest_writes (take i ws) → new ≡ latest_writes (take (i + 1) ws)
-buffer_taken ws i w copy old new below at same made so_far =
-    let next : suc i ≡ i + 1 = omega arith in
-    let taken : take (i + 1) ws ≡ take i ws ++ copy ∷ [] =
-    ap (λ (n : ℕ). take n ws) (sym next) ∙ take-suc ws i w below ∙ ap (λ x. take i ws ++ x ∷ []) (sym at ∙ sym same) in
-    made ∙ ap (λ l. latest_writes (l ++ copy ∷ [])) so_far ∙ latest_and_more (take i ws) copy ∙ ap latest_writes (sym taken)
+buffer_taken ws i w copy old new below at same made so_far = grind (arith, nat_tests, take-suc, latest_and_more)
 
 -- ---- a write at its place
 
@@ -99,13 +87,7 @@ placed_from w (x ∷ ws) j i found = by (bytes_eq (key_of x) (key_of w)) (bytes_
 
 new_from : (w : Change) (ws : List Change) (j : ℕ) → position_from (λ x. bytes_eq (key_of x) (key_of w)) j ws ≡ None → with_write w ws ≡ ws ++ w ∷ []
 new_from w [] j none = refl
-new_from w (x ∷ ws) j none = by (bytes_eq (key_of x) (key_of w)) (bytes_eq-flip (key_of w) (key_of x)) (new_from w ws (j + 1)) none
-  where
-    by : (b : Bool) → bytes_eq (key_of w) (key_of x) ≡ b →
-        (position_from (λ y. bytes_eq (key_of y) (key_of w)) (j + 1) ws ≡ None → with_write w ws ≡ ws ++ w ∷ []) →
-        cond b (Some j) (position_from (λ y. bytes_eq (key_of y) (key_of w)) (j + 1) ws) ≡ None → with_write w (x ∷ ws) ≡ x ∷ ws ++ w ∷ []
-    by true same rest none = absurd (cc)
-    by false other rest none = ap (λ b. cond b (w ∷ ws) (x ∷ with_write w ws)) other ∙ ap (λ l. x ∷ l) (rest none)
+new_from w (x ∷ ws) j none = grind (arith, nat_tests, bytes_eq-flip, with_write, new_from w ws (j + 1))
 
 -- one write more of writes of distinct keys
 more_of_distinct : (w : Change) (ws : List Change) → IsDistinct bytes_eq (map key_of ws) → with_write w ws ≡ latest_writes (ws ++ w ∷ [])
@@ -114,19 +96,12 @@ more_of_distinct w ws distinct = ap (with_write w) (sym (latest_of_distinct ws d
 -- in the place of its key's
 pub replaced_write : (w : Change) (ws : List Change) (i : ℕ) → IsDistinct bytes_eq (map key_of ws) →
     position (λ x. bytes_eq (key_of x) (key_of w)) ws ≡ Some i → (i < length ws) × (set ws i w ≡ latest_writes (ws ++ w ∷ []))
-replaced_write w ws i distinct found =
-    let placed : IsPlaced w ws 0 i =
-    placed_from w ws 0 i (sym (position_from-zero (λ x. bytes_eq (key_of x) (key_of w)) ws) ∙ found) in
-    let at : placed.0 ≡ i = omega (arith, placed.1) in (
-      omega (arith, at, placed.2),
-      ap (λ (n : ℕ). set ws n w) (sym at) ∙ sym placed.3 ∙ more_of_distinct w ws distinct,
-    )
+replaced_write w ws i distinct found = grind (arith, nat_tests, placed_from, position_from-zero, more_of_distinct)
 
 -- or at the end
 pub added_write : (w : Change) (ws : List Change) → IsDistinct bytes_eq (map key_of ws) →
     position (λ x. bytes_eq (key_of x) (key_of w)) ws ≡ None → ws ++ w ∷ [] ≡ latest_writes (ws ++ w ∷ [])
-added_write w ws distinct none =
-    sym (new_from w ws 0 (sym (position_from-zero (λ x. bytes_eq (key_of x) (key_of w)) ws) ∙ none)) ∙ more_of_distinct w ws distinct
+added_write w ws distinct none = grind (arith, nat_tests, new_from, position_from-zero, more_of_distinct)
 
 -- the latest writes are of distinct keys
 pub distinct_latest : (ws latest : List Change) → latest ≡ latest_writes ws → IsDistinct bytes_eq (map key_of latest)
@@ -141,12 +116,7 @@ distinct_none ws none = subst (λ (l : List Change). IsDistinct bytes_eq (map ke
 -- a key that none of these writes has is new among theirs
 new_among : (key : List ℕ) (ws : List Change) (j : ℕ) → position_from (λ w. bytes_eq (key_of w) key) j ws ≡ None → IsNew key ws
 new_among key [] j none = tt
-new_among key (w ∷ ws) j none = by (bytes_eq (key_of w) key) (bytes_eq-flip key (key_of w)) (new_among key ws (j + 1)) none
-  where
-    by : (b : Bool) → bytes_eq key (key_of w) ≡ b → (position_from (λ v. bytes_eq (key_of v) key) (j + 1) ws ≡ None → IsNew key ws) →
-        cond b (Some j) (position_from (λ v. bytes_eq (key_of v) key) (j + 1) ws) ≡ None → IsNew key (w ∷ ws)
-    by true same rest none = absurd (cc)
-    by false other rest none = (other, rest none)
+new_among key (w ∷ ws) j none = grind (arith, nat_tests, bytes_eq-flip, new_among key ws (j + 1))
 
 apart_from : (w : Change) (ws : List Change) → position (λ v. bytes_eq (key_of v) (key_of w)) ws ≡ None → IsDistinct bytes_eq (map key_of ws) →
     IsDistinct bytes_eq (map key_of (w ∷ ws))
@@ -178,5 +148,4 @@ apart_where_none [] short = tt
 apart_where_none (w ∷ ws) short = absurd (omega arith)
 
 pub none_found : (o : Option ℕ) (b : Bool) → is_some o ≡ not b → b ≡ true → o ≡ None
-none_found None b is holds = refl
-none_found (Some n) b is holds = let none : true ≡ false = is ∙ ap (λ (x : Bool). not x) holds in absurd (cc)
+none_found o b is holds = grind (arith, nat_tests)

@@ -1,21 +1,21 @@
 -- A failed compare is a conflict.
-use Rattle.std.proofs.Common.{◌≡◌, ◌≢◌, ◌⊎◌, inl, inr, ℕ, suc, zero, ◌+◌, ◌<◌, ◌≤◌, List, [], ◌∷◌, ◌++◌, map, Bool, true, false, cond}
-use Rattle.std.proofs.Common.{Option, Some, None, refl, sym, ◌∙◌, ap, subst, arith}
+use Rattle.std.proofs.Common.{◌≡◌, ◌⊎◌, inl, inr, ℕ, suc, zero, ◌<◌, ◌≤◌, List, [], ◌∷◌, ◌++◌, map, Bool, true, false, cond}
+use Rattle.std.proofs.Common.{Option, Some, None, refl, sym, ◌∙◌, ap, arith}
 use Rattle.std.specs.Prelude.{nat_lt, nat_le, is_some, ◌&&◌, ◌||◌, slice_get}
-use Rattle.std.proofs.lemmas.Bool.{lt-ltb, ltb-true, ltb-false, leb-true, leb-false, or_right}
+use Rattle.std.proofs.lemmas.Bool.{lt-ltb, ltb-true, ltb-false, leb-true, leb-false, or_right, Decides.nat_tests}
 use Rattle.std.proofs.lemmas.Option.{same_Some}
 use Rattle.stm_history.specs.declared.change.Change.{Change}
 use Rattle.stm_history.specs.declared.key_state.KeyState.{KeyState}
 use Rattle.stm_history.specs.declared.key_state.ReadAnswer.{ReadAnswer}
 use Rattle.stm_history.specs.Opening.{Opening, opened_state}
-use Rattle.stm_history.specs.History.{History, key_now, key_at, key_after, mod_of, number_of_last, change_of, revisions_up_to, after_change, IsTrueAnswer, key_of}
+use Rattle.stm_history.specs.History.{History, key_now, key_after, mod_of, number_of_last, change_of, revisions_up_to, after_change, IsTrueAnswer}
 use Rattle.stm_history.proofs.HistoryLaws.{one_more, mod_is_reached}
 use Rattle.stm_program.specs.declared.level.Level.TheVariants.{SerializableSnapshot, Serializable, RepeatableReads, ReadCommitted}
 use Rattle.stm_outcome.specs.declared.txn.Compare.{Compare}
 use Rattle.stm_outcome.specs.declared.answer.FailedCompare.{FailedCompare}
 use Rattle.stm_outcome.specs.Compares.{holds}
 use Rattle.stm_outcome.specs.Laws.{FailsAt}
-use Rattle.stm_outcome.proofs.Applying.{mod_compares, failed_has_its_place}
+use Rattle.stm_outcome.proofs.Applying.{failed_has_its_place}
 use Rattle.stm_compile.specs.Answers.{AreTrue}
 use Rattle.stm_compile.specs.CommitTxn.{first_carried, is_as_read, is_unmodified, compares_of}
 use Rattle.stm_compile.specs.Conflicts.{changes_above, IsChangedAbove, Seen, seen_of_read, seen_of_write, seen_by, IsConflict}
@@ -24,13 +24,10 @@ use Rattle.stm_compile.specs.Laws.{FailedComparesConflict}
 -- ---- a key that no revision above changes is what it was
 
 no_change_of : (c : Option Change) → is_some c ≡ false → c ≡ None
-no_change_of None e = refl
-no_change_of (Some c) e = absurd (cc)
+no_change_of c e = grind (arith, nat_tests)
 
 neither_above : (above changed deeper : Bool) → ((above && changed) || deeper) ≡ false → (above ≡ true → changed ≡ false) × (deeper ≡ false)
-neither_above true true deeper e = absurd (cc)
-neither_above true false deeper e = (λ p. refl, e)
-neither_above false changed deeper e = (λ p. absurd (cc), e)
+neither_above above changed deeper e = grind (arith, nat_tests)
 
 pub unchanged_above : (opening : Opening) (r : ℕ) (key : List ℕ) (revisions : List (List Change)) → changes_above opening r key revisions ≡ false →
     key_after opening key (revisions_up_to opening r revisions) ≡ key_after opening key revisions
@@ -51,49 +48,24 @@ unchanged_above opening r key (changes ∷ older) none =
         let absent : change_of key changes ≡ None = no_change_of (change_of key changes) (quiet (lt-ltb r number below)) in
         deeper ∙ sym (one_more opening key changes older ∙ ap (λ c. after_change number c (key_after opening key older)) absent)
 
--- the history changes a key whose modification revision is another one than it was
-changed_since : (h : History) (r : ℕ) (key : List ℕ) → mod_of (key_now h key) ≢ mod_of (key_at h key r) → IsChangedAbove h r key
-changed_since h r key other = by (changes_above h.opening r key h.revisions) refl
-  where
-    by : (b : Bool) → changes_above h.opening r key h.revisions ≡ b → b ≡ true
-    by true e = refl
-    by false e = absurd (other (ap mod_of (sym (unchanged_above h.opening r key h.revisions e))))
-
 -- ---- a key is modified at most where it is looked at
 
 -- no later than at a revision, where what it was at the opening is so
 pub mod_at_small : (opening : Opening) (r : ℕ) (key : List ℕ) (revisions : List (List Change)) → mod_of (opened_state opening key) ≤ r →
     mod_of (key_after opening key (revisions_up_to opening r revisions)) ≤ r
 mod_at_small opening r key [] opened = opened
-mod_at_small opening r key (changes ∷ older) opened =
-    by (nat_le (number_of_last opening (changes ∷ older)) r) refl (mod_at_small opening r key older opened)
-  where
-    by : (b : Bool) → nat_le (number_of_last opening (changes ∷ older)) r ≡ b →
-        mod_of (key_after opening key (revisions_up_to opening r older)) ≤ r →
-        mod_of (key_after opening key (cond b (changes ∷ older) (revisions_up_to opening r older))) ≤ r
-    by true at deeper =
-        let within : number_of_last opening (changes ∷ older) ≤ r = leb-true (number_of_last opening (changes ∷ older)) r at in
-        let small : mod_of (key_after opening key (changes ∷ older)) ≤ number_of_last opening (changes ∷ older) =
-        mod_is_reached opening key (changes ∷ older) in
-        omega (arith, within, small)
-    by false at deeper = deeper
+mod_at_small opening r key (changes ∷ older) opened = grind (arith, nat_tests, leb-true, mod_is_reached, mod_at_small opening r key older opened)
 
 -- one more change, or none, of a key that is modified above a revision
 either_above : (r number : ℕ) (change : Option Change) (before : Option KeyState) (deeper : Bool) → r < number →
     (r < mod_of before → deeper ≡ true) → r < mod_of (after_change number change before) → ((nat_lt r number && is_some change) || deeper) ≡ true
-either_above r number None before deeper reached rest above = or_right (nat_lt r number && false) deeper (rest above)
-either_above r number (Some c) before deeper reached rest above = ap (λ b. (b && true) || deeper) (lt-ltb r number reached)
+either_above r number change before deeper reached rest above = grind (arith, nat_tests, or_right, lt-ltb)
 
 -- a modification revision is that of a revision, or of the state that the history opens with
 modified_above : (opening : Opening) (r : ℕ) (key : List ℕ) (revisions : List (List Change)) → r < mod_of (key_after opening key revisions) →
     changes_above opening r key revisions ≡ true
 modified_above opening r key [] above = lt-ltb r (mod_of (opened_state opening key)) above
-modified_above opening r key (changes ∷ older) above =
-    let number : ℕ = number_of_last opening (changes ∷ older) in
-    let reached : mod_of (key_after opening key (changes ∷ older)) ≤ number = mod_is_reached opening key (changes ∷ older) in
-    either_above r number (change_of key changes) (key_after opening key older) (changes_above opening r key older)
-    (omega (arith, reached, above)) (modified_above opening r key older)
-    (subst (λ (s : Option KeyState). r < mod_of s) (one_more opening key changes older) above)
+modified_above opening r key (changes ∷ older) above = grind (arith, nat_tests, mod_is_reached, either_above, one_more, modified_above opening r key older)
 
 -- ---- what a compare at a place is about
 
@@ -120,8 +92,7 @@ of_either : (h : History) (first : ℕ) (reads : List ReadAnswer) (ws : List Cha
     IsOfRead h c (slice_get (map seen_of_read reads ++ map (seen_of_write first) ws) i)
     ⊎ IsOfWrite first c (slice_get (map seen_of_read reads ++ map (seen_of_write first) ws) i)
 of_either h first [] ws i c t at = inr (of_write first ws i c at)
-of_either h first (a ∷ reads) ws zero c t at =
-    inl (record { answer = a; is_true = t.0; compares = same_Some c (is_as_read a) (sym at); stands = refl })
+of_either h first (a ∷ reads) ws zero c t at = grind (arith, nat_tests, same_Some)
 of_either h first (a ∷ reads) ws (suc i) c t at = of_either h first reads ws i c t.1 at
 
 of_read : (h : History) (reads : List ReadAnswer) (more : List Seen) (i : ℕ) (c : Compare) → AreTrue h reads →
@@ -133,42 +104,17 @@ of_read h (a ∷ reads) more (suc i) c t at = of_read h reads more i c t.1 at
 -- ---- a failed compare
 
 read_changed : (h : History) (a : ReadAnswer) → IsTrueAnswer h a → holds (is_as_read a) (key_now h a.key) ≡ false → IsChangedAbove h a.of_rev a.key
-read_changed h a t fails = changed_since h a.of_rev a.key (λ same.
-    let held : holds (is_as_read a) (key_now h a.key) ≡ true =
-    (mod_compares.equal a.key (mod_of a.kv) (key_now h a.key)).1 (same ∙ ap mod_of t.shown) in
-    absurd (cc))
-
-write_modified : (h : History) (first : ℕ) (w : Change) → holds (is_unmodified first w) (key_now h (key_of w)) ≡ false →
-    IsChangedAbove h first (key_of w)
-write_modified h first w fails = modified_above h.opening first (key_of w) h.revisions (by (nat_lt first (mod_of (key_now h (key_of w)))) refl)
-  where
-    by : (b : Bool) → nat_lt first (mod_of (key_now h (key_of w))) ≡ b → first < mod_of (key_now h (key_of w))
-    by true e = ltb-true first (mod_of (key_now h (key_of w))) e
-    by false e =
-        let within : mod_of (key_now h (key_of w)) ≤ first = ltb-false first (mod_of (key_now h (key_of w))) e in
-        let held : holds (is_unmodified first w) (key_now h (key_of w)) ≡ true =
-        (mod_compares.below (key_of w) (first + 1) (key_now h (key_of w))).1 (omega (arith, within)) in
-        absurd (cc)
+read_changed h a t fails = grind (arith, nat_tests, unchanged_above)
 
 read_conflicts : (h : History) (reads : List ReadAnswer) (ws : List Change) (failed : FailedCompare) (c : Compare) →
     holds c (key_now h c.key) ≡ false → failed.mod_rev ≡ mod_of (key_now h c.key) → IsOfRead h c (slice_get (seen_by reads ws) failed.index) →
     IsConflict h reads ws failed
-read_conflicts h reads ws failed c fails reported of = record {
-  seen = seen_of_read of.answer;
-  about = of.stands;
-  reported = subst (λ (d : Compare). failed.mod_rev ≡ mod_of (key_now h d.key)) of.compares reported;
-  changed = read_changed h of.answer of.is_true (subst (λ (d : Compare). holds d (key_now h d.key) ≡ false) of.compares fails);
-}
+read_conflicts h reads ws failed c fails reported of = grind (arith, nat_tests, read_changed)
 
 write_conflicts : (h : History) (reads : List ReadAnswer) (ws : List Change) (failed : FailedCompare) (c : Compare) →
     holds c (key_now h c.key) ≡ false → failed.mod_rev ≡ mod_of (key_now h c.key) →
     IsOfWrite (first_carried reads) c (slice_get (seen_by reads ws) failed.index) → IsConflict h reads ws failed
-write_conflicts h reads ws failed c fails reported of = record {
-  seen = seen_of_write (first_carried reads) of.write;
-  about = of.stands;
-  reported = subst (λ (d : Compare). failed.mod_rev ≡ mod_of (key_now h d.key)) of.compares reported;
-  changed = write_modified h (first_carried reads) of.write (subst (λ (d : Compare). holds d (key_now h d.key) ≡ false) of.compares fails);
-}
+write_conflicts h reads ws failed c fails reported of = grind (arith, nat_tests, modified_above, ltb-true, ltb-false)
 
 either_conflicts : (h : History) (reads : List ReadAnswer) (ws : List Change) (failed : FailedCompare) (c : Compare) →
     holds c (key_now h c.key) ≡ false → failed.mod_rev ≡ mod_of (key_now h c.key) →

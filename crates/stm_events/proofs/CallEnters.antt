@@ -1,6 +1,6 @@
 -- What a call leaves of the store is what its entries replay to.
-use Rattle.std.proofs.Common.{◌≡◌, ℕ, ◌≤◌, Bool, true, false, cond, List, [], ◌∷◌, Option, Ok, refl, sym, ap, arith}
-use Rattle.std.proofs.lemmas.Bool.{ltb-true, ltb-false}
+use Rattle.std.proofs.Common.{◌≡◌, ℕ, ◌≤◌, Bool, true, false, cond, List, [], ◌∷◌, Option, Ok, refl, ap, arith}
+use Rattle.std.proofs.lemmas.Bool.{ltb-true, ltb-false, Decides.nat_tests}
 use Rattle.std.specs.Prelude.{nat_lt, is_some}
 use Rattle.stm_history.specs.declared.change.Change.{Change}
 use Rattle.stm_history.specs.History.{History, now, HasDistinctKeys}
@@ -31,11 +31,7 @@ pub nothing_enters : (s : Standing) → Enters s s []
 nothing_enters s = record { replays = refl; legal = tt; limit = refl }
 
 same_history : (h after : History) (changes : List Change) → after ≡ with_changes h changes → nat_lt (now h) (now after) ≡ false → h ≡ after
-same_history h after [] is still = sym is
-same_history h after (c ∷ cs) is still =
-    let no_higher : now after ≤ now h = ltb-false (now h) (now after) still in
-    let higher : now after ≡ now (with_changes h (c ∷ cs)) = ap now is in
-    absurd (omega arith)
+same_history h after changes is still = grind (arith, nat_tests, ltb-false)
 
 changed_enters : (s : Standing) (txn : TxnMade) (done : Done) (b : Bool) → s.limit ≤ most_operations → outcome (terms_of s) txn ≡ Ok done →
     nat_lt (now s.history) (now done.history) ≡ b → Enters s (record s { history = done.history }) (cond b (Foreign txn ∷ []) [])
@@ -61,8 +57,7 @@ IsReplayed s (Txn txn) = s.limit ≤ most_operations
 IsReplayed s other = Unit {0}
 
 pub few_are_replayed : (s : Standing) (c : Call) → s.limit ≤ most_operations → IsReplayed s c
-few_are_replayed s (Txn txn) few = few
-few_are_replayed s other few = tt
+few_are_replayed s other few = grind (arith, nat_tests)
 
 enter : CallMeans (λ c. Unit {0}) (λ s c d more. IsReplayed s c → Enters s d.next more)
 enter = record {

@@ -1,7 +1,7 @@
 -- What holds of what every call of the store comes to: its reply, the store after it, and its entries.
-use Rattle.std.proofs.Common.{◌≡◌, ℕ, zero, suc, ◌+◌, ◌-◌, Bool, true, false, cond, List, [], ◌∷◌, ◌++◌, length, Option, Some, None, Ok, Err, refl, sym, ◌∙◌, ap, subst, arith}
-use Rattle.std.proofs.lemmas.Bool.{le-ltb}
-use Rattle.std.specs.Prelude.{nat_eq, nat_le, nat_lt, slice_set, Result}
+use Rattle.std.proofs.Common.{◌≡◌, ℕ, zero, suc, ◌+◌, ◌-◌, Bool, true, false, cond, List, [], ◌∷◌, ◌++◌, length, Option, Some, None, Ok, Err, refl, sym, ap, subst, arith}
+use Rattle.std.proofs.lemmas.Bool.{le-ltb, Decides.nat_tests}
+use Rattle.std.specs.Prelude.{nat_le, nat_lt, slice_set, Result}
 use Rattle.std.specs.FinMap as finmap
 use Rattle.stm_history.specs.History.{now}
 use Rattle.stm_leases.specs.LeaseLog.{Term}
@@ -12,7 +12,6 @@ use Rattle.stm_watch.specs.declared.watched.Watched.{Watched}
 use Rattle.stm_watch.specs.Watching.{Watching}
 use Rattle.stm_watch.specs.declared.refusal.WatchRefusal.TheVariants.{EmptyKey}
 use Rattle.stm_watch.specs.declared.refusal.PollRefusal.TheVariants.{Compacted as LostToPoll}
-use Rattle.stm_watch.specs.Keys.{first_key}
 use Rattle.stm_watch.specs.Pending.{watching_from, batch_of, after_poll}
 use Rattle.stm_watch.specs.Calls.{poll_found, watcher_at, is_one_lost, cancelled as without_watcher}
 use Rattle.stm_outcome.specs.declared.txn.Txn.{Txn as TxnMade}
@@ -133,8 +132,7 @@ txn_by Of P k s txn (Err cause) of is = subst (P s (Txn txn) (refused cause s)) 
 grant_by : (Of : Call → Type 0) (P : Standing → Call → Called → List Entry → Type 0) → CallMeans Of P → (s : Standing) (id ttl : ℕ) (o : Option GrantError) →
     Of (Grant id ttl) → grant_refusal s.live id ttl ≡ o →
     P s (Grant id ttl) (plainly (λ _. reply.Granted id) s (granted_by s id ttl o)) (if_taken (granted_by s id ttl o) (GrantEntry id ttl s.moment))
-grant_by Of P k s id ttl None of is = k.granted s id ttl of is
-grant_by Of P k s id ttl (Some cause) of is = k.stays s (Grant id ttl) (grant_refusal_of cause) of refl
+grant_by Of P k s id ttl o of is = grind (arith, nat_tests)
 
 keep_by : (Of : Call → Type 0) (P : Standing → Call → Called → List Entry → Type 0) → CallMeans Of P → (s : Standing) (id : ℕ) (o : Option Term) →
     Of (Keep id) → finmap.get s.live id ≡ o →
@@ -156,16 +154,12 @@ ended_by : (Of : Call → Type 0) (P : Standing → Call → Called → List Ent
     Of (Advance moment) → s.moment ≡ moment → is_used_up s.history (deletions_of s.history id) ≡ used → is_live_in s.live id ≡ true →
     ((next : Standing) → next.moment ≡ moment → Comes P next moment (expire_up_to many next)) →
     Comes P s moment (advance_ended many s id (cond used (Err RevisionsUsedUp) (Ok (without_lease s id))))
-ended_by Of P k many s moment id true of at room live goes = k.stuck s moment of at
-ended_by Of P k many s moment id false of at room live goes =
-    k.expired s moment id (expire_up_to many (without_lease s id)) of at live room (goes (without_lease s id) at)
+ended_by Of P k many s moment id used of at room live goes = grind (arith, nat_tests)
 
 due_by : (Of : Call → Type 0) (P : Standing → Call → Called → List Entry → Type 0) → CallMeans Of P → (many : ℕ) (s : Standing) (moment : ℕ) (o : Option ℕ) →
     Of (Advance moment) → s.moment ≡ moment → first_due s.live s.moment ≡ o → ((next : Standing) → next.moment ≡ moment → Comes P next moment (expire_up_to many next)) →
     Comes P s moment (advance_due many s o)
-due_by Of P k many s moment None of at due goes = k.rested s moment of at
-due_by Of P k many s moment (Some id) of at due goes =
-    ended_by Of P k many s moment id (is_used_up s.history (deletions_of s.history id)) of at refl (due_lives s.live s.moment id due) goes
+due_by Of P k many s moment o of at due goes = grind (arith, nat_tests, ended_by, due_lives)
 
 -- at most so many expiries of a store that stands at the moment
 pub expiries_mean : (Of : Call → Type 0) (P : Standing → Call → Called → List Entry → Type 0) → CallMeans Of P → (many : ℕ) (s : Standing) (moment : ℕ) →
@@ -176,9 +170,7 @@ expiries_mean Of P k (suc many) s moment of at =
 
 advance_by : (Of : Call → Type 0) (P : Standing → Call → Called → List Entry → Type 0) → CallMeans Of P → (s : Standing) (moment : ℕ) (back : Bool) →
     Of (Advance moment) → nat_lt moment s.moment ≡ back → Comes P s moment (advance_back s moment back)
-advance_by Of P k s moment true of is = k.went_back s moment of is
-advance_by Of P k s moment false of is =
-    k.moved s moment (expire_all (at_moment s moment)) of is (expiries_mean Of P k (finmap.len s.live) (at_moment s moment) moment of refl)
+advance_by Of P k s moment back of is = grind (arith, nat_tests, expiries_mean)
 
 watch_by : (Of : Call → Type 0) (P : Standing → Call → Called → List Entry → Type 0) → CallMeans Of P → (s : Standing) (keys : Watched) (from : ℕ) (empty : Bool) →
     Of (Watch keys from) → P s (Watch keys from) (plainly reply.Watching s (watch_step s (cond empty (Err EmptyKey) (Ok record {
@@ -199,10 +191,7 @@ found_by : (Of : Call → Type 0) (P : Standing → Call → Called → List Ent
       answer = batch_of most s.history w;
       next = slice_set s.watchers (id - 1) (Some (after_poll most s.history w));
     }))) in P s (Poll id most) (record { reply = poll_reply id s.floor r; next = store_after_poll id s r }) [])
-found_by Of P k s id most w true of is found =
-    subst (λ (b : Bool). P s (Poll id most) (taken (reply.Lost id s.floor) (with_watchers s (cond b (without_watcher id s.watchers) s.watchers))) [])
-    (sym (ap is_one_lost found ∙ is)) (k.lost s id most w of found is)
-found_by Of P k s id most w false of is found = k.polled s id most w of found is
+found_by Of P k s id most w lost of is found = grind (arith, nat_tests)
 
 poll_by : (Of : Call → Type 0) (P : Standing → Call → Called → List Entry → Type 0) → CallMeans Of P → (s : Standing) (id most : ℕ) (o : Option Watching) →
     Of (Poll id most) → watcher_at id s.watchers ≡ o → PollMeans P s id most o
@@ -226,12 +215,4 @@ compact_by Of P k s revision false false of above reached = k.raised s revision 
 
 pub call_means : (Of : Call → Type 0) (P : Standing → Call → Called → List Entry → Type 0) → CallMeans Of P → (s : Standing) (c : Call) → Of c →
     P s c (called s c) (entered s c)
-call_means Of P k s (Txn txn) of = txn_by Of P k s txn (outcome (terms_of s) txn) of refl
-call_means Of P k s (Grant id ttl) of = grant_by Of P k s id ttl (grant_refusal s.live id ttl) of refl
-call_means Of P k s (Keep id) of = keep_by Of P k s id (finmap.get s.live id) of refl
-call_means Of P k s (Revoke id) of = revoke_by Of P k s id (is_live_in s.live id) (is_used_up s.history (deletions_of s.history id)) of refl refl
-call_means Of P k s (Advance moment) of = advance_by Of P k s moment (nat_lt moment s.moment) of refl
-call_means Of P k s (Watch keys from) of = watch_by Of P k s keys from (nat_eq (length (first_key keys)) 0) of
-call_means Of P k s (Poll id most) of = poll_by Of P k s id most (watcher_at id s.watchers) of refl
-call_means Of P k s (Cancel id) of = cancel_by Of P k s id (watcher_at id s.watchers) of
-call_means Of P k s (Compact revision) of = compact_by Of P k s revision (nat_le revision s.floor) (nat_lt (now s.history) revision) of refl refl
+call_means Of P k s c of = grind (arith, nat_tests, txn_by, grant_by, keep_by, revoke_by, advance_by, watch_by, poll_by, cancel_by, compact_by)

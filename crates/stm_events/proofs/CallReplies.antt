@@ -1,6 +1,7 @@
 -- What holds of the reply to every call of the store, and that what is entered is what the reply reports.
-use Rattle.std.proofs.Common.{◌≡◌, ℕ, List, [], Option, Some, None, Ok, Err, cond, refl, sym, ap}
-use Rattle.std.specs.Prelude.{Bool, true, false, Result, slice_set, ◌-◌}
+use Rattle.std.proofs.Common.{◌≡◌, ℕ, List, [], Option, Some, None, Ok, Err, cond, refl, arith}
+use Rattle.std.specs.Prelude.{Bool, Result, slice_set, ◌-◌}
+use Rattle.std.proofs.lemmas.Bool.Decides.{nat_tests}
 use Rattle.stm_watch.specs.Watching.{Watching}
 use Rattle.stm_watch.specs.declared.watchers.Batch.{Batch}
 use Rattle.stm_watch.specs.declared.refusal.PollRefusal.TheVariants.{Compacted as LostToPoll}
@@ -11,8 +12,7 @@ use Rattle.stm_outcome.specs.declared.refusal.Refusal.{Refusal}
 use Rattle.stm_outcome.specs.declared.refusal.Refusal.TheVariants.{NoWatcher}
 use Rattle.stm_txn.specs.Standing.{Standing, Step, transacted, granted, kept_alive, revoked, advanced, watched, polled, poll_step, cancelled, raised}
 use Rattle.stm_entries.specs.declared.entry.Entry.{Entry}
-use Rattle.stm_entries.specs.declared.entry.Entry.TheVariants.{Grant as GrantEntry, Renew, Revoke as RevokeEntry}
-use Rattle.stm_entries.specs.Entered.{if_taken, expiries}
+use Rattle.stm_entries.specs.Entered.{if_taken}
 use Rattle.stm_events.specs.declared.reply.Reply.{Reply}
 use Rattle.stm_events.specs.declared.reply.Reply.TheVariants as reply
 use Rattle.stm_events.specs.declared.refusal.Denied.{Denied}
@@ -23,8 +23,7 @@ use Rattle.stm_events.specs.Called.{Call, Txn, Grant, Keep, Revoke, Advance, Wat
 
 by_lost : (P : Result Reply Denied → Type 0) (s : Standing) (id : ℕ) (lost : Bool) (step : WatchStep Batch) → P (Ok (batch_reply id step.answer)) →
     P (Ok (reply.Lost id s.floor)) → P (poll_reply id s.floor (poll_step s (cond lost (Err LostToPoll) (Ok step))))
-by_lost P s id true step batch lost = lost
-by_lost P s id false step batch lost = batch
+by_lost P s id lost step batch h7 = grind (arith, nat_tests)
 
 by_place : (P : Result Reply Denied → Type 0) (s : Standing) (id most : ℕ) (o : Option Watching) → ((batch : Batch) → P (Ok (batch_reply id batch))) →
     P (Ok (reply.Lost id s.floor)) → P (denied (event_refusal NoWatcher)) → P (poll_reply id s.floor (poll_step s (poll_found s.history id most s.watchers o)))
@@ -47,12 +46,10 @@ pub record OfCalls (P : Result Reply Denied → Type 0) : Type 0 where
 
 by_answer : (P : Result Reply Denied → Type 0) → OfCalls P → {A : Type 0} (report : A → Reply) (o : Result (Step A) Refusal) →
     ((answer : A) → runner_named (report answer) ≡ None) → P (reply_to report o)
-by_answer P k report (Ok done) none = k.told (report done.answer) (none done.answer)
-by_answer P k report (Err cause) none = k.refused cause []
+by_answer P k report o none = grind (arith, nat_tests)
 
 by_cause : (P : Result Reply Denied → Type 0) → OfCalls P → (moment : ℕ) (expired : List Expired) (cause : Option Refusal) → P (advance_reply moment expired cause)
-by_cause P k moment expired None = k.told (reply.Advanced moment expired) refl
-by_cause P k moment expired (Some cause) = k.refused cause expired
+by_cause P k moment expired cause = grind (arith, nat_tests)
 
 -- holds of the reply to every call
 pub call_replies : (P : Result Reply Denied → Type 0) → OfCalls P → (s : Standing) (c : Call) → P (called s c).reply
@@ -71,18 +68,11 @@ call_replies P k s (Compact revision) = by_answer P k (λ _. reply.Compacted rev
 
 -- an entry of the call is one of its reply
 call_entered : {A : Type 0} (report : A → Reply) (o : Result (Step A) Refusal) (entry : Entry) → if_taken o entry ≡ if_reported (reply_to report o) entry
-call_entered report (Ok done) entry = refl
-call_entered report (Err cause) entry = refl
+call_entered report o entry = grind (arith, nat_tests)
 
 -- an advance reports what expired, also where it was refused
 pub expiries_reported : (moment : ℕ) (expired : List Expired) (cause : Option Refusal) → expired_reported (advance_reply moment expired cause) ≡ expired
-expiries_reported moment expired None = refl
-expiries_reported moment expired (Some cause) = refl
+expiries_reported moment expired cause = grind (arith, nat_tests)
 
 pub entered_is : (s : Standing) (c : Call) → entered s c ≡ entered_by c s (called s c).next (called s c).reply
-entered_is s (Txn txn) = refl
-entered_is s (Grant id ttl) = call_entered (λ _. reply.Granted id) (granted s id ttl) (GrantEntry id ttl s.moment)
-entered_is s (Keep id) = call_entered (λ _. reply.Kept id) (kept_alive s id) (Renew id s.moment)
-entered_is s (Revoke id) = call_entered (reply.Revoked id) (revoked s id) (RevokeEntry id)
-entered_is s (Advance moment) = ap expiries (sym (expiries_reported moment (advanced s moment).expired (advanced s moment).cause))
-entered_is s _ = refl
+entered_is s c = grind (arith, nat_tests, call_entered, expiries_reported)

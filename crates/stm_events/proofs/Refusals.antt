@@ -1,5 +1,6 @@
 -- Each refusal of the store is reported under a name of its own.
-use Rattle.std.proofs.Common.{◌≡◌, Option, None, Some, refl, sym, ◌∙◌, ap}
+use Rattle.std.proofs.Common.{◌≡◌, Option, None, Some, sym, ◌∙◌, ap, arith}
+use Rattle.std.proofs.lemmas.Bool.Decides.{nat_tests}
 use Rattle.stm_outcome.specs.declared.refusal.Refusal.{Refusal as StoreRefusal}
 use Rattle.stm_outcome.specs.declared.refusal.Refusal.TheVariants as store
 use Rattle.stm_events.specs.declared.refusal.EventRefusal.{EventRefusal}
@@ -24,8 +25,7 @@ store_cause event.TimeGoesBack = Some store.TimeGoesBack
 store_cause other = None
 
 pub cause_again : (cause : StoreRefusal) → store_cause (event_refusal cause) ≡ Some cause
-cause_again store.OutOfMemory = refl
-cause_again _ = refl
+cause_again cause = grind (arith, nat_tests)
 
 pub one_cause : (a b : StoreRefusal) → event_refusal a ≡ event_refusal b → a ≡ b
 one_cause a b same = let e : Some a ≡ Some b = sym (cause_again a) ∙ ap store_cause same ∙ cause_again b in cc

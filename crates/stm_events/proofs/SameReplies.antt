@@ -1,9 +1,9 @@
 -- What `==` says of two replies, and of two lines.
-use Rattle.std.proofs.Common.{rules, ◌≡◌, Decides, Bool, true, false, List, Option, Some, None, Result, Ok, Err, refl}
+use Rattle.std.proofs.Common.{rules, ◌≡◌, Decides, Bool, List, Option, Result, Ok, Err, refl, arith}
 use Rattle.std.specs.Option.{option_eq}
 use Rattle.std.specs.Result.{result_eq}
 use Rattle.std.specs.Cmp.Lexicographic.{pointwise}
-use Rattle.std.proofs.lemmas.Bool.Decides.{Decides-like, Decides-and, Decides-eqb}
+use Rattle.std.proofs.lemmas.Bool.Decides.{Decides-like, Decides-and, Decides-eqb, nat_tests}
 use Rattle.std.proofs.lemmas.Slice.Eq.{bytes_eq-Decides, slice_eq-Decides}
 use denote.Enum.Bare.{sameb}
 use mathlib.Core.Bool.{beq}
@@ -29,30 +29,22 @@ use Rattle.stm_events.specs.contracts.reply.KeyReadPartialEq.TheImpl.{eq-value a
 use Rattle.stm_events.specs.declared.reply.CommittedRead.{CommittedRead}
 use Rattle.stm_events.specs.contracts.reply.CommittedReadPartialEq.TheImpl.{eq-value as eq-committed_read}
 use Rattle.stm_events.specs.declared.reply.OpReply.{OpReply}
-use Rattle.stm_events.specs.declared.reply.OpReply.TheVariants.{Get, Put, Del}
 use Rattle.stm_events.specs.contracts.reply.OpReplyPartialEq.TheImpl.{eq-value as eq-op}
 use Rattle.stm_events.specs.declared.reply.Reply.{Reply}
-use Rattle.stm_events.specs.declared.reply.Reply.TheVariants.{Started, Prefetched, Fetched, Committed, Conflict, GaveUp, Aborted, Faulted, Ended}
-use Rattle.stm_events.specs.declared.reply.Reply.TheVariants.{Txn, Granted, Kept, Revoked, Advanced, Compacted, Watching, Batch, Cancelled, Lost}
 use Rattle.stm_events.specs.contracts.reply.ReplyPartialEq.TheImpl.{eq-value as eq-reply}
 use Rattle.stm_events.specs.declared.refusal.Denied.{Denied}
 use Rattle.stm_events.specs.contracts.refusal.DeniedPartialEq.TheImpl.{eq-value as eq-denied}
 use Rattle.stm_events.specs.declared.line.ReportLine.{ReportLine}
-use Rattle.stm_events.specs.declared.line.ReportLine.TheVariants.{Event, Key, Lease, End}
 use Rattle.stm_events.specs.contracts.line.ReportLinePartialEq.TheImpl.{eq-value as eq-line}
 
 pub lists_decide : {A : Type 0} {E : A → A → Bool} → ((a b : A) → Decides (E a b) (a ≡ b)) → (xs ys : List A) → Decides (pointwise E xs ys) (xs ≡ ys)
 lists_decide each xs ys = slice_eq-Decides each xs ys _ refl
 
 options_decide : {A : Type 0} {E : A → A → Bool} → ((a b : A) → Decides (E a b) (a ≡ b)) → (x y : Option A) → Decides (option_eq E x y) (x ≡ y)
-options_decide each None None = (λ e. refl, λ e. refl)
-options_decide each (Some a) (Some b) = search (rules, each)
-options_decide each a b = (λ e. cc, λ e. cc)
+options_decide each a b = grind (arith, nat_tests)
 
 flags_decide : (a b : Bool) → Decides (beq a b) (a ≡ b)
-flags_decide true true = (λ e. refl, λ e. refl)
-flags_decide false false = (λ e. refl, λ e. refl)
-flags_decide a b = (λ e. cc, λ e. cc)
+flags_decide a b = grind (arith, nat_tests)
 
 pub faults_decide : (a b : Fault) → Decides (sameb fault_type a b) (a ≡ b)
 faults_decide a b = search rules
@@ -73,10 +65,7 @@ pub states_decide : (x y : Option KeyState) → Decides (option_eq eq-state.it x
 states_decide = options_decide state_decides
 
 op_decides : (a b : OpReply) → Decides (eq-op.it a b) (a ≡ b)
-op_decides (Get r kv) (Get n other) = search (rules, Decides-eqb, states_decide)
-op_decides Put Put = (λ e. refl, λ e. refl)
-op_decides (Del n) (Del m) = search (rules, Decides-eqb)
-op_decides a b = (λ e. cc, λ e. cc)
+op_decides a b = grind (arith, nat_tests, Decides-eqb, states_decide)
 
 pub values_decide : (xs ys : List Value) → Decides (pointwise eq-value.it xs ys) (xs ≡ ys)
 values_decide = lists_decide value_decides
@@ -100,28 +89,8 @@ expiries_decide : (xs ys : List Expired) → Decides (pointwise eq-expired.it xs
 expiries_decide = lists_decide expired_decides
 
 pub reply_decides : (a b : Reply) → Decides (eq-reply.it a b) (a ≡ b)
-reply_decides (Started a) (Started b) = search (rules, Decides-eqb)
-reply_decides (Prefetched a r ks) (Prefetched b n ls) = search (rules, Decides-eqb, key_reads_decide)
-reply_decides (Fetched a k m o r) (Fetched b q n p t) = search (rules, bytes_eq-Decides, Decides-eqb)
-reply_decides (Committed a r n output trace xs) (Committed b s m other items ys) =
-    search (rules, Decides-eqb, values_decide, items_decide, committed_reads_decide)
-reply_decides (Conflict a k s n) (Conflict b q t m) = search (rules, bytes_eq-Decides, Decides-eqb)
-reply_decides (GaveUp a x k s n) (GaveUp b y q t m) = search (rules, bytes_eq-Decides, Decides-eqb)
-reply_decides (Aborted a t) (Aborted b u) = search (rules, bytes_eq-Decides, Decides-eqb)
-reply_decides (Faulted a f) (Faulted b g) = search (rules, Decides-eqb, faults_decide)
-reply_decides (Ended a c) (Ended b d) =
-    Decides-like _ (λ same. λ i. Ended (same.0 i) (same.1 i)) (λ e. (cc, cc)) (Decides-and _ _ (Decides-eqb a b) (causes_decide c d))
-reply_decides (Txn h r xs) (Txn i s ys) = search (rules, flags_decide, Decides-eqb, ops_decide)
-reply_decides (Granted a) (Granted b) = search (rules, Decides-eqb)
-reply_decides (Kept a) (Kept b) = search (rules, Decides-eqb)
-reply_decides (Revoked a r) (Revoked b s) = search (rules, Decides-eqb)
-reply_decides (Advanced n xs) (Advanced m ys) = search (rules, Decides-eqb, expiries_decide)
-reply_decides (Compacted r) (Compacted s) = search (rules, Decides-eqb)
-reply_decides (Watching w) (Watching v) = search (rules, Decides-eqb)
-reply_decides (Batch w u es) (Batch v t fs) = search (rules, Decides-eqb, events_decide)
-reply_decides (Cancelled w) (Cancelled v) = search (rules, Decides-eqb)
-reply_decides (Lost w f) (Lost v g) = search (rules, Decides-eqb)
-reply_decides a b = (λ e. cc, λ e. cc)
+reply_decides a b =
+    grind (arith, nat_tests, Decides-eqb, key_reads_decide, bytes_eq-Decides, values_decide, items_decide, committed_reads_decide, faults_decide, Decides-like, Decides-and, causes_decide, flags_decide, ops_decide, expiries_decide, events_decide)
 
 denied_decides : (a b : Denied) → Decides (eq-denied.it a b) (a ≡ b)
 denied_decides a b = search (rules, causes_decide, expiries_decide)
@@ -132,8 +101,4 @@ outcome_decides (Err d) (Err e) = search (rules, denied_decides)
 outcome_decides a b = (λ e. cc, λ e. cc)
 
 pub line_decides : (a b : ReportLine) → Decides (eq-line.it a b) (a ≡ b)
-line_decides (Event n r) (Event m s) = search (rules, Decides-eqb, outcome_decides)
-line_decides (Key k s) (Key q t) = search (rules, bytes_eq-Decides, state_decides)
-line_decides (Lease i t r) (Lease j u s) = search (rules, Decides-eqb)
-line_decides (End r n) (End s m) = search (rules, Decides-eqb)
-line_decides a b = (λ e. cc, λ e. cc)
+line_decides a b = grind (arith, nat_tests, Decides-eqb, outcome_decides, bytes_eq-Decides, state_decides)

@@ -6,7 +6,7 @@ use crate::forms::{
 };
 use crate::messages::Said;
 use std::alloc::{AllocError, Global};
-use strsim::levenshtein;
+use strsim::osa_distance;
 
 /// A word of more bytes than this has no near miss.
 const MOST_NEAR: usize = 60;
@@ -48,7 +48,7 @@ pub(crate) fn parts_after(part: Part, word: &str) -> Option<Parts> {
     Some(form_of(part, word)?.parts)
 }
 
-/// The word of these that is nearest to one, by edits of characters: an empty one, where each is further than half of the word.
+/// The word of these that is nearest to one, by edits of characters and exchanges of two neighbours: an empty one, where each is further than half of the word.
 fn nearest(alloc: Global, entries: &[Entry], word: &str) -> Result<&'static str, AllocError> {
     let mut found = "";
     if word.len() > MOST_NEAR {
@@ -56,7 +56,7 @@ fn nearest(alloc: Global, entries: &[Entry], word: &str) -> Result<&'static str,
     }
     let mut least = word.chars().count() / 2 + 1;
     for entry in entries {
-        let distance = levenshtein(alloc, word, entry.0)?;
+        let distance = osa_distance(alloc, word, entry.0)?;
         if distance < least {
             least = distance;
             found = entry.0;

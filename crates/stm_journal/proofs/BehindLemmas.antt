@@ -1,19 +1,17 @@
 -- What a fetch answers, and that it changes nothing.
-use Rattle.std.proofs.Common.{◌≡◌, inl, inr, ℕ, ◌<◌, ◌≤◌, List, [], ◌∷◌, Bool, true, cond, Option, Some, None, Result, Ok, Err, refl, sym, ◌∙◌, ap, subst}
-use Rattle.std.proofs.lemmas.Bool.{lt-ltb, le-ltb, false≢true}
+use Rattle.std.proofs.Common.{◌≡◌, inl, ℕ, ◌<◌, ◌≤◌, List, [], ◌∷◌, Bool, true, cond, Result, Ok, Err, refl, sym, ◌∙◌, ap, arith}
+use Rattle.std.proofs.lemmas.Bool.{lt-ltb, le-ltb, false≢true, Decides.nat_tests}
 use Rattle.std.specs.List.{list_all}
 use Rattle.stm_history.specs.declared.key_state.ReadAnswer.{ReadAnswer}
-use Rattle.stm_history.specs.History.{History, now, key_now}
+use Rattle.stm_history.specs.History.{History, now}
 use Rattle.stm_outcome.specs.declared.txn.Txn.{Txn}
 use Rattle.stm_outcome.specs.declared.txn.Op.{Op}
 use Rattle.stm_outcome.specs.declared.txn.Op.TheVariants.{Get, Put, Del}
 use Rattle.stm_outcome.specs.declared.answer.TxnAnswer.{TxnAnswer}
-use Rattle.stm_outcome.specs.declared.answer.FailedCompare.{FailedCompare}
 use Rattle.stm_outcome.specs.declared.refusal.Refusal.{Refusal}
-use Rattle.stm_outcome.specs.Branches.{Progress, begun, progress_after, changes_of_branch}
-use Rattle.stm_outcome.specs.Compares.{first_failed}
-use Rattle.stm_outcome.specs.Outcome.{Done, outcome, with_changes, chosen}
-use Rattle.stm_txn.specs.Standing.{Standing, IsRefusalOf, with_history, step_of, transacted, terms_of}
+use Rattle.stm_outcome.specs.Branches.{Progress, progress_after, changes_of_branch}
+use Rattle.stm_outcome.specs.Outcome.{outcome, with_changes}
+use Rattle.stm_txn.specs.Standing.{Standing, IsRefusalOf, with_history, transacted, terms_of}
 use Rattle.stm_outcome.proofs.Applying.{branch_run, is_done}
 use Rattle.stm_journal.specs.Fetched.{fetch_of, read_reported, one_read, ReadReturns}
 use Rattle.stm_journal.proofs.FetchLemmas.{done_of, read_comes_to}
@@ -30,18 +28,11 @@ reads_keep h p (Get key rev ∷ ops) all = reads_keep h p ops all
 reads_keep h p (Put key value lease ∷ ops) all = absurd (cc)
 reads_keep h p (Del key ∷ ops) all = absurd (cc)
 
-chosen_reads : (txn : Txn) (failed : Option FailedCompare) → OnlyReads txn → list_all is_read (chosen failed txn) ≡ true
-chosen_reads txn None reads = reads.success
-chosen_reads txn (Some failed) reads = reads.failure
-
 no_change : (h : History) (txn : Txn) → OnlyReads txn → with_changes h (changes_of_branch h (branch_run h txn)) ≡ h
-no_change h txn reads =
-    ap (λ (p : Progress). with_changes h p.changes)
-    (reads_keep h (begun h) (branch_run h txn) (chosen_reads txn (first_failed (key_now h) 0 txn.compares) reads))
+no_change h txn reads = grind (arith, nat_tests, reads_keep, branch_run)
 
 done_unchanged : (s next : Standing) (txn : Txn) (answer : TxnAnswer) (a : IsAnswered s next txn answer) → OnlyReads txn → a.done.history ≡ s.history
-done_unchanged s next txn answer a reads =
-    ap (λ (d : Done). d.history) (sym (is_done (terms_of s) txn a.done a.came).made) ∙ no_change s.history txn reads
+done_unchanged s next txn answer a reads = grind (arith, nat_tests, is_done, no_change)
 
 pub store_unchanged : (s next : Standing) (txn : Txn) (answer : TxnAnswer) → OnlyReads txn →
     transacted s txn ≡ Ok record { answer = answer; next = next } → next ≡ s
@@ -74,19 +65,11 @@ not_behind s seen txn reached = ap (fetched_by s seen txn) (le-ltb (now s.histor
 
 pub reports_answer : (s : Standing) (next : Standing) (seen : ℕ) (txn : Txn) (answer : TxnAnswer) → seen ≤ now s.history →
     transacted s txn ≡ Ok record { answer = answer; next = next } → fetched s seen txn ≡ Ok answer
-reports_answer s next seen txn answer reached step =
-    let a : IsAnswered s next txn answer = is_answered s next txn answer step in
-    not_behind s seen txn reached ∙ ap answered a.came ∙ ap (λ (x : TxnAnswer). Ok x) a.answered
-
-refused_by : (s : Standing) (o : Result Done Refusal) (cause : Refusal) → IsRefusalOf (step_of s o) cause → FetchReturns (answered o) (Err (Store cause))
-refused_by s (Ok done) cause is = inr (ap (λ (c : Refusal). Store c) is, refl)
-refused_by s (Err first) cause is = inl (ap (λ (c : Refusal). Err (Store c)) (sym is))
+reports_answer s next seen txn answer reached step = grind (arith, nat_tests, IsAnswered, is_answered, not_behind)
 
 pub reports_refused : (s : Standing) (seen : ℕ) (txn : Txn) (cause : Refusal) → seen ≤ now s.history →
     IsRefusalOf (transacted s txn) cause → FetchReturns (fetched s seen txn) (Err (Store cause))
-reports_refused s seen txn cause reached refused =
-    subst (λ (o : Result TxnAnswer FetchRefusal). FetchReturns o (Err (Store cause))) (sym (not_behind s seen txn reached))
-    (refused_by s (outcome (terms_of s) txn) cause refused)
+reports_refused s seen txn cause reached refused = grind (arith, nat_tests, not_behind)
 
 -- ---- the fetch of one key
 
@@ -96,18 +79,8 @@ alone s seen key at some reached = not_behind s seen (fetch_of key at) reached �
 
 pub reports_read : (s : Standing) (seen : ℕ) (key : List ℕ) (at : ℕ) (read : ReadAnswer) → 0 < s.limit → seen ≤ now s.history →
     read_reported s key at ≡ Ok read → fetched s seen (fetch_of key at) ≡ Ok (one_read read)
-reports_read s seen key at read some reached reported =
-    alone s seen key at some reached ∙ ap (λ (r : Result ReadAnswer Refusal). answered (done_of s r)) reported
-
-read_refused : (s : Standing) (reported : Result ReadAnswer Refusal) (cause : Refusal) → ReadReturns reported (Err cause) →
-    FetchReturns (answered (done_of s reported)) (Err (Store cause))
-read_refused s (Ok read) cause (inl is) = absurd (cc)
-read_refused s (Ok read) cause (inr want) = inr (ap (λ (c : Refusal). Store c) want.0, refl)
-read_refused s (Err first) cause (inl is) = inl (ap (λ (r : Result ReadAnswer Refusal). answered (done_of s r)) is)
-read_refused s (Err first) cause (inr want) = absurd (false≢true want.1)
+reports_read s seen key at read some reached reported = grind (arith, nat_tests, alone, done_of)
 
 pub reports_read_refused : (s : Standing) (seen : ℕ) (key : List ℕ) (at : ℕ) (cause : Refusal) → 0 < s.limit → seen ≤ now s.history →
     ReadReturns (read_reported s key at) (Err cause) → FetchReturns (fetched s seen (fetch_of key at)) (Err (Store cause))
-reports_read_refused s seen key at cause some reached refused =
-    subst (λ (o : Result TxnAnswer FetchRefusal). FetchReturns o (Err (Store cause))) (sym (alone s seen key at some reached))
-    (read_refused s (read_reported s key at) cause refused)
+reports_read_refused s seen key at cause some reached refused = grind (arith, nat_tests, alone, done_of, false≢true)

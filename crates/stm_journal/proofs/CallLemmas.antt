@@ -1,9 +1,9 @@
 -- What the calls of a journal that are no commit report.
-use Rattle.std.proofs.Common.{◌≡◌, ◌⊎◌, inl, inr, ℕ, ◌<◌, ◌≤◌, zero, suc, List, [], ◌∷◌, ◌++◌, length, length-append, Option, Some, None, Result, Ok, Err}
-use Rattle.std.proofs.Common.{Bool, true, false, cond, refl, sym, ◌∙◌, ap, subst, arith}
-use Rattle.std.proofs.lemmas.Bool.{ltb-false}
+use Rattle.std.proofs.Common.{◌≡◌, inl, inr, ℕ, ◌<◌, ◌≤◌, zero, suc, List, [], ◌∷◌, ◌++◌, length, length-append, Option, Some, None, Result, Ok, Err}
+use Rattle.std.proofs.Common.{Bool, cond, refl, sym, ◌∙◌, ap, subst, arith}
+use Rattle.std.proofs.lemmas.Bool.{ltb-false, Decides.nat_tests}
 use Rattle.std.proofs.lemmas.List.{append-nil}
-use Rattle.std.specs.Prelude.{nat_lt, IsOk}
+use Rattle.std.specs.Prelude.{nat_lt}
 use Rattle.std.specs.FinMap as finmap
 use Rattle.stm_leases.specs.DueFirst.{first_due}
 use Rattle.stm_outcome.specs.declared.txn.Txn.{Txn}
@@ -22,8 +22,7 @@ use Rattle.stm_journal.specs.Entering.{entered, made, one_entry, or_out_of_memor
 
 -- the journal is as it was
 pub same_journal : (s next : Standing) (es more : List Entry) (start : ℕ) → next ≡ s → more ≡ es → journal_of next more start ≡ journal_of s es start
-same_journal s next es more start same kept =
-    ap (λ (x : Standing). journal_of x more start) same ∙ ap (λ (l : List Entry). journal_of s l start) kept
+same_journal s next es more start same kept = grind (arith, nat_tests)
 
 made_as : TxnAnswer → JournalState → Result (JournalStep TxnAnswer) Refusal
 made_as answer next = Ok record { answer = answer; next = next }
@@ -35,30 +34,19 @@ pub reports_made : (journal after : JournalState) (txn : Txn) (answer : TxnAnswe
 unfolding made_as
 reports_made journal after txn answer next is left = ap (entered journal txn) is ∙ ap (made_as answer) (sym left)
 
-refused_by : (journal : JournalState) (txn : Txn) (o : Result (Step TxnAnswer) Refusal) (cause : Refusal) → IsRefusalOf o cause →
-    (entered journal txn o ≡ Err cause) ⊎ ((cause ≡ OutOfMemory) × IsOk (entered journal txn o))
-refused_by journal txn (Ok step) cause is = inr (is, refl)
-refused_by journal txn (Err first) cause is = inl (ap (λ (c : Refusal). Err c) (sym is))
-
 -- it was refused, by the store or for want of room
 pub reports_refused : (journal after : JournalState) (txn : Txn) (cause : Refusal) → IsRefusalOf (transacted journal.standing txn) cause → after ≡ journal →
     JournalReturns (made journal txn) journal (Err cause) after
-reports_refused journal after txn cause is same = (refused_by journal txn (transacted journal.standing txn) cause is, same)
-
-by_result : {A : Type 0} (r : Result A Refusal) → IsRefusalOf r (or_out_of_memory (refusal_of r))
-by_result (Ok done) = refl
-by_result (Err cause) = refl
+reports_refused journal after txn cause is same = grind (arith, nat_tests)
 
 -- the refusal of a call for which room could not be made
 pub wanted : {A : Type 0} (o : Result A Refusal) (found : Option Refusal) → found ≡ refusal_of o → IsRefusalOf o (or_out_of_memory found)
-wanted o found is = subst (λ (f : Option Refusal). IsRefusalOf o (or_out_of_memory f)) (sym is) (by_result o)
+wanted o found is = grind (arith, nat_tests)
 
 -- as the code reports it
 pub reports_wanted : (journal after : JournalState) (txn : Txn) (found : Option Refusal) (reported : Refusal) → found ≡ refusal_of (transacted journal.standing txn) →
     reported ≡ or_out_of_memory found → after ≡ journal → JournalReturns (made journal txn) journal (Err reported) after
-reports_wanted journal after txn found reported is same kept =
-    subst (λ (c : Refusal). JournalReturns (made journal txn) journal (Err c) after) (sym same)
-    (reports_refused journal after txn (or_out_of_memory found) (wanted (transacted journal.standing txn) found is) kept)
+reports_wanted journal after txn found reported is same kept = grind (arith, nat_tests, reports_refused, wanted)
 
 -- ---- a call that is one entry where it is taken
 
@@ -72,22 +60,15 @@ pub reports_entered : {A : Type 0} (journal after : JournalState) (entry : Entry
 unfolding entered_as
 reports_entered journal after entry o answer next is left = ap (λ x. one_entry journal entry x) is ∙ ap (entered_as answer) (sym left)
 
-refused_entry : {A : Type 0} (journal : JournalState) (entry : Entry) (o : Result (Step A) Refusal) (cause : Refusal) → IsRefusalOf o cause →
-    (one_entry journal entry o ≡ Err cause) ⊎ ((cause ≡ OutOfMemory) × IsOk (one_entry journal entry o))
-refused_entry journal entry (Ok step) cause is = inr (is, refl)
-refused_entry journal entry (Err first) cause is = inl (ap (λ (c : Refusal). Err c) (sym is))
-
 -- it was refused, by the store or for want of room
 pub reports_refused_entry : {A : Type 0} (journal after : JournalState) (entry : Entry) (o : Result (Step A) Refusal) (cause : Refusal) → IsRefusalOf o cause →
     after ≡ journal → JournalReturns (one_entry journal entry o) journal (Err cause) after
-reports_refused_entry journal after entry o cause is same = (refused_entry journal entry o cause is, same)
+reports_refused_entry journal after entry o cause is same = grind (arith, nat_tests)
 
 -- as the code reports it, where room could not be made
 pub reports_wanted_entry : {A : Type 0} (journal after : JournalState) (entry : Entry) (o : Result (Step A) Refusal) (found : Option Refusal) (reported : Refusal) →
     found ≡ refusal_of o → reported ≡ or_out_of_memory found → after ≡ journal → JournalReturns (one_entry journal entry o) journal (Err reported) after
-reports_wanted_entry journal after entry o found reported is same kept =
-    subst (λ (c : Refusal). JournalReturns (one_entry journal entry o) journal (Err c) after) (sym same)
-    (reports_refused_entry journal after entry o (or_out_of_memory found) (wanted o found is) kept)
+reports_wanted_entry journal after entry o found reported is same kept = grind (arith, nat_tests, reports_refused_entry, wanted)
 
 -- ---- how an advance goes
 
@@ -115,18 +96,11 @@ pub reports_stopped : (before after : JournalState) (moment : ℕ) (expired : Li
     StoreCutShort (advanced before.standing moment) expired cause after.standing →
     (before.standing.moment ≤ moment → HasCome (at_moment before.standing moment) expired after.standing) →
     after ≡ after_expiries before after.standing expired → HasStopped before moment expired cause after
-reports_stopped before after moment expired cause forward (inl is) come left = inl (record { advance = is; journal = left })
-reports_stopped before after moment expired cause forward (inr (want, stopped)) come left =
-    inr (record {
-      is_want = want;
-      forward = forward;
-      left = inr (record { come = come forward; stopped = stopped; journal = left });
-    })
+reports_stopped before after moment expired cause forward h7 come left = grind (arith, nat_tests)
 
 back_by : (s : Standing) (moment : ℕ) (back : Bool) → nat_lt moment s.moment ≡ back → moment < s.moment →
     advance_back s moment back ≡ record { expired = []; leaves = s; cause = Some TimeGoesBack }
-back_by s moment true is below = refl
-back_by s moment false is below = let above : s.moment ≤ moment = ltb-false moment s.moment is in absurd (omega arith)
+back_by s moment back is below = grind (arith, nat_tests, ltb-false)
 
 nothing_more : (journal : JournalState) → journal ≡ after_expiries journal journal.standing []
 nothing_more journal = ap (λ (es : List Entry). journal_of journal.standing es journal.start) (sym (append-nil journal.entries))
@@ -147,25 +121,15 @@ reports_no_room before after moment forward same = inr (record { is_want = refl;
 abbrev reported_in : Advance → ℕ
 reported_in a = length a.expired
 
-expiry_within : (n : ℕ) (s : Standing) (id : ℕ) (o : Result Standing Refusal) → ((next : Standing) → reported_in (expire_up_to n next) ≤ n) →
-    reported_in (advance_ended n s id o) ≤ suc n
-expiry_within n s id (Err cause) rest = omega arith
-expiry_within n s id (Ok next) rest = let more : reported_in (expire_up_to n next) ≤ n = rest next in omega arith
-
 due_within : (n : ℕ) (s : Standing) (o : Option ℕ) → ((next : Standing) → reported_in (expire_up_to n next) ≤ n) → reported_in (advance_due n s o) ≤ suc n
-due_within n s None rest = omega arith
-due_within n s (Some id) rest = expiry_within n s id (ended s id) rest
+due_within n s o rest = grind (arith, nat_tests)
 
 expiries_within : (n : ℕ) (s : Standing) → reported_in (expire_up_to n s) ≤ n
 expiries_within zero s = omega arith
 expiries_within (suc n) s = due_within n s (first_due s.live s.moment) (λ next. expiries_within n next)
 
-within_by : (s : Standing) (moment : ℕ) (back : Bool) → reported_in (advance_back s moment back) ≤ finmap.len s.live
-within_by s moment true = omega arith
-within_by s moment false = expiries_within (finmap.len s.live) (at_moment s moment)
-
 advance_within : (s : Standing) (moment : ℕ) → length (advanced s moment).expired ≤ finmap.len s.live
-advance_within s moment = within_by s moment (nat_lt moment s.moment)
+advance_within s moment = grind (arith, nat_tests, expiries_within)
 
 pub taken_within : (s left : Standing) (moment : ℕ) (expired : List Expired) (cause : Option Refusal) →
     advanced s moment ≡ record { expired = expired; leaves = left; cause = cause } → length expired ≤ finmap.len s.live

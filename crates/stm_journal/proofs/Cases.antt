@@ -1,6 +1,7 @@
 -- What a commit came to, by cases of its verdict: for the proofs of those that send attempts whose answers are the store's own.
-use Rattle.std.proofs.Common.{◌≡◌, ◌<◌, ℕ, List, map, length, All, Option, Some, None, Ok, Err, refl, sym, ◌∙◌, ap}
+use Rattle.std.proofs.Common.{◌≡◌, ◌<◌, ℕ, List, map, length, All, Option, Some, None, Ok, Err, sym, ◌∙◌, arith}
 use Rattle.std.specs.Prelude.{Result, slice_get}
+use Rattle.std.proofs.lemmas.Bool.Decides.{nat_tests}
 use Rattle.stm_history.specs.declared.key_state.ReadAnswer.{ReadAnswer}
 use Rattle.stm_history.specs.History.{now}
 use Rattle.stm_steps.specs.declared.run.Run.{Run}
@@ -18,7 +19,7 @@ use Rattle.stm_attempt.specs.ReadyRun.{ReadyRun, IsRunOnItsAnswers}
 use Rattle.stm_journal.specs.declared.verdict.Verdict.{Verdict}
 use Rattle.stm_journal.specs.declared.verdict.Verdict.TheVariants.{Committed, Failed}
 use Rattle.stm_journal.specs.JournalState.{JournalState, JournalStep}
-use Rattle.stm_journal.specs.Verdicts.{after_commit, committed_as, failed_with, decided, sent_as, sent}
+use Rattle.stm_journal.specs.Verdicts.{after_commit, decided, sent_as, sent}
 use Rattle.stm_journal.proofs.CommitLemmas.{sent_of_run}
 
 step_to : Verdict → JournalState → JournalStep Verdict
@@ -39,24 +40,10 @@ pub record HasCommitted (before after : JournalState) (ready : ReadyRun) (o : Re
   pub revision_is : revision ≡ now done.history
   pub left : after ≡ after_commit before ready done
 
-committed_by : (before after : JournalState) (ready : ReadyRun) (index revision : ℕ) (done : Done) (o : Option FailedCompare) → done.answer.failed ≡ o →
-    decided before ready done o ≡ step_to (Committed index revision) after → HasCommitted before after ready (Ok done) revision
-unfolding step_to
-committed_by before after ready index revision done None none same =
-    let reported : (committed_as before ready done).answer ≡ Committed index revision = ap (λ (x : JournalStep Verdict). x.answer) same in
-    let number : now done.history ≡ revision = cc (reported) in
-    record { done = done; taken = refl; none_failed = none; revision_is = sym number; left = sym (ap (λ (x : JournalStep Verdict). x.next) same) }
-committed_by before after ready index revision done (Some failed) some same =
-    let reported : failed_with ready failed (map (answer_now before.standing.history) (reread_keys ready.level ready.answers)) ≡ Committed index revision =
-    ap (λ (x : JournalStep Verdict). x.answer) same in
-    absurd (cc (reported))
-
 committed_so : (before after : JournalState) (ready : ReadyRun) (index revision : ℕ) (o : Result Done Refusal) →
     sent_as before ready o ≡ Ok (step_to (Committed index revision) after) → HasCommitted before after ready o revision
-committed_so before after ready index revision (Ok done) reported =
-    let same : decided before ready done done.answer.failed ≡ step_to (Committed index revision) after = cc (reported) in
-    committed_by before after ready index revision done done.answer.failed refl same
-committed_so before after ready index revision (Err cause) reported = absurd (cc)
+unfolding step_to
+committed_so before after ready index revision o reported = grind (arith, nat_tests, step_to)
 
 pub has_committed : (before after : JournalState) (ready : ReadyRun) (run : Run) (index revision : ℕ) → IsOfRun ready run →
     sent before ready ≡ Ok record { answer = Committed index revision; next = after } →
@@ -87,53 +74,26 @@ record AreAlike (seen : Seen) (number : ℕ) (answers : List ReadAnswer) (key : 
   now_is : now_modified ≡ number
   answers_are : others ≡ answers
 
-alike : (seen : Seen) (number : ℕ) (answers : List ReadAnswer) (key : List ℕ) (mod_rev now_modified : ℕ) (others : List ReadAnswer) →
-    Failed seen.key seen.mod_rev number answers ≡ Failed key mod_rev now_modified others → AreAlike seen number answers key mod_rev now_modified others
-alike seen number answers key mod_rev now_modified others reported = record { key_is = cc; seen_is = cc; now_is = cc; answers_are = cc }
-
 failed_by : (before after : JournalState) (ready : ReadyRun) (key : List ℕ) (seen now_modified : ℕ) (answers : List ReadAnswer) (done : Done)
     (o : Option FailedCompare) → done.answer.failed ≡ o → decided before ready done o ≡ step_to (Failed key seen now_modified answers) after →
     HasFailed before after ready (Ok done) key seen now_modified answers
 unfolding step_to
-failed_by before after ready key seen now_modified answers done None none same =
-    let reported : Committed (length before.entries) (now done.history) ≡ Failed key seen now_modified answers =
-    ap (λ (x : JournalStep Verdict). x.answer) same in absurd (cc (reported))
-failed_by before after ready key seen now_modified answers done (Some failed) some same =
-    let about : Seen = seen_in (slice_get (seen_by ready.answers ready.writes) failed.index) in
-    let parts = alike about failed.mod_rev (map (answer_now before.standing.history) (reread_keys ready.level ready.answers)) key seen now_modified answers
-    (ap (λ (x : JournalStep Verdict). x.answer) same) in
-    record {
-      done = done;
-      taken = refl;
-      failed = failed;
-      some_failed = some;
-      key_is = parts.key_is;
-      seen_is = parts.seen_is;
-      now_is = parts.now_is;
-      answers_are = parts.answers_are;
-      unchanged = sym (ap (λ (x : JournalStep Verdict). x.next) same);
-    }
+failed_by before after ready key seen now_modified answers done o none same = grind (arith, nat_tests)
 
 failed_so : (before after : JournalState) (ready : ReadyRun) (key : List ℕ) (seen now_modified : ℕ) (answers : List ReadAnswer) (o : Result Done Refusal) →
     sent_as before ready o ≡ Ok (step_to (Failed key seen now_modified answers) after) → HasFailed before after ready o key seen now_modified answers
-failed_so before after ready key seen now_modified answers (Ok done) reported =
-    let same : decided before ready done done.answer.failed ≡ step_to (Failed key seen now_modified answers) after = cc (reported) in
-    failed_by before after ready key seen now_modified answers done done.answer.failed refl same
-failed_so before after ready key seen now_modified answers (Err cause) reported = absurd (cc)
+failed_so before after ready key seen now_modified answers o reported = grind (arith, nat_tests, step_to, failed_by)
 
 pub has_failed : (before after : JournalState) (ready : ReadyRun) (run : Run) (key : List ℕ) (seen now_modified : ℕ) (answers : List ReadAnswer) →
     IsOfRun ready run → sent before ready ≡ Ok record { answer = Failed key seen now_modified answers; next = after } →
     HasFailed before after ready (committed (terms_of before.standing) ready.level ready.answers run) key seen now_modified answers
 unfolding step_to
-has_failed before after ready run key seen now_modified answers r reported =
-    failed_so before after ready key seen now_modified answers (committed (terms_of before.standing) ready.level ready.answers run)
-    (sym (sent_of_run before ready run r.kept r.named r.ended) ∙ reported)
+has_failed before after ready run key seen now_modified answers r reported = grind (arith, nat_tests, failed_so, sent_of_run)
 
 -- ---- it is refused
 
 refused_so : (before : JournalState) (ready : ReadyRun) (cause : Refusal) (o : Result Done Refusal) → sent_as before ready o ≡ Err cause → o ≡ Err cause
-refused_so before ready cause (Ok done) reported = absurd (cc)
-refused_so before ready cause (Err first) reported = let same : first ≡ cause = cc in ap (λ (r : Refusal). Err r) same
+refused_so before ready cause o reported = grind (arith, nat_tests)
 
 pub is_refused : (before : JournalState) (ready : ReadyRun) (run : Run) (cause : Refusal) → IsOfRun ready run → sent before ready ≡ Err cause →
     committed (terms_of before.standing) ready.level ready.answers run ≡ Err cause

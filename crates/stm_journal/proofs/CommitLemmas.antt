@@ -1,5 +1,6 @@
 -- The transaction of a ready attempt comes to the commit of its run.
-use Rattle.std.proofs.Common.{◌≡◌, ◌<◌, length, All, sym, ◌∙◌, ap}
+use Rattle.std.proofs.Common.{◌≡◌, ◌<◌, length, All, ◌∙◌, ap, arith}
+use Rattle.std.proofs.lemmas.Bool.Decides.{nat_tests}
 use Rattle.stm_history.specs.declared.key_state.ReadAnswer.{ReadAnswer}
 use Rattle.stm_program.specs.Writes.{latest_writes}
 use Rattle.stm_steps.specs.declared.run.Run.{Run}
@@ -16,12 +17,9 @@ use Rattle.stm_attempt.specs.ReadyRun.{ReadyRun, IsRunOnItsAnswers}
 use Rattle.stm_journal.specs.JournalState.{JournalState}
 use Rattle.stm_journal.specs.Verdicts.{txn_of, sent_as, sent}
 
-same_run : (ready : ReadyRun) (run : Run) (kept : IsRunOnItsAnswers ready) → run_on ready.program ready.answers ≡ Ended run → kept.run ≡ run
-same_run ready run kept ended = let both : Ended kept.run ≡ Ended run = sym kept.is_run ∙ ended in cc (both)
-
 pub writes_are_latest : (ready : ReadyRun) (run : Run) → IsRunOnItsAnswers ready → run_on ready.program ready.answers ≡ Ended run →
     ready.writes ≡ latest_writes run.writes
-writes_are_latest ready run kept ended = kept.writes ∙ ap (λ (r : Run). latest_writes r.writes) (same_run ready run kept ended)
+writes_are_latest ready run kept ended = grind (arith, nat_tests)
 
 pub comes_to : (s : Standing) (ready : ReadyRun) (run : Run) → IsRunOnItsAnswers ready →
     All (λ (a : ReadAnswer). 0 < length a.key) ready.answers → run_on ready.program ready.answers ≡ Ended run →

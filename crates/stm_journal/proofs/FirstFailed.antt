@@ -1,7 +1,7 @@
 -- The first compare that fails, looked for one after another.
-use Rattle.std.proofs.Common.{◌≡◌, ℕ, zero, suc, ◌+◌, ◌<◌, ◌≤◌, List, [], ◌∷◌, ◌++◌, map, length, drop, Bool, true, false, cond, Option, Some}
+use Rattle.std.proofs.Common.{◌≡◌, ℕ, zero, suc, ◌+◌, ◌≤◌, List, [], ◌∷◌, ◌++◌, map, length, drop, Bool, true, false, cond, Option, Some}
 use Rattle.std.proofs.Common.{None, ◌↔◌, refl, sym, ◌∙◌, ap, arith}
-use Rattle.std.proofs.lemmas.Bool.{false≢true}
+use Rattle.std.proofs.lemmas.Bool.{false≢true, Decides.nat_tests}
 use Rattle.std.specs.Prelude.{slice_get}
 use Rattle.stm_history.specs.declared.key_state.KeyState.{KeyState}
 use Rattle.stm_history.specs.History.{mod_of}
@@ -33,9 +33,7 @@ here : {X : Type 0} (state : List ℕ → Option KeyState) (f : X → Compare) (
     holds (f x) (state (f x).key) ≡ b →
     first_failed state (before + i) (map f (drop i xs))
     ≡ cond b (first_failed state (before + i + 1) (map f (drop (suc i) xs))) (found_at (before + i) (mod_of (state (f x).key)))
-here state f xs before i x b at is =
-    ap (λ (l : List _). first_failed state (before + i) (map f l)) (drop_at xs i x at)
-    ∙ ap (λ (t : Bool). cond t (first_failed state (before + i + 1) (map f (drop (suc i) xs))) (found_at (before + i) (mod_of (state (f x).key)))) is
+here state f xs before i x b at is = grind (arith, nat_tests, drop_at)
 
 -- one holds, so the failed one is looked for after it
 pub passed_by : {X : Type 0} (state : List ℕ → Option KeyState) (f : X → Compare) (xs : List X) (before i : ℕ) (x : X) (found : Option FailedCompare) →
@@ -61,21 +59,14 @@ failed_here state f xs before i x index modified found at fails place reported s
 -- all hold
 pub none_fails : {X : Type 0} (state : List ℕ → Option KeyState) (f : X → Compare) (xs : List X) (before i : ℕ) (found : Option FailedCompare) →
     length xs ≤ i → first_failed state (before + i) (map f (drop i xs)) ≡ found → None ≡ found
-none_fails state f xs before i found all so_far =
-    sym (ap (λ (l : List _). first_failed state (before + i) (map f l)) (drop_all xs i all)) ∙ so_far
+none_fails state f xs before i found all so_far = grind (arith, nat_tests, drop_all)
 
 -- ---- one list after another
 
 pub fails_first : (state : List ℕ → Option KeyState) (from : ℕ) (cs ds : List Compare) (f : FailedCompare) → first_failed state from cs ≡ Some f →
     first_failed state from (cs ++ ds) ≡ Some f
 fails_first state from [] ds f is = absurd (cc)
-fails_first state from (c ∷ cs) ds f is = by (holds c (state c.key)) is (fails_first state (from + 1) cs ds f)
-  where
-    by : (b : Bool) → cond b (first_failed state (from + 1) cs) (found_at from (mod_of (state c.key))) ≡ Some f →
-        (first_failed state (from + 1) cs ≡ Some f → first_failed state (from + 1) (cs ++ ds) ≡ Some f) →
-        cond b (first_failed state (from + 1) (cs ++ ds)) (found_at from (mod_of (state c.key))) ≡ Some f
-    by true found later = later found
-    by false found later = found
+fails_first state from (c ∷ cs) ds f is = grind (arith, nat_tests, fails_first state (from + 1) cs ds f)
 
 pub fails_after : (state : List ℕ → Option KeyState) (from behind : ℕ) (cs ds : List Compare) → first_failed state from cs ≡ None →
     behind ≡ from + length cs → first_failed state from (cs ++ ds) ≡ first_failed state behind ds
@@ -100,8 +91,7 @@ not_so : {P : Type 0} (b : Bool) → (b ≡ true) ↔ P → b ≡ false → P �
 not_so b reported isnt p = false≢true (sym isnt ∙ reported.1 p)
 
 does_not : (b : Bool) → (b ≡ true → ⊥) → b ≡ false
-does_not true isnt = absurd (isnt refl)
-does_not false isnt = refl
+does_not b isnt = grind (arith, nat_tests)
 
 -- by what is reported of a key that was read
 pub read_holds : (key : List ℕ) (number : ℕ) (s : Option KeyState) (reported : Bool) → (reported ≡ true) ↔ (mod_of s ≡ number) → reported ≡ true →
@@ -110,19 +100,13 @@ read_holds key number s reported means so = (mod_compares.equal key number s).1 
 
 pub read_fails : (key : List ℕ) (number : ℕ) (s : Option KeyState) (reported : Bool) → (reported ≡ true) ↔ (mod_of s ≡ number) → reported ≡ false →
     holds (mod_is key number) s ≡ false
-read_fails key number s reported means isnt =
-    does_not (holds (mod_is key number) s) (λ so. not_so reported means isnt ((mod_compares.equal key number s).0 so))
+read_fails key number s reported means isnt = grind (arith, nat_tests, does_not, not_so)
 
 -- and of one that is written
 pub write_holds : (key : List ℕ) (first : ℕ) (s : Option KeyState) (reported : Bool) → (reported ≡ true) ↔ (mod_of s ≤ first) → reported ≡ true →
     holds (mod_is_below key (first + 1)) s ≡ true
-write_holds key first s reported means so =
-    let most : mod_of s ≤ first = means.0 so in
-    (mod_compares.below key (first + 1) s).1 (omega (arith, most))
+write_holds key first s reported means so = grind (arith, nat_tests)
 
 pub write_fails : (key : List ℕ) (first : ℕ) (s : Option KeyState) (reported : Bool) → (reported ≡ true) ↔ (mod_of s ≤ first) → reported ≡ false →
     holds (mod_is_below key (first + 1)) s ≡ false
-write_fails key first s reported means isnt =
-    does_not (holds (mod_is_below key (first + 1)) s) (λ so.
-    let less : mod_of s < first + 1 = (mod_compares.below key (first + 1) s).0 so in
-    not_so reported means isnt (omega (arith, less)))
+write_fails key first s reported means isnt = grind (arith, nat_tests, does_not, not_so)

@@ -1,11 +1,10 @@
 -- What the transaction that fetches a list comes to.
-use Rattle.std.proofs.Common.{◌≡◌, inl, inr, ℕ, ◌<◌, Bool, true, false, cond, List, [], ◌∷◌, ◌++◌, ◌+◌, length, map, take, get_or, Option, Some, None}
+use Rattle.std.proofs.Common.{◌≡◌, inl, ℕ, ◌<◌, Bool, true, false, cond, List, [], ◌∷◌, ◌++◌, ◌+◌, length, map, take, get_or, Option, Some, None}
 use Rattle.std.proofs.Common.{Ok, Err, refl, sym, ◌∙◌, ap, subst, arith}
 use Rattle.std.specs.Prelude.{◌||◌, nat_lt, IfErr, Result}
 use Rattle.std.specs.List.{list_any}
-use Rattle.std.proofs.lemmas.Bool.{ne_eqb, le-ltb}
+use Rattle.std.proofs.lemmas.Bool.{ne_eqb, le-ltb, Decides.nat_tests}
 use Rattle.std.proofs.lemmas.List.{take_more}
-use Rattle.stm_history.specs.declared.key_state.KeyState.{KeyState}
 use Rattle.stm_history.specs.declared.key_state.ReadAnswer.{ReadAnswer}
 use Rattle.stm_history.specs.History.{History, now}
 use Rattle.stm_history.proofs.HistoryLaws.{last_revision_is_now}
@@ -15,10 +14,10 @@ use Rattle.stm_outcome.specs.declared.answer.OpAnswer.{OpAnswer}
 use Rattle.stm_outcome.specs.declared.answer.OpAnswer.TheVariants.{Get as GetAnswer}
 use Rattle.stm_outcome.specs.declared.answer.TxnAnswer.{TxnAnswer}
 use Rattle.stm_outcome.specs.declared.refusal.Refusal.{Refusal}
-use Rattle.stm_outcome.specs.declared.refusal.Refusal.TheVariants.{EmptyKey, DuplicateKey, TooManyOps}
+use Rattle.stm_outcome.specs.declared.refusal.Refusal.TheVariants.{TooManyOps}
 use Rattle.stm_outcome.specs.Operations.{key_of_op, clash}
 use Rattle.stm_outcome.specs.Checks.{has_too_many, is_empty_key, has_clash, fault_of}
-use Rattle.stm_outcome.specs.Outcome.{unless, branch_outcome, outcome}
+use Rattle.stm_outcome.specs.Outcome.{outcome}
 use Rattle.stm_outcome.specs.Commits.{read_op, read_out, read_now, reads_now, shown, AreReached, AreNamed}
 use Rattle.stm_outcome.specs.Terms.{Terms}
 use Rattle.stm_outcome.proofs.Applying.{reads_change_nothing}
@@ -34,26 +33,15 @@ as_many : (keys : List (List ℕ)) → length (map read_op (reads_now keys)) ≡
 as_many [] = refl
 as_many (key ∷ keys) = let rest = as_many keys in omega (arith, rest)
 
-nothing_above : (limit : ℕ) → nat_lt limit 0 ≡ false
-nothing_above limit = le-ltb limit 0 (omega arith)
-
 around : (first last b : Bool) → first ≡ false → last ≡ false → (first || b || last) ≡ b
-around true last b none end = absurd (cc)
-around false true b none end = absurd (cc)
-around false false true none end = refl
-around false false false none end = refl
+around first last b none end = grind (arith, nat_tests)
 
 number_is : (limit : ℕ) (keys : List (List ℕ)) → has_too_many limit (fetch_all_of keys) ≡ nat_lt limit (length keys)
-number_is limit keys =
-    around (nat_lt limit 0) (nat_lt limit 0) (nat_lt limit (length (map read_op (reads_now keys)))) (nothing_above limit) (nothing_above limit)
-    ∙ ap (nat_lt limit) (as_many keys)
+number_is limit keys = grind (arith, nat_tests, around, as_many, le-ltb)
 
 all_named : (keys : List (List ℕ)) → AreNamed keys → list_any (λ (op : Op). is_empty_key (key_of_op op)) (map read_op (reads_now keys)) ≡ false
 all_named [] named = refl
-all_named (key ∷ keys) named =
-    ap (λ (b : Bool). b || list_any (λ (op : Op). is_empty_key (key_of_op op)) (map read_op (reads_now keys)))
-    (ne_eqb (length key) 0 (λ (is : length key ≡ 0). omega (arith, named.0, is)))
-    ∙ all_named keys named.1
+all_named (key ∷ keys) named = grind (arith, nat_tests, ne_eqb, all_named keys named.1)
 
 read_clashes : (key : List ℕ) (keys : List (List ℕ)) → list_any (clash (read_op (record { key = key; rev = 0 }))) (map read_op (reads_now keys)) ≡ false
 read_clashes key [] = refl
@@ -63,20 +51,8 @@ none_clash : (keys : List (List ℕ)) → has_clash (map read_op (reads_now keys
 none_clash [] = refl
 none_clash (key ∷ keys) = ap (λ (b : Bool). b || has_clash (map read_op (reads_now keys))) (read_clashes key keys) ∙ none_clash keys
 
--- the number alone can be wrong
-faulted : (many empty clashes : Bool) → empty ≡ false → clashes ≡ false
-    → cond many (Some TooManyOps) (cond (false || empty || false) (Some EmptyKey) (cond (clashes || false) (Some DuplicateKey) None))
-    ≡ cond many (Some TooManyOps) None
-faulted many true clashes named apart = absurd (cc)
-faulted many false true named apart = absurd (cc)
-faulted true false false named apart = refl
-faulted false false false named apart = refl
-
 fault_is : (limit : ℕ) (keys : List (List ℕ)) → AreNamed keys → fault_of limit (fetch_all_of keys) ≡ cond (nat_lt limit (length keys)) (Some TooManyOps) None
-fault_is limit keys named =
-    faulted (has_too_many limit (fetch_all_of keys)) (list_any (λ (op : Op). is_empty_key (key_of_op op)) (map read_op (reads_now keys)))
-    (has_clash (map read_op (reads_now keys))) (all_named keys named) (none_clash keys)
-    ∙ ap (λ (b : Bool). (let o : Option Refusal = cond b (Some TooManyOps) None in o)) (number_is limit keys)
+fault_is limit keys named = grind (arith, nat_tests, all_named, none_clash, number_is)
 
 -- ---- what it comes to
 
@@ -86,10 +62,7 @@ reached terms (key ∷ keys) = (omega arith, refl, reached terms keys)
 
 shown_now : (h : History) (keys : List (List ℕ)) → map (shown h) (reads_now keys) ≡ map (λ a. GetAnswer a) (map (answer_now h) keys)
 shown_now h [] = refl
-shown_now h (key ∷ keys) =
-    ap (λ (kv : Option KeyState). GetAnswer (record { key = key; kv = kv; of_rev = now h; revision = now h }) ∷ map (shown h) (reads_now keys))
-    (last_revision_is_now h key (now h) (omega arith))
-    ∙ ap (λ (later : List OpAnswer). GetAnswer (answer_now h key) ∷ later) (shown_now h keys)
+shown_now h (key ∷ keys) = grind (arith, nat_tests, last_revision_is_now, shown_now h keys)
 
 reads_push : (keys : List (List ℕ)) (key : List ℕ) → map read_op (reads_now (keys ++ key ∷ [])) ≡ map read_op (reads_now keys) ++ read_now key ∷ []
 reads_push [] key = refl
@@ -113,9 +86,7 @@ all_come terms keys named few =
 
 pub too_many_come : (terms : Terms) (keys : List (List ℕ)) → AreNamed keys → nat_lt terms.limit (length keys) ≡ true
     → outcome terms (fetch_all_of keys) ≡ Err TooManyOps
-too_many_come terms keys named many =
-    ap (λ (fault : Option Refusal). unless fault (branch_outcome terms None (map read_op (reads_now keys))))
-    (fault_is terms.limit keys named ∙ ap (λ (b : Bool). (let o : Option Refusal = cond b (Some TooManyOps) None in o)) many)
+too_many_come terms keys named many = grind (arith, nat_tests, fault_is)
 
 pub reads_shown : (h : History) (keys : List (List ℕ)) → reads_in (map (shown h) (reads_now keys)) ≡ map (answer_now h) keys
 reads_shown h keys = ap reads_in (shown_now h keys) ∙ all_reads (map (answer_now h) keys)
@@ -134,10 +105,7 @@ all_come_to s keys txn is named few =
 
 too_many_come_to : (s : Standing) (keys : List (List ℕ)) (txn : Txn) → txn ≡ fetch_all_of keys → AreNamed keys → nat_lt s.limit (length keys) ≡ true
     → transacted s txn ≡ Err TooManyOps
-too_many_come_to s keys txn is named many =
-    ap (transacted s) is
-    ∙ ap (λ (fault : Option Refusal). step_of s (unless fault (branch_outcome (terms_of s) None (map read_op (reads_now keys)))))
-    (fault_is s.limit keys named ∙ ap (λ (b : Bool). (let o : Option Refusal = cond b (Some TooManyOps) None in o)) many)
+too_many_come_to s keys txn is named many = grind (arith, nat_tests, fault_is)
 
 -- ---- the transaction is the fetch
 
@@ -151,9 +119,7 @@ answered s answers = record { answer = record { succeeded = true; revision = now
 
 read_alone : (s : Standing) (keys : List (List ℕ)) → nat_lt s.limit (length keys) ≡ false → Ok (step_alone s keys) ≡ only_reads s (fetch_all_reported s keys)
 unfolding step_alone
-read_alone s keys few =
-    ap (λ (answers : List OpAnswer). (let r : Result (Step TxnAnswer) Refusal = Ok (answered s answers) in r)) (shown_now s.history keys)
-    ∙ ap (only_reads s) (sym (reported_by s keys false few))
+read_alone s keys few = grind (arith, nat_tests, shown_now, reported_by)
 
 list_by : (s : Standing) (keys : List (List ℕ)) (many : Bool) → nat_lt s.limit (length keys) ≡ many → AreNamed keys
     → transacted s (fetch_all_of keys) ≡ only_reads s (fetch_all_reported s keys)
@@ -196,9 +162,7 @@ are_read s after keys txn answer is named step = read_by s after keys txn answer
 refused_by : (s : Standing) (keys : List (List ℕ)) (txn : Txn) (cause : Refusal) (many : Bool) → nat_lt s.limit (length keys) ≡ many
     → txn ≡ fetch_all_of keys → AreNamed keys → IsRefusalOf (transacted s txn) cause → IsRefusalOfAll s keys cause
 unfolding step_alone
-refused_by s keys txn cause true many is named refused =
-    let same : cause ≡ TooManyOps = subst (λ o. IsRefusalOf o cause) (too_many_come_to s keys txn is named many) refused in
-    inr (ap (λ (b : Bool). cond b (Err TooManyOps) (Ok (map (answer_now s.history) keys))) many ∙ ap (λ (x : Refusal). Err x) (sym same))
+refused_by s keys txn cause true many is named refused = grind (arith, nat_tests, too_many_come_to)
 refused_by s keys txn cause false few is named refused = inl (subst (λ o. IsRefusalOf o cause) (all_come_to s keys txn is named few) refused)
 
 pub all_refused : (s : Standing) (keys : List (List ℕ)) (txn : Txn) (cause : Refusal) → txn ≡ fetch_all_of keys → AreNamed keys
@@ -213,5 +177,4 @@ all_reported s after keys answers reads x same = x.reported ∙ ap (λ (l : List
 -- the exit of a refusal
 pub refused_with_all : {A : Type 0} (s : Standing) (keys : List (List ℕ)) (result : Result A Refusal) (given cause : Refusal) → result ≡ Err given
     → given ≡ cause → IsRefusalOfAll s keys cause → IfErr result (IsRefusalOfAll s keys)
-refused_with_all {A = A} s keys result given cause is same reported =
-    subst (λ (r : Result A Refusal). IfErr r (IsRefusalOfAll s keys)) (sym (is ∙ ap (λ (y : Refusal). Err y) same)) reported
+refused_with_all {A = A} s keys result given cause is same reported = grind (arith, nat_tests)

@@ -1,15 +1,15 @@
 -- What a failed commit read again may be prefetched for the next attempt.
-use Rattle.std.proofs.Common.{◌≡◌, ◌≤◌, ℕ, Bool, true, false, cond, List, [], ◌∷◌, map, Some, None, refl, ◌∙◌, ap, subst, arith}
+use Rattle.std.proofs.Common.{◌≡◌, ◌≤◌, ℕ, false, List, [], ◌∷◌, map, None, refl, subst, arith}
 use Rattle.std.specs.Prelude.{Option, IfSome, bytes_eq}
 use Rattle.std.specs.List.{IsDistinct, AllByRecursion}
 use Rattle.std.proofs.lemmas.List.Elements.{All-from_recursion}
+use Rattle.std.proofs.lemmas.Bool.Decides.{nat_tests}
 use Rattle.stm_history.specs.declared.key_state.KeyState.{KeyState}
 use Rattle.stm_history.specs.declared.key_state.ReadAnswer.{ReadAnswer}
 use Rattle.stm_history.specs.declared.revisions.TheConstants.{HIGHEST_REVISION}
 use Rattle.stm_history.specs.History.{History, now}
 use Rattle.stm_history.proofs.HistoryLaws.{last_revision_is_now}
 use Rattle.stm_program.specs.declared.level.Level.{Level}
-use Rattle.stm_program.specs.Levels.{is_serializable}
 use Rattle.stm_program.proofs.WriteLemmas.{bytes_eq-flip}
 use Rattle.stm_outcome.specs.Numbers.{StateFits, StatesFit, ReadFits}
 use Rattle.stm_compile.specs.Answers.{answer_in, answer_now}
@@ -23,19 +23,12 @@ use Rattle.stm_journal.specs.Prefetch.{MayBePrefetched}
 none_of : (h : History) (key : List ℕ) (keys : List (List ℕ)) → AllByRecursion (λ k. bytes_eq key k ≡ false) keys →
     answer_in key (map (answer_now h) keys) ≡ None
 none_of h key [] others = refl
-none_of h key (k ∷ keys) others =
-    ap (λ (b : Bool). cond b (Some (answer_now h k)) (answer_in key (map (answer_now h) keys))) (bytes_eq-flip k key ∙ others.0)
-    ∙ none_of h key keys others.1
+none_of h key (k ∷ keys) others = grind (arith, nat_tests, bytes_eq-flip, none_of h key keys others.1)
 
 distinct_now : (h : History) (keys : List (List ℕ)) → IsDistinct bytes_eq keys → HaveDistinctKeys (map (answer_now h) keys)
 unfolding IsDistinct
 distinct_now h [] distinct = tt
 distinct_now h (k ∷ keys) distinct = (none_of h k keys distinct.0, distinct_now h keys distinct.1)
-
-distinct_or_none : (b : Bool) (keys : List (List ℕ)) → IsDistinct bytes_eq keys → IsDistinct bytes_eq (cond b keys [])
-unfolding IsDistinct
-distinct_or_none true keys distinct = distinct
-distinct_or_none false keys distinct = tt
 
 -- ---- of one revision
 
@@ -44,8 +37,7 @@ all_now h [] = tt
 all_now h (k ∷ keys) = (refl, all_now h keys)
 
 one_now : (h : History) (keys : List (List ℕ)) → ShowOneRevision (map (answer_now h) keys)
-one_now h [] = tt
-one_now h (k ∷ keys) = all_now h keys
+one_now h keys = grind (arith, nat_tests, all_now)
 
 -- ---- numbers
 
@@ -63,8 +55,5 @@ all_fit h (key ∷ keys) bounded fit = (now_fits h key bounded fit, all_fit h ke
 -- what was read again, where no two keys were alike
 pub may_be_prefetched : (h : History) (level : Level) (reads : List ReadAnswer) → IsDistinct bytes_eq (map (λ (a : ReadAnswer). a.key) reads) →
     now h ≤ HIGHEST_REVISION → StatesFit h → MayBePrefetched (map (answer_now h) (reread_keys level reads))
-may_be_prefetched h level reads distinct bounded fit = record {
-  distinct = distinct_now h (reread_keys level reads) (distinct_or_none (is_serializable level) (map (λ (a : ReadAnswer). a.key) reads) distinct);
-  in_range = All-from_recursion ReadFits (map (answer_now h) (reread_keys level reads)) (all_fit h (reread_keys level reads) bounded fit);
-  one_revision = one_now h (reread_keys level reads);
-}
+unfolding IsDistinct
+may_be_prefetched h level reads distinct bounded fit = grind (arith, nat_tests, distinct_now, All-from_recursion, all_fit, one_now)

@@ -1,5 +1,5 @@
 -- The keys that a store lists, once they are sorted.
-use Rattle.std.proofs.Common.{◌≡◌, ℕ, ◌+◌, ◌||◌, List, [], ◌∷◌, ◌++◌, map, take, Option, Some, is_some, refl, sym, subst, ◌∙◌, ap}
+use Rattle.std.proofs.Common.{◌≡◌, ℕ, ◌+◌, ◌||◌, List, [], ◌∷◌, ◌++◌, map, take, Some, is_some, refl, sym, subst, ◌∙◌, ap, arith}
 use Rattle.std.proofs.Common.{String, string_bytes, IsSorted, Contains, true}
 use Rattle.std.specs.Prelude.{slice_get}
 use Rattle.std.proofs.lemmas.List.{take_more}
@@ -14,6 +14,7 @@ use Rattle.std.specs.List.Sorted.{IsPermutation}
 use Rattle.std.specs.Map.{keys_of}
 use Rattle.std.specs.Str.{bytes_eq}
 use Rattle.std.specs.String.{string_cmp}
+use Rattle.std.proofs.lemmas.Bool.Decides.{nat_tests}
 use Rattle.stm_history.specs.declared.key_state.KeyState.{KeyState}
 use Rattle.stm_history.specs.History.{History, key_now}
 use Rattle.stm_leases.proofs.Ordered.{sorted-ascends}
@@ -23,17 +24,10 @@ use Rattle.stm_txn.proofs.Naming.{present_listed}
 use Rattle.stm_journal.specs.PresentKeys.{is_listed, ArePresent}
 
 flipped : (x y : List ℕ) → bytes_eq x y ≡ bytes_eq y x
-flipped x y =
-    both_ways (bytes_eq x y) (bytes_eq y x)
-    (λ t. (bytes_eq-Decides y x).1 (sym ((bytes_eq-Decides x y).0 t)))
-    (λ t. (bytes_eq-Decides x y).1 (sym ((bytes_eq-Decides y x).0 t)))
+flipped x y = grind (arith, nat_tests, bytes_eq-Decides)
 
 same_bytes : IsEquivalence bytes_eq
-same_bytes = record {
-  refl = λ x. (bytes_eq-Decides x x).1 refl;
-  symm = flipped;
-  congr = λ x y z same. ap (λ (k : List ℕ). bytes_eq k z) ((bytes_eq-Decides x y).0 same);
-}
+same_bytes = grind (arith, nat_tests, bytes_eq-Decides, flipped)
 
 -- a key is among these exactly where they contain it
 listed_any : (key : List ℕ) (keys : List (List ℕ)) → is_listed key keys ≡ list_any (bytes_eq key) keys
@@ -48,20 +42,12 @@ among_from key keys is = Contains-from_any (λ x y same. (bytes_eq-Decides x y).
 
 -- ascending keys that are those that are present are the list that is computed
 present_computed : (h : History) (keys : List (List ℕ)) → ArePresent h keys → keys ≡ keys_present h
-present_computed h keys are =
-    present_listed h keys are.ascending
-    (λ key. (
-      (λ among. sym (are.each key) ∙ listed_from key keys among),
-      (λ is. among_from key keys (are.each key ∙ is)),
-    ))
+present_computed h keys are = grind (arith, nat_tests, present_listed, listed_from, among_from)
 
 -- a key is present exactly where the store lists it
 listed_present : (h : History) (present : List (List ℕ × KeyState)) (key : List ℕ) → ListsPresent h present →
     is_some (key_now h key) ≡ is_listed key (keys_of present)
-listed_present h present key lists =
-    ap (λ (o : Option KeyState). is_some o) (sym (lists.states key))
-    ∙ is_some-lookup (bytes_eq key) present
-    ∙ sym (listed_any key (keys_of present))
+listed_present h present key lists = grind (arith, nat_tests, is_some-lookup, listed_any)
 
 -- one more key is listed
 keys_joined : (front back : List (List ℕ × KeyState)) → keys_of (front ++ back) ≡ keys_of front ++ keys_of back

@@ -1,7 +1,8 @@
 -- The answers of reads, among those of a transaction.
-use Rattle.std.proofs.Common.{◌≡◌, List, [], ◌∷◌, ◌++◌, map, refl, sym, ◌∙◌, ap, append_assoc, All}
+use Rattle.std.proofs.Common.{◌≡◌, List, [], ◌∷◌, ◌++◌, map, refl, sym, ◌∙◌, ap, append_assoc, All, arith}
 use Rattle.std.specs.List.{AllByRecursion}
 use Rattle.std.proofs.lemmas.List.Elements.{All-from_recursion}
+use Rattle.std.proofs.lemmas.Bool.Decides.{nat_tests}
 use Rattle.stm_history.specs.declared.key_state.ReadAnswer.{ReadAnswer}
 use Rattle.stm_outcome.specs.declared.answer.OpAnswer.{OpAnswer}
 use Rattle.stm_outcome.specs.declared.answer.OpAnswer.TheVariants.{Get, Put, Del}
@@ -11,9 +12,7 @@ use Rattle.stm_journal.specs.Reads.{reads_in}
 -- ---- one after another
 
 first_apart : (answer : OpAnswer) (rest : List OpAnswer) → reads_in (answer ∷ rest) ≡ reads_in (answer ∷ []) ++ reads_in rest
-first_apart (Get read) rest = refl
-first_apart Put rest = refl
-first_apart (Del count) rest = refl
+first_apart answer rest = grind (arith, nat_tests)
 
 -- one more answer is taken
 pub one_taken : (before after : List ReadAnswer) (answer : OpAnswer) (left rest : List OpAnswer) (all : List ReadAnswer) →

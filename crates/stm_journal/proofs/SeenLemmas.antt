@@ -2,33 +2,21 @@
 use Rattle.std.proofs.Common.{◌≡◌, ℕ, suc, zero, ◌+◌, ◌<◌, ◌≤◌, List, [], ◌∷◌, ◌++◌, map, length, Option, Some, refl, ◌∙◌, ap, arith, length-append}
 use Rattle.std.proofs.lemmas.List.{length-map}
 use Rattle.std.specs.Prelude.{slice_get}
+use Rattle.std.proofs.lemmas.Bool.Decides.{nat_tests}
 use Rattle.stm_history.specs.declared.key_state.ReadAnswer.{ReadAnswer}
 use Rattle.stm_program.specs.declared.level.Level.{Level}
-use Rattle.stm_program.specs.declared.level.Level.TheVariants.{SerializableSnapshot, Serializable, RepeatableReads, ReadCommitted}
 use Rattle.stm_history.specs.declared.change.Change.{Change}
-use Rattle.stm_compile.specs.CommitTxn.{first_carried, is_as_read, is_unmodified, compares_of}
+use Rattle.stm_compile.specs.CommitTxn.{first_carried, compares_of}
 use Rattle.stm_compile.specs.Conflicts.{Seen, seen_of_read, seen_of_write, seen_by, seen_in}
 
 -- ---- how many there are
 
 pub seen_count : (reads : List ReadAnswer) (writes : List Change) → length (seen_by reads writes) ≡ length reads + length writes
-seen_count reads writes =
-    length-append (map seen_of_read reads) (map (seen_of_write (first_carried reads)) writes)
-    ∙ ap (λ n. n + length (map (seen_of_write (first_carried reads)) writes)) (length-map reads seen_of_read)
-    ∙ ap (λ n. length reads + n) (length-map writes (seen_of_write (first_carried reads)))
-
-all_compared : (reads : List ReadAnswer) (writes : List Change) → length (compares_of SerializableSnapshot reads writes) ≡ length reads + length writes
-all_compared reads writes =
-    length-append (map is_as_read reads) (map (is_unmodified (first_carried reads)) writes)
-    ∙ ap (λ n. n + length (map (is_unmodified (first_carried reads)) writes)) (length-map reads is_as_read)
-    ∙ ap (λ n. length reads + n) (length-map writes (is_unmodified (first_carried reads)))
+seen_count reads writes = grind (arith, nat_tests, length-append, length-map)
 
 pub compares_are_seen : (level : Level) (reads : List ReadAnswer) (writes : List Change) →
     length (compares_of level reads writes) ≤ length (seen_by reads writes)
-compares_are_seen SerializableSnapshot reads writes = omega (arith, all_compared reads writes, seen_count reads writes)
-compares_are_seen Serializable reads writes = omega (arith, length-map reads is_as_read, seen_count reads writes)
-compares_are_seen RepeatableReads reads writes = omega (arith, length-map reads is_as_read, seen_count reads writes)
-compares_are_seen ReadCommitted reads writes = omega arith
+compares_are_seen level reads writes = grind (arith, nat_tests, seen_count, length-map, length-append)
 
 -- ---- of a key read
 

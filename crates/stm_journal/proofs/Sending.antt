@@ -1,24 +1,22 @@
 -- What the transaction of a commit comes to is reported as the verdict.
-use Rattle.std.proofs.Common.{◌≡◌, ℕ, ◌<◌, List, length, Option, Some, None, Result, Ok, Err, refl, ◌∙◌, ap, subst, arith}
-use Rattle.stm_history.specs.declared.key_state.ReadAnswer.{ReadAnswer}
+use Rattle.std.proofs.Common.{◌≡◌, ℕ, ◌<◌, length, Option, Some, None, Result, Ok, Err, arith}
+use Rattle.std.proofs.lemmas.Bool.Decides.{nat_tests}
 use Rattle.stm_history.specs.History.{now, key_now}
 use Rattle.stm_outcome.specs.declared.txn.Txn.{Txn}
-use Rattle.stm_outcome.specs.declared.txn.Compare.{Compare}
 use Rattle.stm_outcome.specs.declared.answer.TxnAnswer.{TxnAnswer}
 use Rattle.stm_outcome.specs.declared.answer.FailedCompare.{FailedCompare}
 use Rattle.stm_outcome.specs.declared.refusal.Refusal.{Refusal}
 use Rattle.stm_outcome.specs.Checks.{fault_of}
 use Rattle.stm_outcome.specs.Compares.{first_failed}
 use Rattle.stm_outcome.specs.Outcome.{Done, outcome}
-use Rattle.stm_txn.specs.Standing.{Standing, Step, with_history, step_of, transacted, terms_of}
+use Rattle.stm_txn.specs.Standing.{Standing, Step, with_history, transacted, terms_of}
 use Rattle.stm_outcome.proofs.Applying.{is_done}
-use Rattle.stm_compile.specs.CommitTxn.{compares_of}
 use Rattle.stm_compile.specs.Conflicts.{seen_by}
 use Rattle.stm_attempt.specs.ReadyRun.{ReadyRun}
 use Rattle.stm_journal.proofs.SeenLemmas.{compares_are_seen}
 use Rattle.stm_journal.specs.declared.refusal.CommitRefusal.TheVariants.{Store}
 use Rattle.stm_journal.specs.JournalState.{JournalState}
-use Rattle.stm_journal.specs.Verdicts.{txn_of, first_unvouched, taken_by_store, refused_by_store, unless_unvouched, by_compares, unless_at_fault, verdict_of}
+use Rattle.stm_journal.specs.Verdicts.{txn_of, first_unvouched, taken_by_store, refused_by_store, by_compares, verdict_of}
 
 -- ---- the verdict, by what is known
 
@@ -29,20 +27,15 @@ pub record IsCompared (journal : JournalState) (ready : ReadyRun) (failed : Opti
 
 pub verdict_compared : (journal : JournalState) (ready : ReadyRun) (failed : Option FailedCompare) → IsCompared journal ready failed →
     verdict_of journal ready ≡ by_compares journal ready failed
-verdict_compared journal ready failed c =
-    ap (λ (o : Option Refusal). unless_at_fault o (by_compares journal ready (first_failed (key_now journal.standing.history) 0 (txn_of ready).compares))) c.right
-    ∙ ap (by_compares journal ready) c.compared
+verdict_compared journal ready failed c = grind (arith, nat_tests)
 
 pub verdict_at_fault : (journal : JournalState) (ready : ReadyRun) (cause : Refusal) → fault_of (terms_of journal.standing).limit (txn_of ready) ≡ Some cause →
     verdict_of journal ready ≡ Err (Store cause)
-verdict_at_fault journal ready cause is =
-    ap (λ (o : Option Refusal). unless_at_fault o (by_compares journal ready (first_failed (key_now journal.standing.history) 0 (txn_of ready).compares))) is
+verdict_at_fault journal ready cause is = grind (arith, nat_tests)
 
 pub verdict_taken : (journal : JournalState) (ready : ReadyRun) → IsCompared journal ready None →
     first_unvouched journal.standing.history ready.level ready.answers ≡ None → verdict_of journal ready ≡ refused_by_store (taken_by_store journal ready)
-verdict_taken journal ready c vouched =
-    verdict_compared journal ready None c
-    ∙ ap (λ (a : Option ReadAnswer). unless_unvouched a (refused_by_store (taken_by_store journal ready))) vouched
+verdict_taken journal ready c vouched = grind (arith, nat_tests, verdict_compared)
 
 -- ---- a transaction that was answered
 
@@ -59,31 +52,18 @@ AnsweredBy s after answer o = (done : Done) × (o ≡ Ok done) × (done.answer �
 step_to : TxnAnswer → Standing → Step TxnAnswer
 step_to answer next = record { answer = answer; next = next }
 
-answered_by : (s after : Standing) (answer : TxnAnswer) (o : Result Done Refusal) → step_of s o ≡ Ok (step_to answer after) → AnsweredBy s after answer o
-unfolding step_to
-answered_by s after answer (Ok done) step =
-    let same : step_to done.answer (with_history s done.history) ≡ step_to answer after = cc (step) in
-    (done, refl, ap (λ (x : Step TxnAnswer). x.answer) same, ap (λ (x : Step TxnAnswer). x.next) same)
-answered_by s after answer (Err cause) step = absurd (cc)
-
 pub is_answered : (s after : Standing) (txn : Txn) (answer : TxnAnswer) → transacted s txn ≡ Ok record { answer = answer; next = after } →
     IsAnswered s after txn answer
 unfolding step_to
-is_answered s after txn answer step =
-    let a = answered_by s after answer (outcome (terms_of s) txn) step in
-    record { done = a.0; came = a.1; answered = a.2; left = a.3 }
+is_answered s after txn answer step = grind (arith, nat_tests, step_to)
 
 -- the revision that it reports is the store's after it
 pub answer_revision : (s after : Standing) (txn : Txn) (answer : TxnAnswer) (a : IsAnswered s after txn answer) → now a.done.history ≡ answer.revision
-answer_revision s after txn answer a =
-    let made = (is_done (terms_of s) txn a.done a.came).made in
-    subst (λ (d : Done). now d.history ≡ d.answer.revision) made refl ∙ ap (λ (x : TxnAnswer). x.revision) a.answered
+answer_revision s after txn answer a = grind (arith, nat_tests, is_done)
 
 -- ---- a compare that failed
 
 -- a compare of a commit is about a key that was read or written
 pub place_seen : (ready : ReadyRun) (txn : Txn) (i : ℕ) → txn.compares ≡ (txn_of ready).compares → i < length txn.compares →
     i < length (seen_by ready.answers ready.writes)
-place_seen ready txn i is within =
-    let count : length txn.compares ≡ length (compares_of ready.level ready.answers ready.writes) = ap (λ (cs : List Compare). length cs) is in
-    omega (arith, count, within, compares_are_seen ready.level ready.answers ready.writes)
+place_seen ready txn i is within = grind (arith, nat_tests, compares_are_seen)

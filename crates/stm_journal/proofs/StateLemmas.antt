@@ -1,10 +1,10 @@
 -- The state of a store, key by key.
-use Rattle.std.proofs.Common.{◌≡◌, ◌∙◌, ℕ, ◌+◌, ◌<◌, ◌≤◌, ◌||◌, Bool, true, false, cond, List, [], ◌∷◌, ◌++◌, take, map, length, get_or, is_some, refl, sym}
-use Rattle.std.proofs.Common.{ap, Option, None, Some, String, string_bytes}
+use Rattle.std.proofs.Common.{◌≡◌, ◌∙◌, ℕ, ◌+◌, ◌<◌, ◌≤◌, ◌||◌, Bool, false, cond, List, [], ◌∷◌, ◌++◌, take, map, length, get_or, sym}
+use Rattle.std.proofs.Common.{ap, None, String, string_bytes, arith}
 use Rattle.std.specs.Prelude.{bytes_eq}
 use Rattle.std.proofs.lemmas.List.{take_all, map_more}
 use Rattle.std.proofs.lemmas.List.Folds.{list_any-append}
-use Rattle.stm_history.specs.declared.key_state.KeyState.{KeyState}
+use Rattle.std.proofs.lemmas.Bool.Decides.{nat_tests}
 use Rattle.stm_history.specs.History.{History, key_now}
 use Rattle.stm_steps.specs.declared.state.StateEntry.{StateEntry}
 use Rattle.stm_journal.specs.PresentKeys.{is_listed, ArePresent}
@@ -16,19 +16,12 @@ seen_alike : (h : History) (seen other : List ℕ → Bool) (entries : List Stat
 seen_alike h seen other entries alike so_far q = so_far q ∙ ap (λ b. cond b (entry_now q (key_now h q)) None) (alike q)
 
 or_false : (a : Bool) → (a || false) ≡ a
-or_false true = refl
-or_false false = refl
-
--- what the state has of a key that is present, and nothing of one that is not
-present_entry : (key : List ℕ) (kv : Option KeyState) → cond (is_some kv) (entry_now key kv) None ≡ entry_now key kv
-present_entry key None = refl
-present_entry key (Some s) = refl
+or_false a = grind (arith, nat_tests)
 
 -- where all keys that are present are seen, it is the whole state
 all_seen : (h : History) (keys : List (List ℕ)) (entries : List StateEntry) → ArePresent h keys →
     IsStateOfSeen h (λ q. is_listed q keys) entries → IsStateOf h entries
-all_seen h keys entries present so_far q =
-    so_far q ∙ ap (λ b. cond b (entry_now q (key_now h q)) None) (present.each q) ∙ present_entry q (key_now h q)
+all_seen h keys entries present so_far q = grind (arith, nat_tests)
 
 module _ {A : Type 0} where
   -- one more key
@@ -45,15 +38,9 @@ module _ {A : Type 0} where
       i < length texts → t ≡ get_or texts i t → key ≡ string_bytes t →
       IsStateOfSeen h (λ q. is_listed q (map string_bytes (take i texts)) || bytes_eq key q) entries →
       IsStateOfSeen h (λ q. is_listed q (map string_bytes (take (i + 1) texts))) entries
-  one_key_seen h texts i t key entries within is shown =
-      seen_alike h (λ q. is_listed q (map string_bytes (take i texts)) || bytes_eq key q)
-      (λ q. is_listed q (map string_bytes (take (i + 1) texts))) entries
-      (λ q. ap (λ (k : List ℕ). is_listed q (map string_bytes (take i texts)) || bytes_eq k q) shown ∙ one_listed texts i t q within is)
+  one_key_seen h texts i t key entries within is shown = grind (arith, nat_tests, seen_alike, one_listed)
 
   -- once no key is left
   pub all_keys_seen : (h : History) (texts present : List (String A)) (i : ℕ) (entries : List StateEntry) → length texts ≤ i → texts ≡ present →
       ArePresent h (map string_bytes present) → IsStateOfSeen h (λ q. is_listed q (map string_bytes (take i texts))) entries → IsStateOf h entries
-  all_keys_seen h texts present i entries end same are so_far =
-      all_seen h (map string_bytes present) entries are
-      (seen_alike h (λ q. is_listed q (map string_bytes (take i texts))) (λ q. is_listed q (map string_bytes present)) entries
-      (λ q. ap (λ (ts : List (String A)). is_listed q (map string_bytes ts)) (take_all i texts end ∙ same)) so_far)
+  all_keys_seen h texts present i entries end same are so_far = grind (arith, nat_tests, all_seen, seen_alike, take_all)

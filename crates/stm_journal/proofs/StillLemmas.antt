@@ -1,16 +1,14 @@
 -- Keys that are still as they were read: no compare of them fails, and none has another value.
-use Rattle.std.proofs.Common.{◌≡◌, ◌+◌, ℕ, List, [], ◌∷◌, map, Bool, cond, not, Option, None, Some, refl, ◌∙◌, ap}
-use Rattle.std.specs.Prelude.{bytes_eq}
+use Rattle.std.proofs.Common.{◌≡◌, ◌+◌, ℕ, List, [], ◌∷◌, map, Option, None, refl, arith}
 use Rattle.std.specs.List.{find, AllByRecursion}
 use Rattle.std.proofs.lemmas.Slice.Eq.{bytes_eq-Decides}
+use Rattle.std.proofs.lemmas.Bool.Decides.{nat_tests}
 use Rattle.stm_history.specs.declared.key_state.ReadAnswer.{ReadAnswer}
-use Rattle.stm_history.specs.History.{History, key_now, value_of, mod_of}
+use Rattle.stm_history.specs.History.{History, key_now}
 use Rattle.stm_program.specs.declared.level.Level.{Level}
 use Rattle.stm_program.specs.declared.level.Level.TheVariants.{Serializable, RepeatableReads}
 use Rattle.stm_history.specs.declared.change.Change.{Change}
-use Rattle.stm_outcome.specs.declared.answer.FailedCompare.{FailedCompare}
 use Rattle.stm_outcome.specs.Compares.{first_failed}
-use Rattle.stm_outcome.proofs.Applying.{mod_compares}
 use Rattle.stm_compile.specs.CommitTxn.{is_as_read, compares_of}
 use Rattle.stm_journal.specs.declared.causes.Cause.{Cause}
 use Rattle.stm_journal.specs.Causes.{IsStill, cause_unvouched, cause_failed}
@@ -18,17 +16,11 @@ use Rattle.stm_journal.specs.Verdicts.{has_other_value, first_unvouched}
 
 none_changed : (h : History) (reads : List ReadAnswer) (i : ℕ) → AllByRecursion (IsStill h) reads → first_failed (key_now h) i (map is_as_read reads) ≡ None
 none_changed h [] i still = refl
-none_changed h (a ∷ reads) i still =
-    ap (λ (b : Bool). cond b (first_failed (key_now h) (i + 1) (map is_as_read reads)) (Some (record { index = i; mod_rev = mod_of (key_now h a.key) })))
-    ((mod_compares.equal a.key (mod_of a.kv) (key_now h a.key)).1 still.0.modified)
-    ∙ none_changed h reads (i + 1) still.1
+none_changed h (a ∷ reads) i still = grind (arith, nat_tests, none_changed h reads (i + 1) still.1)
 
 none_other : (h : History) (reads : List ReadAnswer) → AllByRecursion (IsStill h) reads → find (has_other_value h) reads ≡ None
 none_other h [] still = refl
-none_other h (a ∷ reads) still =
-    ap (λ (b : Bool). cond (not b) (Some a) (find (has_other_value h) reads))
-    (ap (bytes_eq (value_of a.kv)) still.0.value ∙ (bytes_eq-Decides (value_of a.kv) (value_of a.kv)).1 refl)
-    ∙ none_other h reads still.1
+none_other h (a ∷ reads) still = grind (arith, nat_tests, bytes_eq-Decides, none_other h reads still.1)
 
 -- what turns a commit down at a level
 abbrev pub cause_at : History → List ReadAnswer → List Change → Level → Option Cause
@@ -37,9 +29,7 @@ cause_at h reads writes level =
 
 pub clear_serializable : (h : History) (reads : List ReadAnswer) (writes : List Change) → AllByRecursion (IsStill h) reads →
     cause_at h reads writes Serializable ≡ None
-clear_serializable h reads writes still =
-    ap (λ (o : Option FailedCompare). cause_failed o (cause_unvouched (find (has_other_value h) reads))) (none_changed h reads 0 still)
-    ∙ ap cause_unvouched (none_other h reads still)
+clear_serializable h reads writes still = grind (arith, nat_tests, none_changed, none_other)
 
 pub clear_repeatable : (h : History) (reads : List ReadAnswer) (writes : List Change) → AllByRecursion (IsStill h) reads →
     cause_at h reads writes RepeatableReads ≡ None

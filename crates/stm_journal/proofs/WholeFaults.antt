@@ -1,7 +1,7 @@
 -- What is wrong with the transaction of a commit as a whole: its number of operations, or an empty key that was read.
 use Rattle.std.proofs.Common.{◌≡◌, ℕ, ◌+◌, ◌-◌, ◌<◌, ◌≤◌, ◌||◌, ◌&&◌, List, [], ◌∷◌, ◌++◌, map, length, Bool, true, false, cond, Option, Some, None, refl}
-use Rattle.std.proofs.Common.{sym, ◌∙◌, ap, subst, arith, length-append}
-use Rattle.std.proofs.lemmas.Bool.{ne_eqb, lt-ltb, le-ltb, ltb-true, ltb-false}
+use Rattle.std.proofs.Common.{sym, ◌∙◌, ap, arith, length-append}
+use Rattle.std.proofs.lemmas.Bool.{ne_eqb, lt-ltb, le-ltb, ltb-true, ltb-false, Decides.nat_tests}
 use Rattle.std.proofs.lemmas.List.{length-map}
 use Rattle.std.proofs.lemmas.List.Elements.{recursion_from_All}
 use Rattle.std.specs.Prelude.{nat_lt, bytes_eq}
@@ -11,8 +11,6 @@ use Rattle.stm_history.specs.declared.key_state.ReadAnswer.{ReadAnswer}
 use Rattle.stm_history.specs.History.{key_of, change_of, HasDistinctKeys}
 use Rattle.stm_program.specs.declared.level.Level.{Level}
 use Rattle.stm_program.specs.declared.level.Level.TheVariants.{SerializableSnapshot, Serializable, RepeatableReads, ReadCommitted}
-use Rattle.stm_history.specs.declared.change.Change.TheVariants.{Put, Del}
-use Rattle.stm_program.specs.Writes.{latest_writes}
 use Rattle.stm_program.proofs.LatestLemmas.{latest_writes-distinct}
 use Rattle.stm_meaning.proofs.RunKeyLaws.{keys_are_not_empty}
 use Rattle.stm_outcome.specs.declared.txn.Compare.{Compare}
@@ -25,47 +23,25 @@ use Rattle.stm_outcome.specs.Checks.{is_empty_key, has_too_many, has_empty_key, 
 use Rattle.stm_outcome.specs.Commits.{read_now}
 use Rattle.stm_outcome.specs.Effect.{op_of}
 use Rattle.stm_outcome.proofs.Branching.{apart_case, apart_back}
-use Rattle.stm_compile.specs.Answers.{look_up}
 use Rattle.stm_program.specs.Levels.{is_comparing}
-use Rattle.stm_compile.specs.CommitTxn.{first_carried, is_as_read, is_unmodified, compares_of, reread_keys, commit_of}
+use Rattle.stm_compile.specs.CommitTxn.{is_as_read, is_unmodified, compares_of, commit_of}
 use Rattle.stm_compile.proofs.OutcomeLemmas.{changes_are_distinct}
 use Rattle.stm_attempt.specs.ReadyRun.{ReadyRun, IsRunOnItsAnswers}
 use Rattle.stm_journal.specs.Verdicts.{txn_of}
 
 -- ---- three tests
 
-first_true : (a b c : Bool) → a ≡ true → (a || b || c) ≡ true
-first_true a b c is = ap (λ (x : Bool). x || b || c) is
-
-after_true : (a c : Bool) → (a || true || c) ≡ true
-after_true true c = refl
-after_true false c = refl
-
 second_true : (a b c : Bool) → b ≡ true → (a || b || c) ≡ true
-second_true a b c is = ap (λ (x : Bool). a || x || c) is ∙ after_true a c
+second_true a b c is = grind (arith, nat_tests)
 
 none_true : (a b c : Bool) → a ≡ false → b ≡ false → c ≡ false → (a || b || c) ≡ false
 none_true a b c p q r = ap (λ (x : Bool). x || b || c) p ∙ ap (λ (x : Bool). false || x || c) q ∙ ap (λ (x : Bool). false || false || x) r
 
-first_is_not : (a b c : Bool) → (a || b || c) ≡ false → a ≡ false
-first_is_not true b c is = absurd (cc)
-first_is_not false b c is = refl
-
-once : (a : Bool) → (a || false || false) ≡ a
-once true = refl
-once false = refl
-
-twice : (a : Bool) → (a || false || a) ≡ a
-twice true = refl
-twice false = refl
-
 as_first : (a b c e : Bool) → a ≡ e → b ≡ false → c ≡ false → (a || b || c) ≡ e
-as_first a b c e p q r =
-    ap (λ (x : Bool). x || b || c) p ∙ ap (λ (x : Bool). e || x || c) q ∙ ap (λ (x : Bool). e || false || x) r ∙ once e
+as_first a b c e p q r = grind (arith, nat_tests)
 
 as_both : (a b c e : Bool) → a ≡ e → b ≡ false → c ≡ e → (a || b || c) ≡ e
-as_both a b c e p q r =
-    ap (λ (x : Bool). x || b || c) p ∙ ap (λ (x : Bool). e || x || c) q ∙ ap (λ (x : Bool). e || false || x) r ∙ twice e
+as_both a b c e p q r = grind (arith, nat_tests)
 
 -- ---- the writes of a ready attempt are named, and stand apart
 
@@ -73,8 +49,7 @@ has_bytes : (key : List ℕ) → 0 < length key → is_empty_key key ≡ false
 has_bytes key more = ne_eqb (length key) 0 (λ (is : length key ≡ 0). omega arith)
 
 write_named : (w : Change) → 0 < length (key_of w) → is_empty_key (key_of_op (op_of w)) ≡ false
-write_named (Put key value lease) more = has_bytes key more
-write_named (Del key) more = has_bytes key more
+write_named w more = grind (arith, nat_tests, has_bytes)
 
 abbrev names_nothing : Op → Bool
 names_nothing op = is_empty_key (key_of_op op)
@@ -84,10 +59,7 @@ writes_named [] named = refl
 writes_named (w ∷ ws) named = ap (λ b. b || list_any names_nothing (map op_of ws)) (write_named w named.0) ∙ writes_named ws named.1
 
 write_apart : (w later : Change) → bytes_eq (key_of later) (key_of w) ≡ false → clash (op_of w) (op_of later) ≡ false
-write_apart (Put key value lease) (Put k v l) apart = apart_back k key apart
-write_apart (Put key value lease) (Del k) apart = apart_back k key apart
-write_apart (Del key) (Put k v l) apart = apart_back k key apart
-write_apart (Del key) (Del k) apart = refl
+write_apart w later apart = grind (arith, nat_tests, apart_back)
 
 none_clash : (w : Change) (ws : List Change) → change_of (key_of w) ws ≡ None → list_any (clash (op_of w)) (map op_of ws) ≡ false
 none_clash w [] absent = refl
@@ -102,10 +74,7 @@ changes_apart (w ∷ ws) distinct = ap (λ b. b || has_clash (map op_of ws)) (no
 
 -- so no two writes of a ready attempt clash
 pub writes_stand_apart : (ready : ReadyRun) → IsRunOnItsAnswers ready → has_clash (map op_of ready.writes) ≡ false
-writes_stand_apart ready kept =
-    let ws : List Change = latest_writes kept.run.writes in
-    ap (λ (l : List Change). has_clash (map op_of l)) kept.writes
-    ∙ changes_apart ws (changes_are_distinct ws (latest_writes-distinct kept.run.writes))
+writes_stand_apart ready kept = grind (arith, nat_tests, changes_apart, changes_are_distinct, latest_writes-distinct)
 
 -- ---- the keys that were read
 
@@ -136,13 +105,7 @@ read_compares reads r is = length-map reads is_as_read ∙ sym is
 
 snapshot_compares : (reads : List ReadAnswer) (writes : List Change) (r w : ℕ) → r ≡ length reads → w ≡ length writes →
     length (compares_of SerializableSnapshot reads writes) ≡ r + w
-snapshot_compares reads writes r w read written =
-    let reads_count : length (map is_as_read reads) ≡ length reads = length-map reads is_as_read in
-    let writes_count : length (map (is_unmodified (first_carried reads)) writes) ≡ length writes = length-map writes (is_unmodified (first_carried reads)) in
-    let all : length (compares_of SerializableSnapshot reads writes)
-    ≡ length (map is_as_read reads) + length (map (is_unmodified (first_carried reads)) writes) =
-    length-append (map is_as_read reads) (map (is_unmodified (first_carried reads)) writes) in
-    omega (arith, all, reads_count, writes_count, read, written)
+snapshot_compares reads writes r w read written = grind (arith, nat_tests, length-map, length-append)
 
 rereads_count : (reads : List ReadAnswer) (r : ℕ) → r ≡ length reads → length (map read_now (map (λ (a : ReadAnswer). a.key) reads)) ≡ r
 rereads_count reads r is = length-map (map (λ (a : ReadAnswer). a.key) reads) read_now ∙ length-map reads (λ (a : ReadAnswer). a.key) ∙ sym is
@@ -153,65 +116,38 @@ writes_count writes w is = length-map writes op_of ∙ sym is
 -- more writes than a transaction may have
 pub many_writes : (limit : ℕ) (level : Level) (reads : List ReadAnswer) (writes : List Change) (w : ℕ) → w ≡ length writes → limit < w →
     has_too_many limit (commit_of level reads writes) ≡ true
-many_writes limit level reads writes w is more =
-    let txn : Txn = commit_of level reads writes in
-    second_true (nat_lt limit (length txn.compares)) (nat_lt limit (length txn.success)) (nat_lt limit (length txn.failure))
-    (ap (nat_lt limit) (writes_count writes w is) ∙ lt-ltb limit w more)
+many_writes limit level reads writes w is more = grind (arith, nat_tests, second_true, writes_count, lt-ltb)
 
 by_sum : (limit r w : ℕ) (b : Bool) → nat_lt limit (r + w) ≡ b → w ≤ limit → nat_lt (limit - w) r ≡ (b || nat_lt limit w || nat_lt limit r)
-by_sum limit r w true is few =
-    let more : limit < r + w = ltb-true limit (r + w) is in
-    lt-ltb (limit - w) r (omega (arith, more, few)) ∙ sym (first_true true (nat_lt limit w) (nat_lt limit r) refl)
-by_sum limit r w false is few =
-    let most : r + w ≤ limit = ltb-false limit (r + w) is in
-    le-ltb (limit - w) r (omega (arith, most, few))
-    ∙ sym (none_true false (nat_lt limit w) (nat_lt limit r) refl (le-ltb limit w few) (le-ltb limit r (omega (arith, most))))
+by_sum limit r w b is few = grind (arith, nat_tests, ltb-true, lt-ltb, ltb-false, le-ltb, none_true)
 
 three_numbers : (limit : ℕ) (txn : Txn) (a b c : ℕ) → length txn.compares ≡ a → length txn.success ≡ b → length txn.failure ≡ c →
     has_too_many limit txn ≡ (nat_lt limit a || nat_lt limit b || nat_lt limit c)
-three_numbers limit txn a b c p q r =
-    ap (λ (n : ℕ). nat_lt limit n || nat_lt limit (length txn.success) || nat_lt limit (length txn.failure)) p
-    ∙ ap (λ (n : ℕ). nat_lt limit a || nat_lt limit n || nat_lt limit (length txn.failure)) q
-    ∙ ap (λ (n : ℕ). nat_lt limit a || nat_lt limit b || nat_lt limit n) r
+three_numbers limit txn a b c p q r = grind (arith, nat_tests)
 
 pub snapshot_count : (limit : ℕ) (reads : List ReadAnswer) (writes : List Change) (r w : ℕ) → r ≡ length reads → w ≡ length writes → w ≤ limit →
     nat_lt (limit - w) r ≡ has_too_many limit (commit_of SerializableSnapshot reads writes)
-snapshot_count limit reads writes r w read written few =
-    by_sum limit r w (nat_lt limit (r + w)) refl few
-    ∙ sym (three_numbers limit (commit_of SerializableSnapshot reads writes) (r + w) w r (snapshot_compares reads writes r w read written)
-    (writes_count writes w written) (rereads_count reads r read))
+snapshot_count limit reads writes r w read written few = grind (arith, nat_tests, by_sum, three_numbers, snapshot_compares, writes_count, rereads_count)
 
 pub serializable_count : (limit : ℕ) (reads : List ReadAnswer) (writes : List Change) (r w : ℕ) → r ≡ length reads → w ≡ length writes → w ≤ limit →
     nat_lt limit r ≡ has_too_many limit (commit_of Serializable reads writes)
 serializable_count limit reads writes r w read written few =
-    sym (as_both (nat_lt limit r) (nat_lt limit w) (nat_lt limit r) (nat_lt limit r) refl (le-ltb limit w few) refl)
-    ∙ sym (three_numbers limit (commit_of Serializable reads writes) r w r (read_compares reads r read) (writes_count writes w written)
-    (rereads_count reads r read))
+    grind (arith, nat_tests, as_both, le-ltb, three_numbers, read_compares, writes_count, rereads_count)
 
 pub repeatable_count : (limit : ℕ) (reads : List ReadAnswer) (writes : List Change) (r w : ℕ) → r ≡ length reads → w ≡ length writes → w ≤ limit →
     nat_lt limit r ≡ has_too_many limit (commit_of RepeatableReads reads writes)
-repeatable_count limit reads writes r w read written few =
-    sym (as_first (nat_lt limit r) (nat_lt limit w) (nat_lt limit 0) (nat_lt limit r) refl (le-ltb limit w few) (le-ltb limit 0 (omega arith)))
-    ∙ sym (three_numbers limit (commit_of RepeatableReads reads writes) r w 0 (read_compares reads r read) (writes_count writes w written) refl)
+repeatable_count limit reads writes r w read written few = grind (arith, nat_tests, as_first, le-ltb, three_numbers, read_compares, writes_count)
 
 pub committed_count : (limit : ℕ) (reads : List ReadAnswer) (writes : List Change) (w : ℕ) → w ≡ length writes → w ≤ limit →
     false ≡ has_too_many limit (commit_of ReadCommitted reads writes)
-committed_count limit reads writes w written few =
-    sym (three_numbers limit (commit_of ReadCommitted reads writes) 0 w 0 refl (writes_count writes w written) refl
-    ∙ none_true (nat_lt limit 0) (nat_lt limit w) (nat_lt limit 0) (le-ltb limit 0 (omega arith)) (le-ltb limit w few) (le-ltb limit 0 (omega arith)))
+committed_count limit reads writes w written few = grind (arith, nat_tests, three_numbers, writes_count, none_true, le-ltb)
 
 -- where nothing is wrong, the compares are within the limit; at SerializableSnapshot they are those of what was read and of what is written
 not_too_many : (b : Bool) (rest : Option Refusal) → cond b (Some TooManyOps) rest ≡ None → b ≡ false
-not_too_many true rest is = absurd (cc)
-not_too_many false rest is = refl
+not_too_many b rest is = grind (arith, nat_tests)
 
 pub compares_within : (limit : ℕ) (txn : Txn) → fault_of limit txn ≡ None → length txn.compares ≤ limit
-compares_within limit txn is =
-    let few : has_too_many limit txn ≡ false =
-    not_too_many (has_too_many limit txn)
-    (cond (has_empty_key txn) (Some EmptyKey) (cond (has_clash txn.success || has_clash txn.failure) (Some DuplicateKey) None)) is in
-    ltb-false limit (length txn.compares)
-    (first_is_not (nat_lt limit (length txn.compares)) (nat_lt limit (length txn.success)) (nat_lt limit (length txn.failure)) few)
+compares_within limit txn is = grind (arith, nat_tests, not_too_many, ltb-false)
 
 pub few_compares : (limit : ℕ) (reads : List ReadAnswer) (writes : List Change) → length (compares_of SerializableSnapshot reads writes) ≤ limit →
     length reads + length writes ≤ limit
@@ -223,9 +159,7 @@ few_compares limit reads writes below = omega (arith, below, snapshot_compares r
 compared_writes : (first : ℕ) (ws : List Change) → AllByRecursion (λ w. 0 < length (key_of w)) ws →
     list_any (λ (c : Compare). is_empty_key c.key) (map (is_unmodified first) ws) ≡ false
 compared_writes first [] named = refl
-compared_writes first (w ∷ ws) named =
-    ap (λ b. b || list_any (λ (c : Compare). is_empty_key c.key) (map (is_unmodified first) ws)) (has_bytes (key_of w) named.0)
-    ∙ compared_writes first ws named.1
+compared_writes first (w ∷ ws) named = grind (arith, nat_tests, has_bytes, compared_writes first ws named.1)
 
 compared_before : (reads : List ReadAnswer) (rest : List Compare) → list_any (λ (c : Compare). is_empty_key c.key) rest ≡ false →
     list_any (λ (c : Compare). is_empty_key c.key) (map is_as_read reads ++ rest) ≡ reads_nothing reads
@@ -234,56 +168,24 @@ compared_before (a ∷ reads) rest none = ap (λ b. is_empty_key a.key || b) (co
 
 pub empty_by : (level : Level) (reads : List ReadAnswer) (writes : List Change) → AllByRecursion (λ w. 0 < length (key_of w)) writes →
     has_empty_key (commit_of level reads writes) ≡ (is_comparing level && reads_nothing reads)
-empty_by SerializableSnapshot reads writes named =
-    let txn : Txn = commit_of SerializableSnapshot reads writes in
-    as_both (list_any (λ (c : Compare). is_empty_key c.key) txn.compares) (list_any names_nothing txn.success) (list_any names_nothing txn.failure)
-    (reads_nothing reads)
-    (compared_before reads (map (is_unmodified (first_carried reads)) writes) (compared_writes (first_carried reads) writes named))
-    (writes_named writes named) (reads_again reads)
-empty_by Serializable reads writes named =
-    let txn : Txn = commit_of Serializable reads writes in
-    as_both (list_any (λ (c : Compare). is_empty_key c.key) txn.compares) (list_any names_nothing txn.success) (list_any names_nothing txn.failure)
-    (reads_nothing reads) (compared_reads reads) (writes_named writes named) (reads_again reads)
-empty_by RepeatableReads reads writes named =
-    let txn : Txn = commit_of RepeatableReads reads writes in
-    as_first (list_any (λ (c : Compare). is_empty_key c.key) txn.compares) (list_any names_nothing txn.success) (list_any names_nothing txn.failure)
-    (reads_nothing reads) (compared_reads reads) (writes_named writes named) refl
-empty_by ReadCommitted reads writes named =
-    let txn : Txn = commit_of ReadCommitted reads writes in
-    none_true (list_any (λ (c : Compare). is_empty_key c.key) txn.compares) (list_any names_nothing txn.success) (list_any names_nothing txn.failure)
-    refl (writes_named writes named) refl
+empty_by level reads writes named =
+    grind (arith, nat_tests, as_both, compared_before, compared_writes, writes_named, reads_again, compared_reads, as_first, none_true)
 
 -- ---- what is wrong
 
 pub fault_many : (limit : ℕ) (txn : Txn) → has_too_many limit txn ≡ true → fault_of limit txn ≡ Some TooManyOps
-fault_many limit txn many =
-    ap (λ (b : Bool). cond b (Some TooManyOps)
-    (cond (has_empty_key txn) (Some EmptyKey) (cond (has_clash txn.success || has_clash txn.failure) (Some DuplicateKey) None))) many
+fault_many limit txn many = grind (arith, nat_tests)
 
 fault_few : (limit : ℕ) (txn : Txn) → has_too_many limit txn ≡ false →
     fault_of limit txn ≡ cond (has_empty_key txn) (Some EmptyKey) (cond (has_clash txn.success || has_clash txn.failure) (Some DuplicateKey) None)
-fault_few limit txn few =
-    ap (λ (b : Bool). cond b (Some TooManyOps)
-    (cond (has_empty_key txn) (Some EmptyKey) (cond (has_clash txn.success || has_clash txn.failure) (Some DuplicateKey) None))) few
+fault_few limit txn few = grind (arith, nat_tests)
 
 pub fault_empty : (limit : ℕ) (txn : Txn) → has_too_many limit txn ≡ false → has_empty_key txn ≡ true → fault_of limit txn ≡ Some EmptyKey
-fault_empty limit txn few empty =
-    fault_few limit txn few
-    ∙ ap (λ (b : Bool). cond b (Some EmptyKey) (cond (has_clash txn.success || has_clash txn.failure) (Some DuplicateKey) None)) empty
-
-fault_none : (limit : ℕ) (txn : Txn) → has_too_many limit txn ≡ false → has_empty_key txn ≡ false → (has_clash txn.success || has_clash txn.failure) ≡ false →
-    fault_of limit txn ≡ None
-fault_none limit txn few named apart =
-    fault_few limit txn few
-    ∙ ap (λ (b : Bool). cond b (Some EmptyKey) (cond (has_clash txn.success || has_clash txn.failure) (Some DuplicateKey) None)) named
-    ∙ ap (λ (b : Bool). cond b (Some DuplicateKey) None) apart
+fault_empty limit txn few empty = grind (arith, nat_tests, fault_few)
 
 -- the keys of a ready attempt's writes
 pub named_of_ready : (ready : ReadyRun) → IsRunOnItsAnswers ready → AllByRecursion (λ w. 0 < length (key_of w)) ready.writes
-named_of_ready ready kept =
-    subst (λ (ws : List Change). AllByRecursion (λ w. 0 < length (key_of w)) ws) (sym kept.writes)
-    (recursion_from_All (λ w. 0 < length (key_of w)) (latest_writes kept.run.writes)
-    (keys_are_not_empty (look_up ready.answers) ready.program.statements kept.run kept.is_run).2)
+named_of_ready ready kept = grind (arith, nat_tests, recursion_from_All, keys_are_not_empty)
 
 -- its keys are named but where one that was read is not
 pub ready_names : (ready : ReadyRun) → IsRunOnItsAnswers ready → has_empty_key (txn_of ready) ≡ (is_comparing ready.level && reads_nothing ready.answers)
@@ -291,8 +193,4 @@ ready_names ready kept = empty_by ready.level ready.answers ready.writes (named_
 
 pub ready_right : (limit : ℕ) (ready : ReadyRun) → IsRunOnItsAnswers ready → has_too_many limit (txn_of ready) ≡ false →
     has_empty_key (txn_of ready) ≡ false → fault_of limit (txn_of ready) ≡ None
-ready_right limit ready kept few named =
-    let txn : Txn = txn_of ready in
-    fault_none limit txn few named
-    (ap (λ (b : Bool). b || has_clash txn.failure) (writes_stand_apart ready kept)
-    ∙ reads_apart (reread_keys ready.level ready.answers))
+ready_right limit ready kept few named = grind (arith, nat_tests, writes_stand_apart, reads_apart, fault_few)

@@ -1,5 +1,5 @@
 -- A look-up with `else` in front of its statement.
-use Rattle.std.proofs.Common.{◌≡◌, ◌<◌, ℕ, true, false, refl, sym, ◌∙◌, ap, List, [], ◌∷◌, length, arith}
+use Rattle.std.proofs.Common.{◌≡◌, ◌<◌, ℕ, true, false, refl, sym, ◌∙◌, ap, [], ◌∷◌, length, arith}
 use Rattle.std.specs.Prelude.{pos}
 use Rattle.std.proofs.lemmas.List.{get_or-set_same}
 use Rattle.std.proofs.lemmas.Bool.Decides.{nat_tests}
@@ -27,13 +27,9 @@ module _ (look : Lookup) (v : ℕ) where
   IsGot (Gives (NumberValue n) s) = ⊥
   IsGot (Stops stop s) = Unit {0}
 
-  get_key_is_got : (key : List ℕ) (s : Session) → IsGot (get_key look key s)
-  unfolding get_key
-  get_key_is_got key s = grind (arith, nat_tests)
-
   get_is_got : (e : Expression) (s : Session) → IsGot (evaluate look (Get e) s)
-  unfolding evaluate
-  get_is_got e s = grind (arith, nat_tests, get_key_is_got)
+  unfolding get_key evaluate
+  get_is_got e s = grind (arith, nat_tests)
 
   abbrev pub ended : Unit {0} → Session → Outcome (Unit {0})
   ended x s = Gives tt s

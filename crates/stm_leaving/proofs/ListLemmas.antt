@@ -1,5 +1,5 @@
 -- Statements of a source, from the end of a list to its beginning.
-use Rattle.std.proofs.Common.{◌≡◌, ℕ, zero, suc, ◌+◌, ◌-◌, ◌<◌, Bool, true, ◌&&◌, List, [], ◌∷◌, length, get_or, drop, refl, sym, ap, ◌∙◌, arith}
+use Rattle.std.proofs.Common.{◌≡◌, ℕ, zero, suc, ◌+◌, ◌-◌, ◌<◌, Bool, true, List, [], ◌∷◌, length, get_or, drop, refl, sym, ap, ◌∙◌, arith}
 use Rattle.std.specs.Prelude.{nat_lt, if◌then◌else◌}
 use Rattle.std.proofs.lemmas.List.{at_drop_more}
 use Rattle.std.proofs.Math.Seq.{drop-length}
@@ -31,10 +31,7 @@ around_next : (xs : List Source) (i : ℕ) (d : Source) (k : Follow) → i < len
     → behind (get_or xs i d) (around (first_abort xs) i k) ≡ around (first_abort xs) (i + 1) k
 around_next [] i d k less = absurd (omega arith)
 around_next (x ∷ xs) zero d k less = next_first (is_abort x) (first_abort xs) k
-around_next (x ∷ xs) (suc i) d k less =
-    let e : suc i + 1 ≡ suc (i + 1) = omega arith in
-    next_more (is_abort x) (get_or xs i d) (first_abort xs) i k (around_next xs i d k (omega arith))
-    ∙ ap (λ (n : ℕ). around (first_abort (x ∷ xs)) n k) (sym e)
+around_next (x ∷ xs) (suc i) d k less = grind (arith, nat_tests, next_more, around_next xs i d k (omega arith))
 
 -- ---- the loops
 
@@ -84,9 +81,7 @@ test_kept x c a b f g k k' h e = grind (arith, nat_tests)
 one_kept : (q : Source) (k k' : Follow) → keeps_to_one goes_on q ≡ true → k.next ≡ k'.next → closed_one q k ≡ closed_one q k'
 unfolding closed keeps_to
 one_kept (Plain p) k k' h e = ap (Then p) e
-one_kept (Choice c a b) k k' h e =
-    test_kept (keeps_to goes_on a && keeps_to goes_on b) c (closed a nothing) (closed b nothing) (closed a k) (closed b k) k k' h e
-    ∙ sym (test_kept (keeps_to goes_on a && keeps_to goes_on b) c (closed a nothing) (closed b nothing) (closed a k') (closed b k') k' k' h refl)
+one_kept (Choice c a b) k k' h e = grind (arith, nat_tests, test_kept)
 one_kept (Items cs) k k' h e = ap (items_behind cs) e
 one_kept (Count v n limit body) k k' h e = ap (Then (For v n limit (closed body nothing))) e
 one_kept Return k k' h e = cc

@@ -51,9 +51,7 @@ only_turns : (ways : Ways) (v : ℕ) (body : Session → Outcome Way) → ((t : 
     Only ways (run_turns v body left i s)
 unfolding run_turns
 only_turns ways v body h zero i s = refl
-only_turns ways v body h (suc left) i s =
-    only_more ways (begin_turn v i s) (λ _ t. and_then (body t) (after_turn (run_turns v body left (suc i))))
-    (λ _ t. only_turn ways (body t) (run_turns v body left (suc i)) (h t) (only_turns ways v body h left (suc i)))
+only_turns ways v body h (suc left) i s = grind (arith, nat_tests, only_more, only_turn, only_turns ways v body h left (suc i))
 
 module _ (look : Lookup) where
   mutual

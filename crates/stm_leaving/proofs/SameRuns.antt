@@ -1,6 +1,6 @@
 -- What goes alike with one variable set: expressions, conditions and statements without blocks, over the variable and over its value.
 use Rattle.std.proofs.Common.{◌≡◌, ◌<◌, ℕ, Bool, true, false, refl, ◌∙◌, ap, subst, List, length, nat_eq, ◌||◌, slice_index_or, slice_set, arith}
-use Rattle.std.specs.Prelude.{if◌then◌else◌, pos, Result, Option}
+use Rattle.std.specs.Prelude.{if◌then◌else◌, pos, Result}
 use Rattle.std.proofs.lemmas.Bool.{eqb-true, Decides.nat_tests}
 use Rattle.std.proofs.lemmas.Bool.Decides.{eqb_tells}
 use Rattle.std.proofs.lemmas.List.{set-set, set_comm, get_or-set_same, get_or-set_other}
@@ -14,7 +14,7 @@ use Rattle.stm_steps.specs.Answer.{Lookup}
 use Rattle.stm_steps.specs.Values.{text_in, key_in, arithmetic, concatenated, text_of, num_of, put_of, del_of}
 use Rattle.stm_steps.specs.Session.{Session, with_variable, with_output, with_write, variable_in}
 use Rattle.stm_steps.specs.Outcome.{Outcome, Gives, Stops, and_then, given}
-use Rattle.stm_steps.specs.Meaning.{get_of, get_key, rev_key, evaluate, aborts, run_statement}
+use Rattle.stm_steps.specs.Meaning.{get_key, rev_key, evaluate, aborts, run_statement}
 use Rattle.stm_leaving.specs.Elses.{literal, fill, mentions, fill_plain, is_plain, but_for}
 
 pub set_again : (v : ℕ) (x y : Value) (s : Session) → with_variable v x (with_variable v y s) ≡ with_variable v x s
@@ -80,12 +80,9 @@ module _ (look : Lookup) (v : ℕ) (y : Value) (Fit : List Value → Type 0) whe
   pub same_given : {X : Type 0} (r : Result X Fault) → Same (given r) (given r)
   same_given r = grind (arith, nat_tests)
 
-  get_of-sized : (key : List ℕ) (w : Option Write) (s : Session) → Fit s.variables → Sized (get_of look key w s)
-  get_of-sized key w s n = grind (arith, nat_tests)
-
   same_get : (key : List ℕ) → Same (get_key look key) (get_key look key)
   unfolding get_key
-  same_get key = grind (arith, nat_tests, get_of-sized)
+  same_get key = grind (arith, nat_tests)
 
   same_rev : (key : List ℕ) → Same (rev_key look key) (rev_key look key)
   unfolding rev_key

@@ -1,5 +1,5 @@
 -- A look-up with `else` in front of a statement of a source.
-use Rattle.std.proofs.Common.{◌≡◌, ◌<◌, ℕ, Bool, true, false, refl, sym, ◌∙◌, ap, subst, length, nat_eq, ◌||◌, ◌⊎◌, suc, zero, inl, inr, arith}
+use Rattle.std.proofs.Common.{◌≡◌, ◌<◌, ℕ, Bool, true, false, refl, ◌∙◌, ap, length, nat_eq, ◌||◌, ◌⊎◌, suc, zero, inl, inr, arith}
 use Rattle.std.specs.Prelude.{not, ◌&&◌, pos}
 use Rattle.std.proofs.lemmas.Bool.{eqb-true, Decides.nat_tests}
 use Rattle.stm_program.specs.Syntax.{Expression, Get, End}
@@ -8,7 +8,7 @@ use Rattle.stm_steps.specs.declared.value.Value.TheVariants.{Number as NumberVal
 use Rattle.stm_steps.specs.Answer.{Lookup}
 use Rattle.stm_steps.specs.Values.{turns_of}
 use Rattle.stm_steps.specs.Session.{Session, with_variable}
-use Rattle.stm_steps.specs.Outcome.{Outcome, Gives, and_then, given, begin_turn}
+use Rattle.stm_steps.specs.Outcome.{Outcome, Gives, and_then, given}
 use Rattle.stm_steps.specs.Meaning.{evaluate, holds, run_statement, run_block}
 use Rattle.stm_leaving.specs.Elses.{or_else, evaluate_else, fill, mentions, run_set_else, lifted, but_for, blank, but_for_at_stops}
 use Rattle.stm_leaving.specs.Source.{Source, Sources, Copies, Plain, Choice, Items, Count, Return, Break, Continue, Nil, Next, NoCopy, Copy}
@@ -38,13 +38,9 @@ module _ (look : Lookup) (v : ℕ) where
   run_turns_unseen : (w : ℕ) (g : Session → Outcome Way) → (w ≡ v) ⊎ Unseen look v g → (left i : ℕ) → Unseen look v (run_turns w g left i)
   unfolding run_turns
   run_turns_unseen w g h zero i s t near = ap (λ r. Gives GoesOn r) near
-  run_turns_unseen w g (inl e) (suc left) i s t near =
-      then_exact look v (begin_turn w i s) (begin_turn w i t) (λ _ r. and_then (g r) (after_turn (run_turns w g left (suc i))))
-      (subst (λ (u : ℕ). but_for_at_stops v (begin_turn u i s) ≡ but_for_at_stops v (begin_turn u i t)) (sym e) (begin_exact look v i s t near))
+  run_turns_unseen w g (inl e) (suc left) i s t near = grind (arith, nat_tests, then_exact, begin_exact)
   run_turns_unseen w g (inr h) (suc left) i s t near =
-      then_unseen look v (begin_turn w i s) (begin_turn w i t) (λ _ r. and_then (g r) (after_turn (run_turns w g left (suc i)))) (begin_unseen look v w i s t near)
-      (λ _ a b e. then_unseen look v (g a) (g b) (after_turn (run_turns w g left (suc i))) (h a b e)
-      (after_unseen (run_turns w g left (suc i)) (run_turns_unseen w g (inr h) left (suc i))))
+      grind (arith, nat_tests, then_unseen, begin_unseen, after_unseen, run_turns_unseen w g (inr h) left (suc i))
 
   run_turns_see : (x : Bool) (w : ℕ) → nat_eq w v ≡ x → (y : Bool) → (not x && y) ≡ false → (body : Sources) → (y ≡ false → Unseen look v (run_source look body)) →
       (w ≡ v) ⊎ Unseen look v (run_source look body)

@@ -1,5 +1,5 @@
 -- Statements that do not need a variable do not see it, and so a look-up with `else` may stand in front of any of them.
-use Rattle.std.proofs.Common.{◌≡◌, ◌<◌, ℕ, Bool, true, false, refl, sym, ◌∙◌, ap, subst, List, length, nat_eq, ◌||◌, ◌⊎◌, suc, zero, inl, inr, arith}
+use Rattle.std.proofs.Common.{◌≡◌, ◌<◌, ℕ, Bool, true, false, refl, sym, ◌∙◌, ap, List, length, nat_eq, ◌||◌, ◌⊎◌, suc, zero, inl, inr, arith}
 use Rattle.std.specs.Prelude.{if◌then◌else◌, not, ◌&&◌, pos}
 use Rattle.std.proofs.lemmas.Bool.{eqb-true, Decides.nat_tests}
 use Rattle.stm_program.specs.Syntax.{Expression, Statement, Block, Condition, Less, Not, And, Or, Get, Equal, Set, Put, Del, If, For, Emit, Abort, End, Then}
@@ -113,12 +113,8 @@ module _ (look : Lookup) (v : ℕ) where
   repeat_unseen : (w : ℕ) (g : Session → Outcome (Unit {0})) → (w ≡ v) ⊎ Unseen g → (left i : ℕ) → Unseen (repeat w g left i)
   unfolding repeat
   repeat_unseen w g h zero i s t near = ap (λ r. Gives tt r) near
-  repeat_unseen w g (inl e) (suc left) i s t near =
-      then_exact (begin_turn w i s) (begin_turn w i t) (λ _ r. and_then (g r) (λ _. repeat w g left (suc i)))
-      (subst (λ (u : ℕ). but_for_at_stops v (begin_turn u i s) ≡ but_for_at_stops v (begin_turn u i t)) (sym e) (begin_exact i s t near))
-  repeat_unseen w g (inr h) (suc left) i s t near =
-      then_unseen (begin_turn w i s) (begin_turn w i t) (λ _ r. and_then (g r) (λ _. repeat w g left (suc i))) (begin_unseen w i s t near)
-      (λ _ a b e. then_unseen (g a) (g b) (λ _. repeat w g left (suc i)) (h a b e) (λ _. repeat_unseen w g (inr h) left (suc i)))
+  repeat_unseen w g (inl e) (suc left) i s t near = grind (arith, nat_tests, then_exact, begin_exact)
+  repeat_unseen w g (inr h) (suc left) i s t near = grind (arith, nat_tests, then_unseen, begin_unseen, repeat_unseen w g (inr h) left (suc i))
 
   -- ---- statements
 

@@ -1,15 +1,16 @@
 -- The list of a program as it is read, and as it is spelled.
 use Rattle.std.proofs.Common.{◌≡◌, ℕ, ◌+◌, ◌-◌, ◌<◌, ◌≤◌, Bool, true, false, cond, List, [], ◌∷◌, ◌++◌, length, map, take, drop, get_or, String}
 use Rattle.std.proofs.Common.{Option, Some, None, Ok, Err, refl, sym, ap, subst, ◌∙◌, arith, ltb-true, lt-ltb, append_assoc, codes}
-use Rattle.std.specs.Prelude.{◌||◌, nat_eq, nat_lt, bytes_eq, string_bytes}
+use Rattle.std.specs.Prelude.{◌||◌, bytes_eq, string_bytes}
 use Rattle.std.specs.List.{list_any}
 use Rattle.std.proofs.lemmas.List.{append-nil, length-map, map_push, take_rest}
 use Rattle.std.proofs.lemmas.Slice.Eq.{bytes_eq-Decides}
-use Rattle.serde_json.specs.Data.{Data, null, boolean, number, string, array, object, Items, no_items, item}
-use Rattle.serde_json.specs.Find.{as_str, as_array}
+use Rattle.std.proofs.lemmas.Bool.Decides.{nat_tests}
+use Rattle.serde_json.specs.Data.{Data, string, array, Items, no_items, item}
+use Rattle.serde_json.specs.Find.{as_array}
 use Rattle.serde_json.specs.View.{view, items_view}
 use Rattle.serde_json.specs.declared.value.Value.{Value}
-use Rattle.stm_json.specs.declared.cause.Cause.TheVariants.{Shape, TooLong, TooMany}
+use Rattle.stm_json.specs.declared.cause.Cause.TheVariants.{TooMany}
 use Rattle.stm_json.specs.declared.read_error.ReadError.{ReadError}
 use Rattle.stm_json.specs.declared.read_error.ReadError.TheVariants as error
 use Rattle.stm_json.specs.Outcome.{Outcome, bad, within}
@@ -19,7 +20,7 @@ use Rattle.stm_json.specs.Parts.{same, spelled}
 use Rattle.stm_json.proofs.ElementLemmas.{worded-is, one_of-is}
 use Rattle.stm_json.proofs.PartLemmas.{list_is}
 use Rattle.stm_json.proofs.OutcomeLemmas.{bind_ok, within_ok}
-use Rattle.stm_program.specs.declared.limits.TheConstants.{MAX_PREFETCH, MAX_TEXT}
+use Rattle.stm_program.specs.declared.limits.TheConstants.{MAX_PREFETCH}
 use Rattle.stm_program.specs.Limits.{is_no_key, has_repeat}
 use Rattle.stm_program.proofs.ListLemmas.{ListParts, once-push, named-push}
 use Rattle.stm_program_json.specs.Grammar.{SpellsKeys, SpellsList}
@@ -34,52 +35,22 @@ pub record KeyRead (earlier : List (List ℕ)) (d : Data) (key : List ℕ) : Typ
   pub named : is_no_key key ≡ false
   pub new : list_any (bytes_eq key) earlier ≡ false
 
-reported_case : (empty listed long : Bool) (s key : List ℕ) → cond (empty || listed) (bad Shape) (cond long (bad TooLong) (Ok s)) ≡ Ok key
-    → ((empty || long) ≡ false) × (listed ≡ false) × (s ≡ key)
-reported_case true listed long s key h = absurd (cc)
-reported_case false true long s key h = absurd (cc)
-reported_case false false true s key h = absurd (cc)
-reported_case false false false s key h = (refl, refl, cc)
-
 text_reported : (earlier : List (List ℕ)) (s key : List ℕ) → length earlier < MAX_PREFETCH → key_reported earlier (Some s) ≡ Ok key → KeyRead earlier (string s) key
-text_reported earlier s key room h =
-    let parts = reported_case (nat_eq (length s) 0) (list_any (bytes_eq s) earlier) (nat_lt MAX_TEXT (length s)) s key h in
-    subst (λ (k : List ℕ). KeyRead earlier (string s) k) parts.2 record { spelled = refl; room = room; named = parts.0; new = parts.1 }
-
-data_reported : (earlier : List (List ℕ)) (d : Data) (key : List ℕ) → length earlier < MAX_PREFETCH → key_reported earlier (as_str d) ≡ Ok key → KeyRead earlier d key
-data_reported earlier null key room h = absurd (cc)
-data_reported earlier (boolean b) key room h = absurd (cc)
-data_reported earlier (number n) key room h = absurd (cc)
-data_reported earlier (string s) key room h = text_reported earlier s key room h
-data_reported earlier (array ds) key room h = absurd (cc)
-data_reported earlier (object ms) key room h = absurd (cc)
+text_reported earlier s key room h = grind (arith, nat_tests)
 
 room_case : (b : Bool) (reading : Outcome (List ℕ)) (key : List ℕ) → cond b reading (bad TooMany) ≡ Ok key → (b ≡ true) × (reading ≡ Ok key)
 room_case true reading key h = (refl, h)
 room_case false reading key h = absurd (cc)
 
 pub key_read : (earlier : List (List ℕ)) (d : Data) (key : List ℕ) → key_at earlier d ≡ Ok key → KeyRead earlier d key
-key_read earlier d key h =
-    let parts = room_case (nat_lt (length earlier) MAX_PREFETCH) (key_reported earlier (as_str d)) key h in
-    data_reported earlier d key (ltb-true (length earlier) MAX_PREFETCH parts.0) parts.1
+key_read earlier d key h = grind (arith, nat_tests, room_case, ltb-true, text_reported)
 
 neither : (b c : Bool) → (b || c) ≡ false → (b ≡ false) × (c ≡ false)
 neither true c h = absurd (cc)
 neither false c h = (refl, h)
 
-key_reported-reads : (empty listed long : Bool) (s : List ℕ) → empty ≡ false → listed ≡ false → long ≡ false
-    → cond (empty || listed) (bad Shape) (cond long (bad TooLong) (Ok s)) ≡ Ok s
-key_reported-reads true listed long s e l g = absurd (cc)
-key_reported-reads false true long s e l g = absurd (cc)
-key_reported-reads false false true s e l g = absurd (cc)
-key_reported-reads false false false s e l g = refl
-
 pub key_reads : (earlier : List (List ℕ)) (key : List ℕ) → KeyRead earlier (string key) key → key_at earlier (string key) ≡ Ok key
-key_reads earlier key r =
-    let parts = neither (nat_eq (length key) 0) (nat_lt MAX_TEXT (length key)) r.named in
-    let within_room : nat_lt (length earlier) MAX_PREFETCH ≡ true = lt-ltb (length earlier) MAX_PREFETCH r.room in
-    ap (λ b. cond b (key_reported earlier (Some key)) (bad TooMany)) within_room
-    ∙ key_reported-reads (nat_eq (length key) 0) (list_any (bytes_eq key) earlier) (nat_lt MAX_TEXT (length key)) key parts.0 r.new parts.1
+key_reads earlier key r = grind (arith, nat_tests, neither, lt-ltb)
 
 -- ---- all keys
 
@@ -227,18 +198,10 @@ array_sound d (Some ks) keys e h =
     let r = keys_sound [] ks keys no_list h in
     (ks, list_is d ks e, subst (SpellsKeys ks) (sym r.follow) r.spelled, r.parts)
 
-parts_case : (p : List ℕ × Items) (parts : Items) (b : Bool) → same p.0 (codes "prefetch") ≡ b → cond b (Some p.1) None ≡ Some parts
-    → (p.0 ≡ codes "prefetch") × (p.1 ≡ parts)
-parts_case p parts true t h = ((bytes_eq-Decides p.0 (codes "prefetch")).0 t, cc)
-parts_case p parts false t h = absurd (cc)
-
 -- what begins with the word of a list
 pub list_parts-is : (d : Data) (o : Option (List ℕ × Items)) (parts : Items) → worded d ≡ o → list_parts o ≡ Some parts
     → d ≡ array (item (string (codes "prefetch")) parts)
-list_parts-is d None parts w h = absurd (cc)
-list_parts-is d (Some p) parts w h =
-    let is = parts_case p parts (same p.0 (codes "prefetch")) refl h in
-    worded-is d p w ∙ rw (is.0, is.1) refl
+list_parts-is d o parts w h = grind (arith, nat_tests, worded-is, bytes_eq-Decides)
 
 pub list_sound : (d : Data) (parts : Items) (o : Option Data) (keys : List (List ℕ)) → d ≡ array (item (string (codes "prefetch")) parts) → one_of parts ≡ o
     → list_of o ≡ Ok keys → SpellsList d keys × ListParts keys

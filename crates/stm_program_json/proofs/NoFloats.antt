@@ -1,11 +1,11 @@
 -- No program is written with a float.
-use Rattle.std.proofs.Common.{◌≡◌, false, ℕ, ℤ, pos, negsuc, List, [], ◌∷◌, refl}
+use Rattle.std.proofs.Common.{◌≡◌, false, ℕ, ℤ, pos, negsuc, List, [], ◌∷◌, refl, arith}
+use Rattle.std.proofs.lemmas.Bool.Decides.{nat_tests}
 use Rattle.serde_json.specs.Find.{is_float, of_integer}
 use Rattle.serde_json.specs.Written.{has_float, items_have_float}
 use Rattle.stm_program.specs.Syntax.{Expression, Text, Number, Variable, Get, Rev, Arithmetic, Cat, TextOf, NumOf, Condition, Equal, Less, Not, And, Or}
 use Rattle.stm_program.specs.Syntax.{Statement, Set, Put, Del, If, For, Emit, Abort, Block, End, Then, ProgramTree}
-use Rattle.stm_program_json.specs.Writing.{written_expression, written_condition, written_statement, written_statements, written_keys, after_list}
-use Rattle.stm_program_json.specs.Writing.{written_program}
+use Rattle.stm_program_json.specs.Writing.{written_expression, written_condition, written_statement, written_statements, written_keys, written_program}
 
 of_integer-no_float : (z : ℤ) → is_float (of_integer z) ≡ false
 of_integer-no_float (pos n) = refl
@@ -47,9 +47,5 @@ keys-no_float : (keys : List (List ℕ)) → items_have_float (written_keys keys
 keys-no_float [] = refl
 keys-no_float (key ∷ keys) = keys-no_float keys
 
-listed-no_float : (keys : List (List ℕ)) (b : Block) → items_have_float (after_list keys (written_statements b)) ≡ false
-listed-no_float [] b = statements-no_float b
-listed-no_float (key ∷ keys) b = rw (keys-no_float keys) (statements-no_float b)
-
 pub program-no_float : (p : ProgramTree) → has_float (written_program p) ≡ false
-program-no_float p = listed-no_float p.prefetch p.statements
+program-no_float p = grind (arith, nat_tests, statements-no_float, keys-no_float)

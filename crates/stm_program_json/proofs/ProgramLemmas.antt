@@ -1,5 +1,6 @@
 -- What the exact answer of reading a program says in the words of the grammar and of the first fault.
-use Rattle.std.proofs.Common.{◌≡◌, inl, inr, ℕ, List, ◌∷◌, Option, None, Some, Result, Ok, Err, refl, sym, ap, subst, ◌∙◌, MatchResult, arith}
+use Rattle.std.proofs.Common.{◌≡◌, inl, inr, ℕ, List, ◌∷◌, Option, None, Some, Result, Ok, Err, refl, ap, subst, ◌∙◌, MatchResult, arith}
+use Rattle.std.proofs.lemmas.Bool.Decides.{nat_tests}
 use Rattle.serde_json.specs.Data.{Data, Items, no_items, item}
 use Rattle.serde_json.specs.Find.{as_array}
 use Rattle.serde_json.specs.View.{view, items_view}
@@ -12,7 +13,7 @@ use Rattle.stm_program.specs.Limits.{BlockFits, Fits}
 use Rattle.stm_program.proofs.ListLemmas.{list_whole, fits_behind}
 use Rattle.stm_json.specs.Returns.{Returns}
 use Rattle.stm_json.specs.Faults.{IsFirstFault}
-use Rattle.stm_json.specs.Outcome.{Outcome, ◌>>=◌, within}
+use Rattle.stm_json.specs.Outcome.{◌>>=◌, within}
 use Rattle.stm_json.specs.Elements.{worded, one_of}
 use Rattle.stm_program_json.specs.Grammar.{SpellsElements, SpellsProgram}
 use Rattle.stm_program_json.specs.Reading.{statement_at, statements_from, list_of, list_parts, program_after, program_list, program_of}
@@ -76,17 +77,9 @@ faulted d (Err (error.Bad f)) h = program_fault d ∙ ap fault_of h
 
 -- ---- the reader
 
-as_elements : (d : Data) (vs rest : List Value) (v : Value) → as_array d ≡ Some (items_view vs) → vs ≡ v ∷ rest
-    → program_of d ≡ program_after (list_parts (worded (view v))) (items_view vs) (items_view rest)
-unfolding program_of
-as_elements d vs rest v is split =
-    ap program_list (is ∙ ap (λ (ws : List Value). (let o : Option Items = Some (items_view ws) in o)) split)
-    ∙ ap (λ (ws : List Value). program_after (list_parts (worded (view v))) (items_view ws) (items_view rest)) (sym split)
-
 -- what is read of a program whose first element is a list, and of one that has none
 pub program_reported : (r : Result Program ReadError) (d : Data) (vs rest : List Value) (v : Value) (parts : Option Items) → as_array d ≡ Some (items_view vs)
     → vs ≡ v ∷ rest → list_parts (worded (view v)) ≡ parts → Returns (λ p. p) r (program_after parts (items_view vs) (items_view rest))
     → Returns (λ p. p) r (program_of d)
-program_reported r d vs rest v parts is split first reported =
-    subst (λ (o : Outcome ProgramTree). Returns (λ p. p) r o)
-    (sym (as_elements d vs rest v is split ∙ ap (λ (o : Option Items). program_after o (items_view vs) (items_view rest)) first)) reported
+unfolding program_of
+program_reported r d vs rest v parts is split first reported = grind (arith, nat_tests)

@@ -1,5 +1,6 @@
 -- What data spell of a statement is read, where it is within the limits.
-use Rattle.std.proofs.Common.{◌≡◌, inl, inr, ℕ, zero, suc, ◌+◌, ◌-◌, ◌≤◌, List, [], ◌∷◌, Option, Some, None, Ok, refl, sym, ap, ◌∙◌, arith, lit<}
+use Rattle.std.proofs.Common.{◌≡◌, inl, inr, ℕ, zero, suc, ◌+◌, ◌-◌, ◌≤◌, List, [], ◌∷◌, Some, None, Ok, refl, sym, ap, ◌∙◌, arith, lit<}
+use Rattle.std.proofs.lemmas.Bool.Decides.{nat_tests}
 use Rattle.serde_json.specs.Data.{Data, array, Items, item}
 use Rattle.serde_json.specs.View.{items_of}
 use Rattle.stm_program_json.specs.declared.words.StmtWord.{StmtWord}
@@ -9,7 +10,6 @@ use Rattle.stm_program_json.specs.declared.words.Simple.TheVariants as simple
 use Rattle.stm_program.specs.Syntax.{Expression, Statement, Set, Put, Del, If, For, Emit, Abort, Block, End, Then, ProgramTree, of_statements}
 use Rattle.stm_program.specs.Size.{expression_nodes, statement_nodes, block_nodes}
 use Rattle.stm_program.specs.Limits.{expression_depth, statement_depth, block_depth, ExpressionInRange, StatementInRange, BlockInRange, BlockFits, Fits}
-use Rattle.stm_program_json.specs.Words.{statement_word}
 use Rattle.stm_program_json.specs.WordTexts.{simple_text, statement_text}
 use Rattle.stm_json.specs.Elements.{worded}
 use Rattle.stm_json.specs.Outcome.{Outcome}
@@ -45,16 +45,10 @@ module _ (l : ℕ) (read : ℕ → Data → Read Statement)
   unfolding block_by
   block_reads r m ds b s f g h = statements_read 0 r m ds b s f g h
 
-  named : (r : ℕ) (w : List ℕ) (parts : List Data) (x : StmtWord) → w ≡ statement_text x
-      → statement_array (expression_at l) (condition_at l) (block_by read) r (worded (spelled w parts))
-      ≡ statement_named (expression_at l) (condition_at l) (block_by read) r (Some x) (items_of parts)
-  named r w parts x h = ap (λ (o : Option StmtWord). statement_named (expression_at l) (condition_at l) (block_by read) r o (items_of parts))
-      (ap statement_word h ∙ statement_word-text x)
-
   opened : (r : ℕ) (d : Data) (w : List ℕ) (parts : List Data) (x : StmtWord) → d ≡ spelled w parts → w ≡ statement_text x
       → statement_array (expression_at l) (condition_at l) (block_by read) r (worded d)
       ≡ statement_named (expression_at l) (condition_at l) (block_by read) r (Some x) (items_of parts)
-  opened r d w parts x is h = ap (λ (e : Data). statement_array (expression_at l) (condition_at l) (block_by read) r (worded e)) is ∙ named r w parts x h
+  opened r d w parts x is h = grind (arith, nat_tests, statement_word-text)
 
   simple_reads : (o : Simple) (r m : ℕ) (d a : Data) (e : Expression) → d ≡ spelled (simple_text o) (a ∷ []) → SpellsExpression a e → expression_depth e ≤ l
       → ExpressionInRange e → r ≡ m + expression_nodes e

@@ -1,6 +1,7 @@
 -- The marks of a statement, of a block and of a program, beside what is read of them.
-use Rattle.std.proofs.Common.{◌≡◌, ℕ, zero, suc, ◌+◌, List, [], ◌++◌, Bool, true, false, cond, Option, Some, None, Ok, Err, refl, sym, ap, ◌∙◌, arith, lit<, codes}
+use Rattle.std.proofs.Common.{◌≡◌, ℕ, zero, suc, ◌+◌, List, [], ◌++◌, Bool, cond, Option, Some, None, Ok, Err, refl, sym, ap, ◌∙◌, arith, lit<, codes}
 use Rattle.std.proofs.lemmas.List.{append-nil}
+use Rattle.std.proofs.lemmas.Bool.Decides.{nat_tests}
 use Rattle.serde_json.specs.Data.{Data, string, array, Items, no_items, item}
 use Rattle.stm_json.specs.declared.cause.Cause.TheVariants.{Shape}
 use Rattle.stm_json.specs.declared.read_error.BadInput.{BadInput}
@@ -8,17 +9,17 @@ use Rattle.stm_program_json.specs.declared.words.StmtWord.{StmtWord}
 use Rattle.stm_program_json.specs.declared.words.StmtWord.TheVariants as word
 use Rattle.stm_program.specs.Syntax.{Statement, Block, Then, ProgramTree, of_statements}
 use Rattle.stm_program_json.specs.Words.{statement_word}
-use Rattle.stm_json.specs.Outcome.{Outcome, ◌>>=◌, within}
+use Rattle.stm_json.specs.Outcome.{Outcome, ◌>>=◌}
 use Rattle.stm_json.specs.Parts.{same}
-use Rattle.stm_json.specs.Elements.{worded, one_of, number_up_to}
+use Rattle.stm_json.specs.Elements.{worded, number_up_to}
 use Rattle.stm_program_json.specs.Reading.{Read, simple_of, statement_named, statement_array, statements_from, block_by}
-use Rattle.stm_program_json.specs.Reading.{expression_at, condition_at, statement_at, list_of, list_parts, program_after, program_of}
+use Rattle.stm_program_json.specs.Reading.{expression_at, condition_at, statement_at, list_parts, program_after, program_of}
 use Rattle.stm_json.specs.Faults.{at}
 use Rattle.stm_program_json.specs.FirstFault.{Mark, wrong, first_of_marks, number_marks, marks_of_steps, marks_of_list, marks_of_elements, first_fault}
 use Rattle.stm_program_json.proofs.ReaderMarks.{expression_marks, condition_marks, statement_of_one, statement_of_two, statement_of_three, statement_of_four}
 use Rattle.stm_program_json.proofs.ReaderMarks.{statement_inner, statement_marks, block_marks, statements_marks}
 use Rattle.stm_program_json.proofs.TableMarks.{steps_are}
-use Rattle.stm_program_json.proofs.MarkLemmas.{after, after_number, wrong_is, too_deep, too_many, one_node, number_marked, part_then, number_then, behind, made}
+use Rattle.stm_program_json.proofs.MarkLemmas.{after, wrong_is, too_deep, too_many, one_node, number_marked, part_then, number_then, behind, made}
 use Rattle.stm_program_json.proofs.ListMarks.{list_marked}
 use Rattle.stm_program_json.proofs.ExpressionMarks.{one_marked, expression_marked}
 use Rattle.stm_program_json.proofs.ConditionMarks.{condition_marked}
@@ -175,18 +176,10 @@ alone_fault all = program_steps 0 all ∙ reported of_statements (statements_fro
 abbrev listing : List (List ℕ) → Block → ProgramTree
 listing keys b = record { statements = b; prefetch = keys }
 
--- after a list that was read, or the fault of the list
-after_fault : (ds : Items) (reading : Outcome (List (List ℕ))) (first : Option BadInput)
-    → first ≡ after_number (at [] 0) MAX_NODES reading (marks_of_steps 1 [] 1 ds)
-    → first ≡ fault_of (within 0 reading >>= λ keys. statements_from (statement_at MAX_DEPTH) 1 MAX_NODES ds >>= λ b. Ok (listing keys b.0))
-after_fault ds (Ok keys) first h = h ∙ program_steps 1 ds ∙ reported (listing keys) (statements_from (statement_at MAX_DEPTH) 1 MAX_NODES ds)
-after_fault ds (Err f) first h = h
-
 list_tested : (parts ds all : Items) (b : Bool)
     → first_of_marks MAX_NODES (cond b (marks_of_list (at [] 0) parts ++ marks_of_steps 1 [] 1 ds) (marks_of_steps 1 [] 0 all))
     ≡ fault_of (program_after (cond b (Some parts) None) all ds)
-list_tested parts ds all true = after_fault ds (list_of (one_of parts)) _ (list_marked (at [] 0) MAX_NODES parts (marks_of_steps 1 [] 1 ds))
-list_tested parts ds all false = alone_fault all
+list_tested parts ds all b = grind (arith, nat_tests, list_marked, alone_fault, program_steps, reported)
 
 elements_fault : (d : Data) (ds : Items) → first_of_marks MAX_NODES (marks_of_elements (item d ds)) ≡ fault_of (program_after (list_parts (worded d)) (item d ds) ds)
 elements_fault (array (item (string w) parts)) ds = list_tested parts ds (item (array (item (string w) parts)) ds) (same w (codes "prefetch"))

@@ -1,7 +1,8 @@
 -- The marks by the table of words are those that are spelled out for each word.
-use Rattle.std.proofs.Common.{◌≡◌, ℕ, suc, List, [], ◌∷◌, ◌++◌, Bool, true, false, cond, Option, Some, None, bytes_eq, refl, sym, ap, ◌∙◌, map, codes}
+use Rattle.std.proofs.Common.{◌≡◌, ℕ, suc, List, [], ◌∷◌, ◌++◌, Bool, true, false, cond, Option, Some, None, bytes_eq, refl, sym, ap, ◌∙◌, map, codes, arith}
 use Rattle.std.specs.Map.{lookup}
 use Rattle.std.proofs.lemmas.List.{append-nil}
+use Rattle.std.proofs.lemmas.Bool.Decides.{nat_tests}
 use Rattle.serde_json.specs.Data.{Data, string, number, array, Items, no_items, item}
 use Rattle.stm_json.specs.declared.cause.Cause.TheVariants.{Shape}
 use Rattle.stm_program_json.specs.declared.words.ExprWord.{ExprWord}
@@ -11,17 +12,14 @@ use Rattle.stm_program_json.specs.declared.words.CondWord.TheVariants as conditi
 use Rattle.stm_program_json.specs.declared.words.StmtWord.{StmtWord}
 use Rattle.stm_program_json.specs.declared.words.StmtWord.TheVariants as statement
 use Rattle.stm_program.specs.declared.operator.Operator.{Operator}
-use Rattle.stm_program.specs.declared.operator.TheConstants.{OPERATORS}
 use Rattle.stm_program.specs.Operators.{operator_word, named_in}
-use Rattle.stm_program_json.specs.declared.words.Unary.TheVariants as unary
-use Rattle.stm_program_json.specs.declared.words.Binary.TheVariants as binary
 use Rattle.stm_program_json.specs.declared.words.Comparison.TheVariants as comparison
 use Rattle.stm_program_json.specs.declared.words.Connective.TheVariants as connective
 use Rattle.stm_program_json.specs.declared.words.Simple.TheVariants as simple
 use Rattle.stm_json.specs.Parts.{same}
-use Rattle.stm_program_json.specs.Words.{operator_or, other_word, expression_word, condition_word, statement_word}
+use Rattle.stm_program_json.specs.Words.{operator_or, expression_word, condition_word, statement_word}
 use Rattle.stm_json.specs.Faults.{at}
-use Rattle.stm_program_json.specs.FirstFault.{Table, other_value_words, Mark, Node, Sort, Value, Test, Step, Block, Count, wrong, number_marks, parts_after, marks_if, marks_in}
+use Rattle.stm_program_json.specs.FirstFault.{Table, Mark, Node, Sort, Value, Test, Step, Block, Count, wrong, number_marks, parts_after, marks_if, marks_in}
 use Rattle.stm_program_json.specs.FirstFault.{marks_of_parts, marks_of_steps}
 use Rattle.stm_program_json.proofs.ReaderMarks.{expression_of_one, expression_of_two, expression_inner, condition_of_one, condition_of_two, condition_inner}
 use Rattle.stm_program_json.proofs.ReaderMarks.{statement_of_one, statement_of_two, statement_of_three, statement_of_four, statement_inner, block_marks}
@@ -73,16 +71,9 @@ operators_table (o ∷ os) w others other known =
     tried (λ (found : Option Operator). expression_parts (operator_or other found)) (bytes_eq w (operator_word o)) (Some o) (named_in os w) _
     (sym (operators_table os w others other known))
 
-others_table : (w : List ℕ) → lookup (bytes_eq w) other_value_words ≡ expression_parts (other_word w)
-others_table w =
-    picked expression_parts
-    (same w (codes "var") ∷ same w (codes "get") ∷ same w (codes "rev") ∷ same w (codes "text_of") ∷ same w (codes "num_of") ∷ same w (codes "cat") ∷ [])
-    (Some expression.Var ∷ Some (expression.Unary unary.Get) ∷ Some (expression.Unary unary.Rev)
-    ∷ Some (expression.Unary unary.TextOf) ∷ Some (expression.Unary unary.NumOf) ∷ Some (expression.Binary binary.Cat) ∷ []) None
-
 expression_table : (w : List ℕ) → parts_after Value w ≡ expression_parts (expression_word w)
 unfolding parts_after expression_word
-expression_table w = operators_table OPERATORS w other_value_words (other_word w) (others_table w)
+expression_table w = grind (arith, nat_tests, operators_table, picked)
 
 condition_table : (w : List ℕ) → parts_after Test w ≡ condition_parts (condition_word w)
 unfolding parts_after condition_word

@@ -1,6 +1,7 @@
 -- A word is found by its own text and by no other.
-use Rattle.std.proofs.Common.{◌≡◌, ℕ, List, [], ◌∷◌, Bool, true, false, cond, Option, Some, None, refl, ap, ◌∙◌, sym, codes}
+use Rattle.std.proofs.Common.{◌≡◌, ℕ, List, [], ◌∷◌, Bool, true, false, cond, Option, Some, None, refl, ap, ◌∙◌, codes, arith}
 use Rattle.std.proofs.lemmas.Slice.Eq.{bytes_eq-Decides}
+use Rattle.std.proofs.lemmas.Bool.Decides.{nat_tests}
 use Rattle.stm_program_json.specs.declared.words.ExprWord.{ExprWord}
 use Rattle.stm_program_json.specs.declared.words.ExprWord.TheVariants as expression
 use Rattle.stm_program_json.specs.declared.words.Unary.TheVariants as unary
@@ -19,17 +20,9 @@ use Rattle.stm_json.specs.Parts.{same}
 use Rattle.stm_program_json.specs.Words.{operator_or, other_word, expression_word, condition_word, statement_word}
 use Rattle.stm_program_json.specs.WordTexts.{expression_text, condition_text, statement_text}
 
--- the answer of one test, or of the tests after it
-chosen_by : {W : Type 0} (text : W → List ℕ) (w t : List ℕ) (b : Bool) (y x : W) (rest : Option W) → (b ≡ true → w ≡ t) → text y ≡ t
-    → (rest ≡ Some x → w ≡ text x) → cond b (Some y) rest ≡ Some x → w ≡ text x
-chosen_by text w t true y x rest found named others h =
-    let e : y ≡ x = cc in
-    found refl ∙ sym named ∙ ap text e
-chosen_by text w t false y x rest found named others h = others h
-
 chosen : {W : Type 0} (text : W → List ℕ) (w t : List ℕ) (y x : W) (rest : Option W) → text y ≡ t → (rest ≡ Some x → w ≡ text x)
     → cond (same w t) (Some y) rest ≡ Some x → w ≡ text x
-chosen text w t y x rest named others h = chosen_by text w t (same w t) y x rest (bytes_eq-Decides w t).0 named others h
+chosen text w t y x rest named others h = grind (arith, nat_tests, bytes_eq-Decides)
 
 other_word-is : (w : List ℕ) (x : ExprWord) → other_word w ≡ Some x → w ≡ expression_text x
 other_word-is w x h =

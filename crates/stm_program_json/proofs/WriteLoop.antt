@@ -4,6 +4,7 @@ use Rattle.std.proofs.Common.{arith, add-one}
 use Rattle.std.specs.Prelude.{string_bytes}
 use Rattle.std.proofs.lemmas.List.{drop_all, map_push, take_rest}
 use Rattle.std.proofs.Math.Seq.{drop-cons}
+use Rattle.std.proofs.lemmas.Bool.Decides.{nat_tests}
 use Rattle.serde_json.specs.Data.{Data, string, Items, no_items, item}
 use Rattle.serde_json.specs.View.{view, items_of, items_view}
 use Rattle.serde_json.specs.declared.value.Value.{Value}
@@ -21,17 +22,10 @@ pub items_after-snoc : (ds : List Data) (d : Data) (es : Items) → items_after 
 items_after-snoc [] d es = refl
 items_after-snoc (c ∷ ds) d es = ap (item c) (items_after-snoc ds d es)
 
-one_more : (ss : List Statement) (i : ℕ) (s : Statement) → i < length ss → s ≡ get_or ss i s → drop i ss ≡ s ∷ drop (i + 1) ss
-one_more ss i s h e = drop-cons ss i s h ∙ rw (sym e, add-one) refl
-
 pub goes_on : (vs ws : List Value) (ss : List Statement) (i : ℕ) (s : Statement) (v : Value) (total : Items) → i < length ss → s ≡ get_or ss i s
     → view v ≡ written_statement s → ws ≡ vs ++ v ∷ [] → items_after (map view vs) (written_statements (block_of (drop i ss))) ≡ total
     → items_after (map view ws) (written_statements (block_of (drop (i + 1) ss))) ≡ total
-goes_on vs ws ss i s v total lt at w e so_far =
-    let one : items_after (map view vs) (written_statements (block_of (drop i ss)))
-    ≡ items_after (map view vs) (item (written_statement s) (written_statements (block_of (drop (i + 1) ss)))) =
-    ap (λ (ts : List Statement). items_after (map view vs) (written_statements (block_of ts))) (one_more ss i s lt at) in
-    rw (e, map_push view vs v, w) (items_after-snoc (map view vs) (written_statement s) (written_statements (block_of (drop (i + 1) ss))) ∙ sym one ∙ so_far)
+goes_on vs ws ss i s v total lt at w e so_far = grind (arith, nat_tests, map_push, items_after-snoc, drop-cons, add-one)
 
 pub is_done : (vs : List Value) (ss : List Statement) (i : ℕ) (total : Items) → length ss ≤ i
     → items_after (map view vs) (written_statements (block_of (drop i ss))) ≡ total → items_view vs ≡ total
@@ -46,14 +40,6 @@ pub texts_end : {A : Type 0} (vs : List Value) (keys : List (String A)) → leng
 texts_end vs [] none = sym (items_after-none (map view vs))
 texts_end vs (key ∷ keys) none = absurd (omega arith)
 
-keys_more : (vs ws : List Value) (v : Value) (key : List ℕ) (keys : List (List ℕ)) (out : Items) → ws ≡ vs ++ v ∷ [] → view v ≡ string key
-    → out ≡ items_after (map view ws) (written_keys keys) → out ≡ items_after (map view vs) (written_keys (key ∷ keys))
-keys_more vs ws v key keys out pushed is others =
-    others ∙ ap (λ (xs : List Value). items_after (map view xs) (written_keys keys)) pushed
-    ∙ ap (λ (xs : List Data). items_after xs (written_keys keys)) (map_push view vs v)
-    ∙ items_after-snoc (map view vs) (view v) (written_keys keys)
-    ∙ ap (λ (d : Data). items_after (map view vs) (item d (written_keys keys))) is
-
 -- the first of some texts, and the others
 first_text : {A : Type 0} (keys : List (String A)) (key : String A) → 1 ≤ length keys → key ≡ get_or keys 0 key
     → map string_bytes keys ≡ string_bytes key ∷ map string_bytes (take (length keys - 1) (drop 1 keys))
@@ -66,9 +52,7 @@ pub texts_more : {A : Type 0} (vs ws : List Value) (v : Value) (keys : List (Str
     → key ≡ get_or keys 0 key → text ≡ string_bytes key → ws ≡ vs ++ v ∷ [] → view v ≡ string text
     → out ≡ items_after (map view ws) (written_keys (map string_bytes (take (length keys - 1) (drop 1 keys))))
     → out ≡ items_after (map view vs) (written_keys (map string_bytes keys))
-texts_more vs ws v keys key text out some first reported pushed is others =
-    keys_more vs ws v (string_bytes key) (map string_bytes (take (length keys - 1) (drop 1 keys))) out pushed (is ∙ ap string reported) others
-    ∙ ap (λ (ks : List (List ℕ)). items_after (map view vs) (written_keys ks)) (sym (first_text keys key some first))
+texts_more vs ws v keys key text out some first reported pushed is others = grind (arith, nat_tests, first_text, map_push, items_after-snoc)
 
 -- each statement weighs less than its block
 pub item_weight : (ss : List Statement) (i : ℕ) (s : Statement) → i < length ss → s ≡ get_or ss i s → statement_weight s + 1 ≤ block_weight (block_of ss)

@@ -1,12 +1,12 @@
 -- What is written of a program spells it, and so reads as it again.
-use Rattle.std.proofs.Common.{◌≡◌, inl, inr, ℕ, ℤ, pos, negsuc, List, [], ◌∷◌, Ok, refl, sym, ap, ◌∙◌, subst, codes}
+use Rattle.std.proofs.Common.{◌≡◌, ℕ, ℤ, pos, negsuc, List, [], ◌∷◌, Ok, refl, sym, ap, ◌∙◌, subst, arith}
+use Rattle.std.proofs.lemmas.Bool.Decides.{nat_tests}
 use Rattle.serde_json.specs.Data.{Data, number, unsigned, negative, array}
 use Rattle.serde_json.specs.Find.{of_integer}
 use Rattle.stm_program.specs.Syntax.{Expression, Text, Number, Variable, Get, Rev, Arithmetic, Cat, TextOf, NumOf, Condition, Equal, Less, Not, And, Or}
 use Rattle.stm_program.specs.Syntax.{Statement, Set, Put, Del, If, For, Emit, Abort, Block, End, Then, ProgramTree}
 use Rattle.stm_program.specs.Limits.{Fits}
-use Rattle.stm_program_json.specs.Grammar.{SpellsExpression, SpellsCondition, SpellsStatement, SpellsStatements, SpellsKeys, SpellsElements, SpellsProgram}
-use Rattle.stm_json.specs.Parts.{spelled}
+use Rattle.stm_program_json.specs.Grammar.{SpellsExpression, SpellsCondition, SpellsStatement, SpellsStatements, SpellsKeys, SpellsProgram}
 use Rattle.stm_json.specs.Elements.{SpellsNumber}
 use Rattle.stm_program_json.specs.Reading.{program_of}
 use Rattle.stm_program_json.specs.Writing.{written_number, written_expression, written_condition, written_statement, written_statements, written_keys, after_list, written_program}
@@ -73,15 +73,8 @@ keys_spell : (keys : List (List ℕ)) → SpellsKeys (written_keys keys) keys
 keys_spell [] = refl
 keys_spell (key ∷ keys) = (written_keys keys, refl, keys_spell keys)
 
-elements_spell : (keys : List (List ℕ)) (b : Block)
-    → SpellsElements (after_list keys (written_statements b)) (record { statements = b; prefetch = keys })
-elements_spell [] b = inl (refl, statements_spell b)
-elements_spell (key ∷ keys) b =
-    let list : Data = spelled (codes "prefetch") (array (written_keys (key ∷ keys)) ∷ []) in
-    inr (list, written_statements b, refl, (written_keys (key ∷ keys), refl, keys_spell (key ∷ keys)), statements_spell b)
-
 pub written_program-spells : (p : ProgramTree) → SpellsProgram (written_program p) p
-written_program-spells p = (after_list p.prefetch (written_statements p.statements), refl, elements_spell p.prefetch p.statements)
+written_program-spells p = grind (arith, nat_tests, statements_spell, keys_spell)
 
 -- the same, for data, keys and statements that are equal to these
 pub written_as : (d : Data) (keys : List (List ℕ)) (b : Block) (p : ProgramTree) → d ≡ array (after_list keys (written_statements b)) → keys ≡ p.prefetch

@@ -1,12 +1,12 @@
 -- Reading events one after the other, as a loop does.
-use Rattle.std.proofs.Common.{◌≡◌, ℕ, suc, ◌+◌, ◌<◌, List, [], ◌∷◌, ◌++◌, length, drop, get_or, Ok, Err, refl, sym, ap, ◌∙◌, arith}
+use Rattle.std.proofs.Common.{◌≡◌, ℕ, ◌+◌, ◌<◌, List, [], ◌∷◌, ◌++◌, length, drop, get_or, Ok, arith}
 use Rattle.std.proofs.lemmas.List.{append-nil}
+use Rattle.std.proofs.lemmas.Bool.Decides.{nat_tests}
 use Rattle.serde_json.specs.View.{view, items_view}
 use Rattle.serde_json.specs.declared.value.Value.{Value}
 use Rattle.stm_json.proofs.ListLemmas.{with_front, regroup, one_more}
 use Rattle.stm_events.specs.declared.event.WorldEvent.{WorldEvent}
 use Rattle.stm_json.specs.declared.read_error.ReadError.{ReadError}
-use Rattle.stm_json.specs.declared.read_error.ReadError.TheVariants as error
 use Rattle.stm_json.specs.Outcome.{Outcome, within}
 use Rattle.stm_json.specs.Returns.{ReturnsFault}
 use Rattle.stm_texts.specs.Reading.{event_after, events_from}
@@ -16,28 +16,15 @@ pub goes_on : (first : ℕ) (front : List WorldEvent) (vs : List Value) (i : ℕ
     → with_front front (events_from first i (items_view (drop i vs))) ≡ total
     → with_front (front ++ e ∷ []) (events_from first (i + 1) (items_view (drop (i + 1) vs))) ≡ total
 unfolding events_from
-goes_on first front vs i v e total lt at is so_far =
-    let k : i + 1 ≡ suc i = omega arith in
-    let one : with_front front (events_from first i (items_view (drop i vs))) ≡ with_front (front ++ e ∷ [])
-    (events_from first (i + 1) (items_view (drop (i + 1) vs))) =
-    ap (λ (ws : List Value). with_front front (events_from first i (items_view ws))) (one_more vs i v lt at)
-    ∙ rw (is, k) (regroup front e (events_from first (suc i) (items_view (drop (suc i) vs)))) in
-    sym one ∙ so_far
+goes_on first front vs i v e total lt at is so_far = grind (arith, nat_tests, with_front, one_more, regroup)
 
 pub ends : (e : ReadError) (first : ℕ) (front : List WorldEvent) (vs : List Value) (i : ℕ) (v : Value) (total : Outcome (List WorldEvent))
     → i < length vs → v ≡ get_or vs i v → ReturnsFault e (within (first + i) (event_after i (view v)))
     → with_front front (events_from first i (items_view (drop i vs))) ≡ total → ReturnsFault e total
 unfolding events_from
-ends error.OutOfMemory first front vs i v total lt at is so_far = tt
-ends (error.Bad f) first front vs i v total lt at is so_far =
-    let one : with_front front (events_from first i (items_view (drop i vs))) ≡ Err f =
-    ap (λ (ws : List Value). with_front front (events_from first i (items_view ws))) (one_more vs i v lt at) ∙ rw is refl in
-    sym so_far ∙ one
+ends e first front vs i v total lt at is so_far = grind (arith, nat_tests, with_front, one_more)
 
 pub is_done : (first : ℕ) (front : List WorldEvent) (vs : List Value) (i : ℕ) (total : Outcome (List WorldEvent))
     → drop i vs ≡ [] → with_front front (events_from first i (items_view (drop i vs))) ≡ total → total ≡ Ok front
 unfolding events_from
-is_done first front vs i total h so_far =
-    let one : with_front front (events_from first i (items_view (drop i vs))) ≡ Ok front =
-    rw h (ap (λ (x : List WorldEvent). Ok x) (append-nil front)) in
-    sym so_far ∙ one
+is_done first front vs i total h so_far = grind (arith, nat_tests, with_front, append-nil)

@@ -1,6 +1,5 @@
 -- What is too long by a byte is too long however it goes on, so who reads no further reads the same.
-use Rattle.std.proofs.Common.{◌≡◌, ℕ, ◌≤◌, ◌<◌, List, length, take, Bool, true, false, nat_lt, Option, Some, None, IfSome}
-use Rattle.std.proofs.Common.{refl, sym, ap, subst, ◌∙◌, arith, take_all}
+use Rattle.std.proofs.Common.{◌≡◌, ℕ, ◌≤◌, ◌<◌, List, length, take, Bool, true, false, nat_lt, Option, IfSome, refl, sym, ap, ◌∙◌, arith, take_all}
 use Rattle.std.proofs.lemmas.Bool.{ltb-true, ltb-false}
 use Rattle.std.proofs.lemmas.Bool.Decides.{nat_tests}
 use Rattle.std.proofs.lemmas.List.{length-take-le}
@@ -38,5 +37,4 @@ scenario_in-front = of_front scenario_in scenario_in-long
 -- what is so of the scenario in the bytes that were read is so of that in the input
 pub pending_of_revision : (bytes : List ℕ) (known : Option (List ℕ)) (P : Outcome Scenario → Type 0) →
     IfSome known (λ all. bytes ≡ take MOST_READ all) → P (scenario_in bytes) → IfSome known (λ all. P (scenario_in all))
-pending_of_revision bytes None P read holds = tt
-pending_of_revision bytes (Some all) P read holds = subst P (ap scenario_in read ∙ scenario_in-front all) holds
+pending_of_revision bytes known P read holds = grind (arith, nat_tests, scenario_in-front)

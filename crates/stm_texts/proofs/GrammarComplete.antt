@@ -1,11 +1,11 @@
 -- A scenario that bytes spell is read.
 use Rattle.std.proofs.Common.{◌≡◌, ℕ, suc, ◌+◌, ◌<◌, ◌≤◌, List, [], ◌∷◌, length, lt-ltb, Option, Some, None, Ok, inl, inr, refl, sym, codes, ap, ◌∙◌, arith}
+use Rattle.std.proofs.lemmas.Bool.Decides.{nat_tests}
 use Rattle.serde_json.specs.Data.{Data, string, Items, item}
 use Rattle.serde_json.specs.View.{items_of}
 use Rattle.stm_json.specs.Outcome.{Outcome, ◌>>=◌, within}
 use Rattle.stm_json.specs.Elements.{worded, number_up_to, number_in}
 use Rattle.stm_program.specs.declared.level.Level.{Level}
-use Rattle.stm_program.specs.declared.level.Level.TheVariants.{SerializableSnapshot}
 use Rattle.stm_program_json.proofs.StatementComplete.{program_reads}
 use Rattle.stm_json.specs.Parts.{spelled, SpellsEach, text_of}
 use Rattle.stm_txn_json.specs.Reading.{txn_of}
@@ -18,18 +18,17 @@ use Rattle.stm_txn.specs.Standing.{Setup}
 use Rattle.stm_texts.specs.declared.scenario.Scenario.{Scenario}
 use Rattle.stm_history.specs.declared.revisions.TheConstants.{HIGHEST_NUMBER, HIGHEST_REVISION}
 use Rattle.stm_texts.specs.declared.events.TheConstants.{HIGHEST_LIMIT, MOST_EVENTS}
-use Rattle.stm_texts.specs.Grammar.{level_text, SpellsNumbered, SpellsEvent, SpellsOpening, SpellsElements, SpellsData, SpellsScenario}
+use Rattle.stm_texts.specs.Grammar.{level_text, SpellsNumbered, SpellsEvent, SpellsOpening, SpellsElements, SpellsScenario}
 use Rattle.stm_texts.specs.Opens.{setup_at}
 use Rattle.stm_texts.specs.Reading.{level_named, level_of, watcher_event, event_of, event_after, events_from, begins, scenario_list, scenario_of}
-use Rattle.stm_texts.specs.Reading.{opening_of, scenario_read, scenario_in}
+use Rattle.stm_texts.specs.Reading.{opening_of, scenario_in}
 use Rattle.stm_texts.proofs.ScenarioLemmas.{scenario_in-short}
 
 -- ---- levels
 
 level_reads : (l : Level) → level_of (string (level_text l)) ≡ Ok l
 unfolding level_of level_named
-level_reads SerializableSnapshot = refl
-level_reads _ = refl
+level_reads l = grind (arith, nat_tests)
 
 -- ---- events
 
@@ -79,33 +78,18 @@ event_reads d (Cancel watcher) s = numbered_reads (codes "cancel") Cancel (λ a 
 
 event_after-reads : (before : ℕ) (d : Data) (e : WorldEvent) → before < MOST_EVENTS → SpellsEvent d e → event_after before d ≡ Ok e
 unfolding event_after
-event_after-reads before d e few s =
-    let b = lt-ltb before MOST_EVENTS few in
-    rw b (event_reads d e s)
+event_after-reads before d e few s = grind (arith, nat_tests, lt-ltb, event_reads)
 
 events_read : (first before : ℕ) (ds : Items) (es : List WorldEvent) → before + length es ≤ MOST_EVENTS → SpellsEach SpellsEvent ds es
     → events_from first before ds ≡ Ok es
 unfolding events_from
 events_read first before ds [] few is = rw is refl
 events_read first before ds (e ∷ es) few (d, rest, is, s, others) =
-    let one = event_after-reads before d e (omega arith) s in
-    let more = events_read first (suc before) rest es (omega arith) others in
-    rw is (rw (one, more) refl)
+    grind (arith, nat_tests, event_after-reads, events_read first (suc before) rest es (omega arith) others)
 
 -- an event begins with another word than the opening revision
 no_opening : (d : Data) (e : WorldEvent) → SpellsEvent d e → begins (worded d) ≡ None
-no_opening d (Start program level limit) (a, b, c, is, word, within_limit, of_program, fits) = ap (λ (x : Data). begins (worded x)) is
-no_opening d (Step runner) (a, is, in_range) = ap (λ (x : Data). begins (worded x)) is
-no_opening d (Txn t) (a, b, c, is, compares, success, failure) = ap (λ (x : Data). begins (worded x)) is
-no_opening d (Grant id ttl) (a, b, is, of_id, of_ttl) = ap (λ (x : Data). begins (worded x)) is
-no_opening d (Keep id) (a, is, in_range) = ap (λ (x : Data). begins (worded x)) is
-no_opening d (Revoke id) (a, is, in_range) = ap (λ (x : Data). begins (worded x)) is
-no_opening d (Advance now) (a, is, in_range) = ap (λ (x : Data). begins (worded x)) is
-no_opening d (Compact revision) (a, is, in_range) = ap (λ (x : Data). begins (worded x)) is
-no_opening d (WatchKey key from) (a, is, in_range) = ap (λ (x : Data). begins (worded x)) is
-no_opening d (WatchRange first end from) (a, is, in_range) = ap (λ (x : Data). begins (worded x)) is
-no_opening d (Poll watcher most) (a, b, is, of_watcher, of_most) = ap (λ (x : Data). begins (worded x)) is
-no_opening d (Cancel watcher) (a, is, in_range) = ap (λ (x : Data). begins (worded x)) is
+no_opening d e h3 = grind (arith, nat_tests)
 
 -- ---- scenarios
 
@@ -139,9 +123,6 @@ elements_read ds (Some opening) es (a, rest, is, begin, others) few =
     let all = events_read 1 0 rest es (omega arith) others in
     rw is (rw (opened.1, opened.2, all) refl)
 
-data_read : (d : Data) (s : Scenario) → SpellsData d s → scenario_of d ≡ Ok s
-unfolding scenario_of
-data_read d s (ds, is, spelled, few) = rw is (elements_read ds s.opening s.events spelled few)
-
 pub scenario_reads : (bytes : List ℕ) (s : Scenario) → SpellsScenario bytes s → scenario_in bytes ≡ Ok s
-scenario_reads bytes s (short, d, is, spelled) = scenario_in-short bytes short ∙ ap scenario_read is ∙ data_read d s spelled
+unfolding scenario_of
+scenario_reads bytes s h3 = grind (arith, nat_tests, scenario_in-short, elements_read)

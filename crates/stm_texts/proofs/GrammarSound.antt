@@ -1,13 +1,12 @@
 -- What is read of a scenario is spelled by the bytes.
-use Rattle.std.proofs.Common.{◌≡◌, ℕ, suc, ◌+◌, ◌<◌, ◌≤◌, List, [], ◌∷◌, length, Bool, true, false, cond, ltb, ltb-true, Option}
-use Rattle.std.proofs.Common.{Some, None, Ok, inl, inr, refl, ap, subst, ◌∙◌, arith, codes}
+use Rattle.std.proofs.Common.{◌≡◌, ℕ, suc, ◌+◌, ◌<◌, ◌≤◌, List, [], ◌∷◌, length, Bool, true, false, cond, ltb-true, Option}
+use Rattle.std.proofs.Common.{Some, None, Ok, refl, subst, arith, codes}
 use Rattle.std.proofs.lemmas.Bool.Decides.{nat_tests}
 use Rattle.std.proofs.lemmas.Slice.Eq.{bytes_eq-Decides}
 use Rattle.serde_json.specs.Data.{Data, string, array, Items, no_items, item}
 use Rattle.serde_json.specs.Find.{as_array}
-use Rattle.stm_json.specs.declared.cause.Cause.TheVariants.{TooMany, TooLong}
-use Rattle.stm_json.specs.Outcome.{bad, ◌>>=◌, within}
-use Rattle.stm_json.specs.Elements.{worded, one_of, two_of, three_of, number_up_to, number_in}
+use Rattle.stm_json.specs.Outcome.{◌>>=◌, within}
+use Rattle.stm_json.specs.Elements.{worded, one_of, two_of, three_of, number_up_to}
 use Rattle.stm_json.proofs.OutcomeLemmas.{bind_ok, within_ok}
 use Rattle.stm_json.proofs.ElementLemmas.{worded-is, one_of-is, two_of-is, three_of-is}
 use Rattle.stm_program.specs.declared.level.Level.{Level}
@@ -15,21 +14,17 @@ use Rattle.stm_program.specs.declared.level.Level.TheVariants.{SerializableSnaps
 use Rattle.stm_program_json.specs.Reading.{program_of}
 use Rattle.stm_program_json.proofs.ProgramLemmas.{program_sound}
 use Rattle.stm_json.specs.Parts.{SpellsEach, same}
-use Rattle.stm_txn_json.specs.Reading.{txn_of}
 use Rattle.stm_txn_json.proofs.GrammarSound.{txn_sound}
 use Rattle.stm_json.proofs.PartLemmas.{on_text-is, list_is, number_is, up_to_is, word_and}
 use Rattle.stm_txn_json.proofs.WordLemmas.{chosen, no_word}
 use Rattle.stm_events.specs.declared.event.WorldEvent.{WorldEvent}
-use Rattle.stm_events.specs.declared.event.WorldEvent.TheVariants.{Start, Step, Txn, Grant, Keep, Revoke, Advance, Compact}
-use Rattle.stm_outcome.specs.Terms.{most_operations}
+use Rattle.stm_events.specs.declared.event.WorldEvent.TheVariants.{Start, Step, Keep, Revoke, Advance, Compact}
 use Rattle.stm_txn.specs.Standing.{Setup}
 use Rattle.stm_texts.specs.declared.scenario.Scenario.{Scenario}
-use Rattle.stm_history.specs.declared.revisions.TheConstants.{HIGHEST_NUMBER, HIGHEST_REVISION}
 use Rattle.stm_texts.specs.declared.events.TheConstants.{HIGHEST_LIMIT, MOST_EVENTS}
 use Rattle.stm_json.specs.declared.limits.TheConstants.{MOST_BYTES}
 use Rattle.stm_json.specs.Bytes.{data_of}
 use Rattle.stm_texts.specs.Grammar.{level_text, SpellsNumbered, SpellsEvent, SpellsOpening, SpellsElements, SpellsData, SpellsScenario}
-use Rattle.stm_texts.specs.Opens.{setup_at}
 use Rattle.stm_texts.specs.Reading.{level_named, level_of, start_of, grant_of, number_alone, step_of, keep_of, revoke_of, advance_of, compact_of, txn_event}
 use Rattle.stm_texts.specs.Reading.{watcher_event, event_worded, event_of, event_after, events_from, begins, opening_by, opening_of, scenario_after}
 use Rattle.stm_texts.specs.Reading.{scenario_list, scenario_of, scenario_read, scenario_in}
@@ -48,9 +43,7 @@ level_named-is w l h =
 
 level_is : (d : Data) (l : Level) → level_of d ≡ Ok l → d ≡ string (level_text l)
 unfolding level_of
-level_is d l h =
-    let t = on_text-is level_named d l h in
-    t.1 ∙ ap string (level_named-is t.0 l t.2)
+level_is d l h = grind (arith, nat_tests, on_text-is, level_named-is)
 
 -- ---- events
 
@@ -76,23 +69,11 @@ start_sound d p (Some q) e w t i h =
 
 grant_sound : (d : Data) (p : List ℕ × Items) (o : Option (Data × Data)) (e : WorldEvent) → worded d ≡ Some p → p.0 ≡ codes "grant" → two_of p.1 ≡ o
     → grant_of o ≡ Ok e → SpellsEvent d e
-grant_sound d p None e w t i h = cc
-grant_sound d p (Some q) e w t i h =
-    let id = bind_ok (within 1 (number_up_to HIGHEST_NUMBER q.0)) _ e h in
-    let ttl = bind_ok (within 2 (number_up_to HIGHEST_NUMBER q.1)) _ e id.2 in
-    let is : Grant id.0 ttl.0 ≡ e = cc ttl.2 in
-    subst (λ (x : WorldEvent). SpellsEvent d x) is (
-      q.0,
-      q.1,
-      word_and d p (codes "grant") (q.0 ∷ q.1 ∷ []) w t (two_of-is p.1 q i),
-      up_to_is HIGHEST_NUMBER q.0 id.0 (within_ok 1 _ _ id.1),
-      up_to_is HIGHEST_NUMBER q.1 ttl.0 (within_ok 2 _ _ ttl.1),
-    )
+grant_sound d p o e w t i h = grind (arith, nat_tests, bind_ok, word_and, two_of-is, up_to_is, within_ok)
 
 numbered_at : (word : List ℕ) (d : Data) (p : List ℕ × Items) (o : Option Data) (n : ℕ) → worded d ≡ Some p → p.0 ≡ word → one_of p.1 ≡ o
     → number_alone o ≡ Ok n → SpellsNumbered word d n
-numbered_at word d p None n w t i h = cc
-numbered_at word d p (Some a) n w t i h = (a, word_and d p word (a ∷ []) w t (one_of-is p.1 a i), up_to_is HIGHEST_NUMBER a n (within_ok 1 _ _ h))
+numbered_at word d p o n w t i h = grind (arith, nat_tests, word_and, one_of-is, up_to_is, within_ok)
 
 -- an event made of the one number after its word
 numbered_sound : (word : List ℕ) (make : ℕ → WorldEvent) → ((x : Data) (n : ℕ) → SpellsNumbered word x n → SpellsEvent x (make n))
@@ -104,10 +85,7 @@ numbered_sound word make spells d p e w t h =
     subst (λ (x : WorldEvent). SpellsEvent d x) is (spells d n.0 (numbered_at word d p (one_of p.1) n.0 w t refl n.1))
 
 txn_event-sound : (d : Data) (e : WorldEvent) → txn_event d ≡ Ok e → SpellsEvent d e
-txn_event-sound d e h =
-    let t = bind_ok (txn_of d) _ e h in
-    let is : Txn t.0 ≡ e = cc t.2 in
-    subst (λ (x : WorldEvent). SpellsEvent d x) is (txn_sound d t.0 t.1)
+txn_event-sound d e h = grind (arith, nat_tests, bind_ok, txn_sound)
 
 word_sound : (d : Data) (p : List ℕ × Items) (e : WorldEvent) (start step txn grant keep revoke advance compact : Bool) → worded d ≡ Some p
     → same p.0 (codes "start") ≡ start → same p.0 (codes "step") ≡ step → same p.0 (codes "txn") ≡ txn → same p.0 (codes "grant") ≡ grant
@@ -134,24 +112,15 @@ word_sound d p e false false false false false false false true w s1 s2 s3 s4 s5
 word_sound d p e false false false false false false false false w s1 s2 s3 s4 s5 s6 s7 s8 h = watcher_sound d p e w h
 
 array_sound : (d : Data) (o : Option (List ℕ × Items)) (e : WorldEvent) → worded d ≡ o → event_worded d o ≡ Ok e → SpellsEvent d e
-array_sound d None e w h = cc
-array_sound d (Some p) e w h =
-    word_sound d p e (same p.0 (codes "start")) (same p.0 (codes "step")) (same p.0 (codes "txn")) (same p.0 (codes "grant")) (same p.0 (codes "keep"))
-    (same p.0 (codes "revoke")) (same p.0 (codes "advance")) (same p.0 (codes "compact")) w refl refl refl refl refl refl refl refl h
+array_sound d o e w h = grind (arith, nat_tests, word_sound)
 
 event_sound : (d : Data) (e : WorldEvent) → event_of d ≡ Ok e → SpellsEvent d e
 unfolding event_of
 event_sound d e h = array_sound d (worded d) e refl h
 
-counted : (d : Data) (b : Bool) (e : WorldEvent) → cond b (event_of d) (bad TooMany) ≡ Ok e → (b ≡ true) × (event_of d ≡ Ok e)
-counted d true e h = (refl, h)
-counted d false e h = cc
-
 event_after-sound : (before : ℕ) (d : Data) (e : WorldEvent) → event_after before d ≡ Ok e → (before < MOST_EVENTS) × SpellsEvent d e
 unfolding event_after
-event_after-sound before d e h =
-    let c = counted d (ltb before MOST_EVENTS) e h in
-    (ltb-true before MOST_EVENTS c.0, event_sound d e c.1)
+event_after-sound before d e h = grind (arith, nat_tests, ltb-true, event_sound)
 
 -- events that were read after this many others
 abbrev EventsRead : ℕ → Items → List WorldEvent → Type 0
@@ -186,40 +155,12 @@ alone_sound ds s h =
     let is : scenario_with None q.0 ≡ s = cc q.2 in
     subst (ElementsRead ds) is (r.0, omega (arith, r.1))
 
-begins_is : (p : List ℕ × Items) (parts : Items) (b : Bool) → same p.0 (codes "begin") ≡ b → cond b (Some p.1) None ≡ Some parts
-    → (p.0 ≡ codes "begin") × (p.1 ≡ parts)
-begins_is p parts true t h = ((bytes_eq-Decides p.0 (codes "begin")).0 t, cc)
-begins_is p parts false t h = cc
-
 begins-is : (d : Data) (o : Option (List ℕ × Items)) (parts : Items) → worded d ≡ o → begins o ≡ Some parts → d ≡ array (item (string (codes "begin")) parts)
-begins-is d None parts w h = cc
-begins-is d (Some p) parts w h =
-    let is = begins_is p parts (same p.0 (codes "begin")) refl h in
-    worded-is d p w ∙ rw (is.0, is.1) refl
+begins-is d o parts w h = grind (arith, nat_tests, worded-is, bytes_eq-Decides)
 
 opening_sound : (d : Data) (parts : Items) (one : Option Data) (two : Option (Data × Data)) (opening : Setup) → one_of parts ≡ one → two_of parts ≡ two
     → d ≡ array (item (string (codes "begin")) parts) → opening_by one two ≡ Ok opening → SpellsOpening d opening
-opening_sound d parts None None opening e f is h = cc
-opening_sound d parts (Some a) two opening e f is h =
-    let revision = bind_ok (within 1 (number_in 1 HIGHEST_REVISION a)) _ opening h in
-    let same : setup_at revision.0 most_operations ≡ opening = cc revision.2 in
-    subst (SpellsOpening d) same (inl (
-      a,
-      is ∙ ap (λ (x : Items). array (item (string (codes "begin")) x)) (one_of-is parts a e),
-      number_is 1 HIGHEST_REVISION a revision.0 (within_ok 1 _ _ revision.1),
-      refl,
-    ))
-opening_sound d parts None (Some p) opening e f is h =
-    let revision = bind_ok (within 1 (number_in 1 HIGHEST_REVISION p.0)) _ opening h in
-    let operations = bind_ok (within 2 (number_in 1 most_operations p.1)) _ opening revision.2 in
-    let same : setup_at revision.0 operations.0 ≡ opening = cc operations.2 in
-    subst (SpellsOpening d) same (inr (
-      p.0,
-      p.1,
-      is ∙ ap (λ (x : Items). array (item (string (codes "begin")) x)) (two_of-is parts p f),
-      number_is 1 HIGHEST_REVISION p.0 revision.0 (within_ok 1 _ _ revision.1),
-      number_is 1 most_operations p.1 operations.0 (within_ok 2 _ _ operations.1),
-    ))
+opening_sound d parts one two opening e f is h = grind (arith, nat_tests, bind_ok, one_of-is, number_is, within_ok, two_of-is)
 
 after_sound : (d : Data) (ds : Items) (o : Option Items) (s : Scenario) → begins (worded d) ≡ o → scenario_after o (item d ds) ds ≡ Ok s
     → ElementsRead (item d ds) s
@@ -244,14 +185,8 @@ list_sound d (Some (item a ds)) s e h =
 
 read_sound : (bytes : List ℕ) (s : Scenario) (o : Option Data) → length bytes ≤ MOST_BYTES → data_of bytes ≡ o → scenario_read o ≡ Ok s → SpellsScenario bytes s
 unfolding scenario_of
-read_sound bytes s None short e h = cc
-read_sound bytes s (Some d) short e h = (short, d, e, list_sound d (as_array d) s refl h)
-
-tested : (bytes : List ℕ) (s : Scenario) (b : Bool) → ltb MOST_BYTES (length bytes) ≡ b → cond b (bad TooLong) (scenario_read (data_of bytes)) ≡ Ok s
-    → SpellsScenario bytes s
-tested bytes s true t h = cc
-tested bytes s false t h = read_sound bytes s (data_of bytes) (grind (arith, nat_tests)) refl h
+read_sound bytes s o short e h = grind (arith, nat_tests, list_sound)
 
 pub scenario_sound : (bytes : List ℕ) (s : Scenario) → scenario_in bytes ≡ Ok s → SpellsScenario bytes s
 unfolding scenario_in
-scenario_sound bytes s h = tested bytes s (ltb MOST_BYTES (length bytes)) refl h
+scenario_sound bytes s h = grind (arith, nat_tests, read_sound)

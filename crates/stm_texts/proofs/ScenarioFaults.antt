@@ -1,17 +1,16 @@
 -- The first fault of a scenario is the fault that reading it answers.
-use Rattle.std.proofs.Common.{◌≡◌, ℕ, suc, ◌+◌, arith, List, [], ◌∷◌, ◌++◌, length, Bool, true, false, cond, ltb, Option, Some, None, Ok}
-use Rattle.std.proofs.Common.{Err, refl, subst, ◌∙◌, codes}
+use Rattle.std.proofs.Common.{◌≡◌, ℕ, suc, arith, List, [], ◌∷◌, ◌++◌, length, Bool, true, false, cond, ltb, Option, Some, None, Ok, refl, subst, codes}
+use Rattle.std.proofs.lemmas.Bool.Decides.{nat_tests}
 use Rattle.serde_json.specs.Data.{Data, string, array, Items, no_items, item}
 use Rattle.serde_json.specs.Find.{as_str}
-use Rattle.stm_json.specs.declared.cause.Cause.TheVariants.{Shape, TooMany, TooLong, NotJson}
+use Rattle.stm_json.specs.declared.cause.Cause.TheVariants.{Shape, TooMany, TooLong}
 use Rattle.stm_json.specs.declared.read_error.BadInput.{BadInput}
 use Rattle.stm_json.specs.Outcome.{Outcome, bad, ◌>>=◌, step}
-use Rattle.stm_json.specs.Elements.{worded, one_of, two_of, three_of, number_up_to, number_in}
+use Rattle.stm_json.specs.Elements.{worded, one_of, two_of, three_of, number_up_to}
 use Rattle.stm_program.specs.declared.level.Level.{Level}
 use Rattle.stm_program.specs.declared.level.Level.TheVariants.{SerializableSnapshot, Serializable, RepeatableReads, ReadCommitted}
 use Rattle.stm_program_json.specs.Reading.{program_of}
-use Rattle.stm_program_json.specs.FirstFault.{first_fault as program_fault}
-use Rattle.stm_program_json.proofs.StatementMarks.{program_fault as program_fault-is, fault_of as fault_of_program}
+use Rattle.stm_program_json.proofs.StatementMarks.{program_fault as program_fault-is}
 use Rattle.stm_json.specs.Faults.{Sort, WordOf, NumberIn, By, first_of, wrong, at, word_faults, faults_by, sorted_faults, worded_faults, any_number}
 use Rattle.stm_txn_json.specs.FirstFault.{txn_sorts}
 use Rattle.stm_json.specs.Parts.{on_text, same}
@@ -19,18 +18,14 @@ use Rattle.stm_txn_json.specs.Reading.{txn_of}
 use Rattle.stm_json.proofs.FaultLemmas.{fault_of, wrong_is, part_then, inside_of, made, number_faulted, number_up_faulted, number_reported}
 use Rattle.stm_txn_json.proofs.TxnFaults.{txn_faulted}
 use Rattle.stm_events.specs.declared.event.WorldEvent.{WorldEvent}
-use Rattle.stm_events.specs.declared.event.WorldEvent.TheVariants.{Start, Step, Txn, Grant, Keep, Revoke, Advance, Compact}
-use Rattle.stm_outcome.specs.Terms.{most_operations}
+use Rattle.stm_events.specs.declared.event.WorldEvent.TheVariants.{Start, Step, Txn, Keep, Revoke, Advance, Compact}
 use Rattle.stm_txn.specs.Standing.{Setup}
 use Rattle.stm_texts.specs.declared.scenario.Scenario.{Scenario}
-use Rattle.stm_history.specs.declared.revisions.TheConstants.{HIGHEST_NUMBER, HIGHEST_REVISION}
 use Rattle.stm_texts.specs.declared.events.TheConstants.{HIGHEST_LIMIT, MOST_EVENTS}
 use Rattle.stm_json.specs.declared.limits.TheConstants.{MOST_BYTES}
 use Rattle.stm_json.specs.Bytes.{data_of}
-use Rattle.stm_texts.specs.Opens.{setup_at}
 use Rattle.stm_texts.specs.Reading.{level_named, level_of, start_of, grant_of, number_alone, step_of, keep_of, revoke_of, advance_of, compact_of, txn_event}
-use Rattle.stm_texts.specs.Reading.{watcher_event, event_of, event_after, events_from, begins, opening_by, opening_of, scenario_after, scenario_of}
-use Rattle.stm_texts.specs.Reading.{scenario_read, scenario_in}
+use Rattle.stm_texts.specs.Reading.{watcher_event, event_of, event_after, events_from, begins, scenario_after, scenario_of, scenario_read, scenario_in}
 use Rattle.stm_texts.specs.FirstFault.{level_words, placed, program_faults, event_table, event_faults, events_faults, opening_sorts, elements_faults, data_faults}
 use Rattle.stm_texts.specs.FirstFault.{first_fault}
 use Rattle.stm_texts.proofs.WatcherFaults.{watcher_rows, watcher_faulted}
@@ -41,33 +36,23 @@ level_tested : (p : List ℕ) (snapshot serializable repeatable committed : Bool
     → first_of (cond (cond snapshot true (cond serializable true (cond repeatable true (cond committed true false)))) [] (wrong p Shape))
     ≡ fault_of p (cond snapshot (Ok SerializableSnapshot) (cond serializable (Ok Serializable) (cond repeatable (Ok RepeatableReads)
     (cond committed (Ok ReadCommitted) (bad Shape)))))
-level_tested p true serializable repeatable committed = refl
-level_tested p false true repeatable committed = refl
-level_tested p false false true committed = refl
-level_tested p false false false true = refl
-level_tested p false false false false = wrong_is {A = Level} p Shape (bad Shape) refl
+level_tested p snapshot serializable repeatable committed = grind (arith, nat_tests, wrong_is)
 
 level_reported : (p : List ℕ) (o : Option (List ℕ)) → first_of (word_faults level_words p o) ≡ fault_of p (on_text level_named o)
 unfolding level_named
-level_reported p (Some w) =
-    level_tested p (same w (codes "SerializableSnapshot")) (same w (codes "Serializable")) (same w (codes "RepeatableReads")) (same w (codes "ReadCommitted"))
+level_reported p (Some w) = grind (arith, nat_tests, level_tested)
 level_reported p None = wrong_is {A = Level} p Shape (bad Shape) refl
 
 level_faulted : (p : List ℕ) (d : Data) → first_of (faults_by (WordOf level_words) p d) ≡ fault_of p (level_of d)
 unfolding level_of
 level_faulted p d = level_reported p (as_str d)
 
-program_reported_by : {P : Type 0} (reading : Outcome P) → fault_of_program reading ≡ fault_of [] reading
-program_reported_by (Ok x) = refl
-program_reported_by (Err f) = refl
-
 placed_is : {P : Type 0} (p : List ℕ) (reading : Outcome P) (reported : Option BadInput) → reported ≡ fault_of [] reading
     → first_of (placed p reported) ≡ fault_of p reading
-placed_is p (Ok x) reported e = rw e refl
-placed_is p (Err f) reported e = rw e refl
+placed_is p reading reported e = grind (arith, nat_tests)
 
 program_faulted : (p : List ℕ) (d : Data) → first_of (program_faults p d) ≡ fault_of p (program_of d)
-program_faulted p d = placed_is p (program_of d) (program_fault d) (program_fault-is d ∙ program_reported_by (program_of d))
+program_faulted p d = grind (arith, nat_tests, placed_is, program_fault-is)
 
 -- ---- events
 
@@ -94,20 +79,13 @@ start_faulted p (item a (item b (item c (item d ds)))) = wrong_is p Shape (start
 grant_faulted : (p : List ℕ) (ds : Items) → first_of (sorted_faults p (Some grant_sorts) ds) ≡ fault_of p (grant_of (two_of ds))
 grant_faulted p no_items = wrong_is p Shape (grant_of None) refl
 grant_faulted p (item a no_items) = wrong_is p Shape (grant_of None) refl
-grant_faulted p (item a (item b no_items)) =
-    part_then p 1 (number_up_to HIGHEST_NUMBER a) _ (faults_by any_number (at p 1) a) _ (number_reported (at p 1) a) (λ (id : ℕ).
-    part_then p 2 (number_up_to HIGHEST_NUMBER b) (λ ttl. Ok (Grant id ttl)) (faults_by any_number (at p 2) b) [] (number_reported (at p 2) b) (λ ttl. refl))
+grant_faulted p (item a (item b no_items)) = grind (arith, nat_tests, part_then, number_reported)
 grant_faulted p (item a (item b (item c ds))) = wrong_is p Shape (grant_of None) refl
-
-number_alone-faulted : (p : List ℕ) (ds : Items) → first_of (sorted_faults p (Some numbered_sorts) ds) ≡ fault_of p (number_alone (one_of ds))
-number_alone-faulted p no_items = wrong_is p Shape (number_alone None) refl
-number_alone-faulted p (item a no_items) = inside_of p 1 (number_up_to HIGHEST_NUMBER a) (faults_by any_number (at p 1) a) (number_reported (at p 1) a)
-number_alone-faulted p (item a (item b ds)) = wrong_is p Shape (number_alone None) refl
 
 -- an event made of the one number after its word
 numbered_faulted : (make : ℕ → WorldEvent) (p : List ℕ) (ds : Items)
     → first_of (sorted_faults p (Some numbered_sorts) ds) ≡ fault_of p (number_alone (one_of ds) >>= λ n. Ok (make n))
-numbered_faulted make p ds = made p (number_alone (one_of ds)) make (sorted_faults p (Some numbered_sorts) ds) (number_alone-faulted p ds)
+numbered_faulted make p ds = grind (arith, nat_tests, made, wrong_is, inside_of, number_reported)
 
 -- an array of the word of a transaction
 abbrev txn_array : List ℕ → Items → Data
@@ -146,8 +124,7 @@ worded_faulted p _ = wrong_is {A = WorldEvent} p Shape (bad Shape) refl
 
 count_tested : (p : List ℕ) (d : Data) (b : Bool) → first_of (cond b (worded_faults event_table p d) (wrong p TooMany)) ≡ fault_of p
     (cond b (event_of d) (bad TooMany))
-count_tested p d true = worded_faulted p d
-count_tested p d false = wrong_is {A = WorldEvent} p TooMany (bad TooMany) refl
+count_tested p d b = grind (arith, nat_tests, worded_faulted, wrong_is)
 
 event_faulted : (p : List ℕ) (before : ℕ) (d : Data) → first_of (event_faults p before d) ≡ fault_of p (event_after before d)
 unfolding event_after
@@ -156,25 +133,9 @@ event_faulted p before d = count_tested p d (ltb before MOST_EVENTS)
 events_faulted : (first before : ℕ) (ds : Items) → first_of (events_faults first before ds) ≡ fault_of [] (events_from first before ds)
 unfolding events_from
 events_faulted first before no_items = refl
-events_faulted first before (item d ds) =
-    part_then [] (first + before) (event_after before d) _ (event_faults (step (first + before)) before d) (events_faults first (suc before) ds)
-    (event_faulted (step (first + before)) before d)
-    (λ (e : WorldEvent). made [] (events_from first (suc before) ds) (λ (es : List WorldEvent). e ∷ es) (events_faults first (suc before) ds)
-    (events_faulted first (suc before) ds))
+events_faulted first before (item d ds) = grind (arith, nat_tests, part_then, event_faulted, made, events_faulted first (suc before) ds)
 
 -- ---- scenarios
-
-opening_faulted : (p : List ℕ) (ds : Items) → first_of (sorted_faults p (Some (opening_sorts ds)) ds) ≡ fault_of p (opening_of ds)
-opening_faulted p no_items = wrong_is p Shape (opening_by None None) refl
-opening_faulted p (item a no_items) =
-    part_then p 1 (number_in 1 HIGHEST_REVISION a) (λ revision. Ok (setup_at revision most_operations)) (faults_by (NumberIn 1 HIGHEST_REVISION) (at p 1) a)
-    [] (number_faulted (at p 1) 1 HIGHEST_REVISION a (omega arith)) (λ revision. refl)
-opening_faulted p (item a (item b no_items)) =
-    part_then p 1 (number_in 1 HIGHEST_REVISION a) _ (faults_by (NumberIn 1 HIGHEST_REVISION) (at p 1) a) _
-    (number_faulted (at p 1) 1 HIGHEST_REVISION a (omega arith)) (λ (revision : ℕ).
-    part_then p 2 (number_in 1 most_operations b) (λ operations. Ok (setup_at revision operations)) (faults_by (NumberIn 1 most_operations) (at p 2) b) []
-    (number_faulted (at p 2) 1 most_operations b (omega arith)) (λ operations. refl))
-opening_faulted p (item a (item b (item c ds))) = wrong_is p Shape (opening_by None None) refl
 
 abbrev alone : List WorldEvent → Scenario
 alone es = record { opening = None; events = es }
@@ -188,10 +149,7 @@ alone_faulted all = made [] (events_from 0 0 all) alone (events_faults 0 0 all) 
 opening_tested : (parts ds all : Items) (b : Bool)
     → first_of (cond b (sorted_faults (step 0) (Some (opening_sorts parts)) parts ++ events_faults 1 0 ds) (events_faults 0 0 all))
     ≡ fault_of [] (scenario_after (cond b (Some parts) None) all ds)
-opening_tested parts ds all true =
-    part_then [] 0 (opening_of parts) _ (sorted_faults (step 0) (Some (opening_sorts parts)) parts) (events_faults 1 0 ds) (opening_faulted (step 0) parts)
-    (λ (r : Setup). made [] (events_from 1 0 ds) (opened r) (events_faults 1 0 ds) (events_faulted 1 0 ds))
-opening_tested parts ds all false = alone_faulted all
+opening_tested parts ds all b = grind (arith, nat_tests, part_then, made, events_faulted, alone_faulted, wrong_is, number_faulted)
 
 elements_faulted : (d : Data) (ds : Items) → first_of (elements_faults (item d ds)) ≡ fault_of [] (scenario_after (begins (worded d)) (item d ds) ds)
 elements_faulted (array (item (string w) parts)) ds = opening_tested parts ds (item (array (item (string w) parts)) ds) (same w (codes "begin"))
@@ -199,17 +157,10 @@ elements_faulted _ ds = alone_faulted (item _ ds)
 
 data_faulted : (d : Data) → first_of (data_faults (Some d)) ≡ fault_of [] (scenario_of d)
 unfolding scenario_of
-data_faulted (array no_items) = refl
-data_faulted (array (item d ds)) = elements_faulted d ds
-data_faulted _ = wrong_is {A = Scenario} [] Shape (bad Shape) refl
-
-read_faulted : (o : Option Data) → first_of (data_faults o) ≡ fault_of [] (scenario_read o)
-read_faulted None = wrong_is {A = Scenario} [] NotJson (bad NotJson) refl
-read_faulted (Some d) = data_faulted d
+data_faulted d = grind (arith, nat_tests, elements_faulted, wrong_is)
 
 length_tested : (o : Option Data) (b : Bool) → first_of (cond b (wrong [] TooLong) [] ++ data_faults o) ≡ fault_of [] (cond b (bad TooLong) (scenario_read o))
-length_tested o true = refl
-length_tested o false = read_faulted o
+length_tested o b = grind (arith, nat_tests, wrong_is, data_faulted)
 
 -- the first fault is that which reading answers, if it does
 pub first_fault-is : (bytes : List ℕ) → first_fault bytes ≡ fault_of [] (scenario_in bytes)

@@ -1,6 +1,5 @@
 -- Bytes that are JSON, and bytes that are not.
-use Rattle.std.proofs.Common.{◌≡◌, ℕ, ◌≤◌, List, length, Bool, true, false, Some, None, refl, ◌∙◌, IsUtf8, arith}
-use Rattle.std.specs.Str.{is_utf8}
+use Rattle.std.proofs.Common.{◌≡◌, ℕ, ◌≤◌, List, length, Some, None, refl, ◌∙◌, IsUtf8, arith}
 use Rattle.std.proofs.lemmas.Str.{IsUtf8-from_is_utf8, is_utf8-from_IsUtf8}
 use Rattle.std.proofs.lemmas.Bool.Decides.{nat_tests}
 use Rattle.serde_json.specs.Data.{Data}
@@ -19,10 +18,6 @@ scenario_in-short bytes short = grind (arith, nat_tests)
 pub scenario_in-json : (bytes : List ℕ) (d : Data) → length bytes ≤ MOST_BYTES → IsUtf8 bytes → read bytes ≡ Some d → scenario_in bytes ≡ scenario_of d
 scenario_in-json bytes d short utf8 is = scenario_in-short bytes short ∙ rw (is_utf8-from_IsUtf8 bytes utf8, is) refl
 
-refused : (bytes : List ℕ) (utf8 : Bool) → is_utf8 bytes ≡ utf8 → (IsUtf8 bytes → read bytes ≡ None) → scenario_read (data_of bytes) ≡ bad NotJson
-refused bytes true is none = rw (is, none (IsUtf8-from_is_utf8 bytes is)) refl
-refused bytes false is none = rw is refl
-
 -- anything else
 pub scenario_in-other : (bytes : List ℕ) → length bytes ≤ MOST_BYTES → (IsUtf8 bytes → read bytes ≡ None) → scenario_in bytes ≡ bad NotJson
-scenario_in-other bytes short none = scenario_in-short bytes short ∙ refused bytes (is_utf8 bytes) refl none
+scenario_in-other bytes short none = grind (arith, nat_tests, scenario_in-short, IsUtf8-from_is_utf8)

@@ -1,5 +1,6 @@
 -- The first fault of a watcher's event is the fault that reading it answers.
-use Rattle.std.proofs.Common.{◌≡◌, ℕ, List, [], ◌∷◌, Bool, true, false, cond, Option, Some, None, Ok, refl, codes}
+use Rattle.std.proofs.Common.{◌≡◌, ℕ, List, [], ◌∷◌, Bool, true, false, cond, Option, Some, None, Ok, refl, codes, arith}
+use Rattle.std.proofs.lemmas.Bool.Decides.{nat_tests}
 use Rattle.serde_json.specs.Data.{Items, no_items, item}
 use Rattle.stm_history.specs.declared.revisions.TheConstants.{HIGHEST_NUMBER}
 use Rattle.stm_json.specs.declared.cause.Cause.TheVariants.{Shape}
@@ -9,7 +10,7 @@ use Rattle.stm_json.specs.Faults.{Sort, AnyText, first_of, at, faults_by, sorted
 use Rattle.stm_json.specs.Parts.{text_of, same}
 use Rattle.stm_json.proofs.FaultLemmas.{fault_of, wrong_is, part_then, text_faulted, number_reported}
 use Rattle.stm_events.specs.declared.event.WorldEvent.{WorldEvent}
-use Rattle.stm_events.specs.declared.event.WorldEvent.TheVariants.{WatchKey, WatchRange, Poll, Cancel}
+use Rattle.stm_events.specs.declared.event.WorldEvent.TheVariants.{WatchRange}
 use Rattle.stm_texts.specs.Reading.{watch_key_of, watch_range_of, poll_of, cancel_of, watcher_event}
 
 abbrev watch_key_sorts : List Sort
@@ -27,10 +28,7 @@ cancel_sorts = any_number ∷ []
 watch_key_faulted : (p : List ℕ) (ds : Items) → first_of (sorted_faults p (Some watch_key_sorts) ds) ≡ fault_of p (watch_key_of (two_of ds))
 watch_key_faulted p no_items = wrong_is p Shape (watch_key_of None) refl
 watch_key_faulted p (item a no_items) = wrong_is p Shape (watch_key_of None) refl
-watch_key_faulted p (item a (item b no_items)) =
-    part_then p 1 (text_of a) _ (faults_by AnyText (at p 1) a) _ (text_faulted (at p 1) a) (λ (key : List ℕ).
-    part_then p 2 (number_up_to HIGHEST_NUMBER b) (λ from. Ok (WatchKey key from)) (faults_by any_number (at p 2) b) []
-    (number_reported (at p 2) b) (λ from. refl))
+watch_key_faulted p (item a (item b no_items)) = grind (arith, nat_tests, part_then, text_faulted, number_reported)
 watch_key_faulted p (item a (item b (item c ds))) = wrong_is p Shape (watch_key_of None) refl
 
 watch_range_faulted : (p : List ℕ) (ds : Items) → first_of (sorted_faults p (Some watch_range_sorts) ds) ≡ fault_of p (watch_range_of (three_of ds))
@@ -47,17 +45,12 @@ watch_range_faulted p (item a (item b (item c (item d ds)))) = wrong_is p Shape 
 poll_faulted : (p : List ℕ) (ds : Items) → first_of (sorted_faults p (Some poll_sorts) ds) ≡ fault_of p (poll_of (two_of ds))
 poll_faulted p no_items = wrong_is p Shape (poll_of None) refl
 poll_faulted p (item a no_items) = wrong_is p Shape (poll_of None) refl
-poll_faulted p (item a (item b no_items)) =
-    part_then p 1 (number_up_to HIGHEST_NUMBER a) _ (faults_by any_number (at p 1) a) _ (number_reported (at p 1) a) (λ (watcher : ℕ).
-    part_then p 2 (number_up_to HIGHEST_NUMBER b) (λ most. Ok (Poll watcher most)) (faults_by any_number (at p 2) b) []
-    (number_reported (at p 2) b) (λ most. refl))
+poll_faulted p (item a (item b no_items)) = grind (arith, nat_tests, part_then, number_reported)
 poll_faulted p (item a (item b (item c ds))) = wrong_is p Shape (poll_of None) refl
 
 cancel_faulted : (p : List ℕ) (ds : Items) → first_of (sorted_faults p (Some cancel_sorts) ds) ≡ fault_of p (cancel_of (one_of ds))
 cancel_faulted p no_items = wrong_is p Shape (cancel_of None) refl
-cancel_faulted p (item a no_items) =
-    part_then p 1 (number_up_to HIGHEST_NUMBER a) (λ watcher. Ok (Cancel watcher)) (faults_by any_number (at p 1) a) [] (number_reported (at p 1) a)
-    (λ watcher. refl)
+cancel_faulted p (item a no_items) = grind (arith, nat_tests, part_then, number_reported)
 cancel_faulted p (item a (item b ds)) = wrong_is p Shape (cancel_of None) refl
 
 word_tested : (p : List ℕ) (ds : Items) (key range poll cancel : Bool)
@@ -79,5 +72,4 @@ watcher_rows w =
 
 pub watcher_faulted : (p w : List ℕ) (ds : Items) → first_of (sorted_faults p (watcher_rows w) ds) ≡ fault_of p (watcher_event w ds)
 unfolding watcher_event
-watcher_faulted p w ds =
-    word_tested p ds (same w (codes "watch_key")) (same w (codes "watch_range")) (same w (codes "poll")) (same w (codes "cancel"))
+watcher_faulted p w ds = grind (arith, nat_tests, word_tested)

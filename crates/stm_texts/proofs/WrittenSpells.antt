@@ -1,11 +1,12 @@
 -- What is written of an event that can be spelled spells it.
-use Rattle.std.proofs.Common.{◌≡◌, ℕ, List, [], ◌∷◌, map, refl, subst, sym}
-use Rattle.serde_json.specs.Data.{Data, string, unsigned, Items}
+use Rattle.std.proofs.Common.{◌≡◌, ℕ, List, [], ◌∷◌, map, refl, subst, sym, arith}
+use Rattle.std.proofs.lemmas.Bool.Decides.{nat_tests}
+use Rattle.serde_json.specs.Data.{Data, unsigned, Items}
 use Rattle.serde_json.specs.View.{items_of}
 use Rattle.stm_history.specs.declared.revisions.TheConstants.{HIGHEST_NUMBER}
-use Rattle.stm_program_json.specs.Writing.{written_number, written_program}
+use Rattle.stm_program_json.specs.Writing.{written_number}
 use Rattle.stm_program_json.proofs.WrittenLemmas.{written_program-spells}
-use Rattle.stm_texts.specs.Grammar.{level_text, SpellsNumbered, SpellsEvent}
+use Rattle.stm_texts.specs.Grammar.{SpellsNumbered, SpellsEvent}
 use Rattle.stm_outcome.specs.declared.txn.Compare.{Compare}
 use Rattle.stm_outcome.specs.declared.txn.Op.{Op}
 use Rattle.stm_outcome.specs.declared.txn.Op.TheVariants.{Get, Put, Del}
@@ -25,8 +26,7 @@ number_spells least most n d (spells, low, high) = ((unsigned n, refl, refl), lo
 each_spells : {A : Type 0} (spells : Data → A → Type 0) (write : A → Data) → ((d : Data) (x : A) → spells d x → spells (write x) x)
     → (ds : Items) (xs : List A) → SpellsEach spells ds xs → SpellsEach spells (items_of (map write xs)) xs
 each_spells spells write one ds [] is = refl
-each_spells spells write one ds (x ∷ xs) (a, rest, is, s, others) =
-    (write x, items_of (map write xs), refl, one a x s, each_spells spells write one rest xs others)
+each_spells spells write one ds (x ∷ xs) (a, rest, is, s, others) = grind (arith, nat_tests, each_spells spells write one rest xs others)
 
 -- ---- transactions
 
@@ -62,38 +62,17 @@ numbered_spells : (word : List ℕ) (d : Data) (n : ℕ) → SpellsNumbered word
 numbered_spells word d n (a, is, s) = (written_number n, refl, number_spells 0 HIGHEST_NUMBER n a s)
 
 pub event_spells : (d : Data) (e : WorldEvent) → SpellsEvent d e → SpellsEvent (written_event e) e
-event_spells d (Start program level limit) (a, b, c, is, word, within_limit, of_program, fits) = (
-  string (level_text level),
-  written_number limit,
-  written_program program,
-  refl,
-  refl,
-  number_spells _ _ limit b within_limit,
-  written_program-spells program,
-  fits,
-)
+event_spells d (Start program level limit) (a, b, c, is, word, within_limit, of_program, fits) = grind (arith, nat_tests, number_spells, written_program-spells)
 event_spells d (Step runner) s = numbered_spells _ d runner s
 event_spells d (TxnEvent t) s = txn_spells d t s
-event_spells d (Grant id ttl) (a, b, is, of_id, of_ttl) = (
-  written_number id,
-  written_number ttl,
-  refl,
-  number_spells 0 HIGHEST_NUMBER id a of_id,
-  number_spells 0 HIGHEST_NUMBER ttl b of_ttl,
-)
+event_spells d (Grant id ttl) (a, b, is, of_id, of_ttl) = grind (arith, nat_tests, number_spells)
 event_spells d (Keep id) s = numbered_spells _ d id s
 event_spells d (Revoke id) s = numbered_spells _ d id s
 event_spells d (Advance now) s = numbered_spells _ d now s
 event_spells d (Compact revision) s = numbered_spells _ d revision s
 event_spells d (WatchKey key from) (a, is, s) = (written_number from, refl, number_spells 0 HIGHEST_NUMBER from a s)
 event_spells d (WatchRange first end from) (a, is, s) = (written_number from, refl, number_spells 0 HIGHEST_NUMBER from a s)
-event_spells d (Poll watcher most) (a, b, is, of_watcher, of_most) = (
-  written_number watcher,
-  written_number most,
-  refl,
-  number_spells 0 HIGHEST_NUMBER watcher a of_watcher,
-  number_spells 0 HIGHEST_NUMBER most b of_most,
-)
+event_spells d (Poll watcher most) (a, b, is, of_watcher, of_most) = grind (arith, nat_tests, number_spells)
 event_spells d (Cancel watcher) s = numbered_spells _ d watcher s
 
 -- the same, for data that are equal to what is written

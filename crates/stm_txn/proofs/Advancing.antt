@@ -1,12 +1,11 @@
 -- An advance ends due leases one after another, until none is due or one can't end.
-use Rattle.std.proofs.Common.{◌≡◌, ℕ, ◌≤◌, zero, suc, cond, [], Option, Some, None, refl, sym, ap, subst, arith}
+use Rattle.std.proofs.Common.{◌≡◌, ℕ, ◌≤◌, zero, suc, Option, Some, None, refl, sym, subst, arith}
 use Rattle.std.specs.Prelude.{Result, Ok, Err}
 use Rattle.std.specs.FinMap as finmap
-use Rattle.std.proofs.lemmas.Bool.{le-ltb}
+use Rattle.std.proofs.lemmas.Bool.{le-ltb, Decides.nat_tests}
 use Rattle.stm_leases.specs.DueFirst.{first_due}
 use Rattle.stm_leases.proofs.DueLaws.{first_due_is_next}
 use Rattle.stm_outcome.specs.declared.refusal.Refusal.{Refusal}
-use Rattle.stm_outcome.specs.declared.refusal.Refusal.TheVariants.{TimeGoesBack}
 use Rattle.stm_txn.specs.Standing.{Standing, ended, Advance, expire_all, at_moment, advanced}
 use Rattle.stm_txn.specs.Advances.{Expiries, none, more, StopsFor, AdvanceExpires}
 use Rattle.stm_txn.proofs.Ending.{done, next_ended, next_refused, ended_fewer}
@@ -51,8 +50,7 @@ runs (suc n) s count =
     (λ id next due is. runs n next (let fewer : finmap.len s.live ≡ suc (finmap.len next.live) = ended_fewer s next id due is in omega arith))
 
 forward : (s : Standing) (moment : ℕ) → s.moment ≤ moment → expire_all (at_moment s moment) ≡ advanced s moment
-forward s moment above =
-    sym (ap (λ b. cond b (record { expired = []; leaves = s; cause = Some TimeGoesBack }) (expire_all (at_moment s moment))) (le-ltb moment s.moment above))
+forward s moment above = grind (arith, nat_tests, le-ltb)
 
 pub advance_expires : AdvanceExpires
 advance_expires s moment above =

@@ -1,15 +1,15 @@
 -- The leases that states name are numbers that fit.
-use Rattle.std.proofs.Common.{◌≡◌, ℕ, ◌+◌, ◌≤◌, Bool, true, false, cond, List, [], ◌∷◌, ◌++◌, Option, Some, None, refl, sym, subst, arith, inl, inr}
-use Rattle.std.specs.Prelude.{nat_eq, nat_le, nat_lt, ◌&&◌, ◌||◌, is_some, bytes_eq, IfSome}
+use Rattle.std.proofs.Common.{◌≡◌, ℕ, ◌≤◌, Bool, true, cond, List, [], ◌∷◌, ◌++◌, Option, Some, None, refl, arith}
+use Rattle.std.specs.Prelude.{nat_eq, nat_le, ◌&&◌, ◌||◌, is_some, IfSome}
 use Rattle.std.specs.FinMap as finmap
-use Rattle.std.proofs.lemmas.Bool.{cases_lt, leb-true, eqb-true}
+use Rattle.std.proofs.lemmas.Bool.{cases_lt, leb-true, eqb-true, Decides.nat_tests}
 use Rattle.stm_history.specs.declared.change.Change.{Change}
 use Rattle.stm_history.specs.declared.change.Change.TheVariants.{Put as PutChange, Del as DelChange}
 use Rattle.stm_history.specs.declared.key_state.KeyState.{KeyState}
 use Rattle.stm_history.specs.declared.revisions.TheConstants.{HIGHEST_NUMBER}
 use Rattle.stm_history.specs.Opening.{Opening}
 use Rattle.stm_history.specs.Cut.{revisions_above, cut}
-use Rattle.stm_history.specs.History.{History, now, key_of, key_now, key_at, key_after, change_of, after_change, number_of_last, revisions_up_to}
+use Rattle.stm_history.specs.History.{History, key_at, key_after, change_of, after_change, revisions_up_to}
 use Rattle.stm_history.proofs.HistoryLaws.{one_more}
 use Rattle.stm_history.proofs.CutLaws.{cut_off, cut_at_the_opening, opened_by_cut}
 use Rattle.stm_leases.specs.declared.bounds.TheConstants.{HIGHEST_ID}
@@ -26,8 +26,7 @@ use Rattle.stm_outcome.specs.Numbers.{LeaseFits, ChangeFits, ChangesFit, Revisio
 use Rattle.stm_outcome.proofs.Widening.{both_none}
 
 pub both : (a b : Bool) → (a && b) ≡ true → (a ≡ true) × (b ≡ true)
-both true b is = (refl, is)
-both false b is = cc
+both a b is = grind (arith, nat_tests)
 
 -- the id of a live lease fits
 live_case : (live : Live) (id : ℕ) (o : Option Term) → AreInRange live → finmap.get live id ≡ o → is_some o ≡ true → id ≤ HIGHEST_NUMBER
@@ -42,10 +41,7 @@ live_fits live id fits found = live_case live id (finmap.get live id) fits refl 
 -- a change that attaches its key to a live lease, or to none
 named_fits : (live : Live) (key : List ℕ) (lease : ℕ) (zero_lease : Bool) (rest : List (List ℕ × ℕ)) → AreInRange live → nat_eq lease 0 ≡ zero_lease →
     AttachedToLive live (with_attach key (cond zero_lease None (Some lease)) rest) → (lease ≤ HIGHEST_NUMBER) × AttachedToLive live rest
-named_fits live key lease true rest fits is attach =
-    let zero : lease ≡ 0 = eqb-true lease 0 is in
-    (omega (arith, zero), attach)
-named_fits live key lease false rest fits is attach = (live_fits live lease fits attach.0, attach.1)
+named_fits live key lease zero_lease rest fits is attach = grind (arith, nat_tests, eqb-true, live_fits)
 
 pub attached_fit : (live : Live) (cs : List Change) → AreInRange live → AttachedToLive live (attached_of cs) → ChangesFit cs
 attached_fit live [] fits attach = tt
@@ -61,14 +57,7 @@ fits-push (d ∷ ds) c before one = (before.0, fits-push ds c before.1 one)
 -- the put of a branch that no operation refuses
 put_case : (live : Live) (lease : ℕ) (zero_lease : Bool) → AreInRange live → nat_eq lease 0 ≡ zero_lease →
     cond (zero_lease || is_live_in live lease) None (Some LeaseNotFound) ≡ None → lease ≤ HIGHEST_NUMBER
-put_case live lease true fits is none =
-    let zero : lease ≡ 0 = eqb-true lease 0 is in
-    omega (arith, zero)
-put_case live lease false fits is none = live_fits live lease fits (found_case (is_live_in live lease) none)
-  where
-    found_case : (b : Bool) → cond b None (Some LeaseNotFound) ≡ None → b ≡ true
-    found_case true none = refl
-    found_case false none = cc
+put_case live lease zero_lease fits is none = grind (arith, nat_tests, eqb-true, live_fits)
 
 -- the leases that a branch names
 abbrev pub NamesFit : List Op → Type 0
@@ -91,30 +80,21 @@ names_fit s (Del key ∷ ops) fits none =
 -- the change of a key among these
 found_fits : (key : List ℕ) (cs : List Change) → ChangesFit cs → IfSome (change_of key cs) ChangeFits
 found_fits key [] fits = tt
-found_fits key (c ∷ cs) fits =
-    elim (bytes_eq (key_of c) key) as (λ b. IfSome (cond b (Some c) (change_of key cs)) ChangeFits)
-    [ true ↦ fits.0 | false ↦ found_fits key cs fits.1 ]
+found_fits key (c ∷ cs) fits = grind (arith, nat_tests, found_fits key cs fits.1)
 
 -- what a change, or none, makes of a key
 after_fits : (number : ℕ) (o : Option Change) (s : Option KeyState) → IfSome o ChangeFits → IfSome s LeaseFits → IfSome (after_change number o s) LeaseFits
-after_fits number None s change fits = fits
-after_fits number (Some (PutChange key value lease)) None change fits = change
-after_fits number (Some (PutChange key value lease)) (Some s) change fits = change
-after_fits number (Some (DelChange key)) s change fits = tt
+after_fits number o s change fits = grind (arith, nat_tests)
 
 -- what a key is after revisions
 after_all_fits : (opening : Opening) (key : List ℕ) (revisions : List (List Change)) → OpeningFits opening → RevisionsFit revisions → IfSome (key_after opening key revisions) LeaseFits
 after_all_fits opening key [] opened fits = opened key
 after_all_fits opening key (changes ∷ older) opened fits =
-    subst (λ (s : Option KeyState). IfSome s LeaseFits) (sym (one_more opening key changes older))
-    (after_fits (number_of_last opening (changes ∷ older)) (change_of key changes) (key_after opening key older) (found_fits key changes fits.0)
-    (after_all_fits opening key older opened fits.1))
+    grind (arith, nat_tests, one_more, after_fits, found_fits, after_all_fits opening key older opened fits.1)
 
 up_to_fits : (opening : Opening) (r : ℕ) (revisions : List (List Change)) → RevisionsFit revisions → RevisionsFit (revisions_up_to opening r revisions)
 up_to_fits opening r [] fits = tt
-up_to_fits opening r (changes ∷ older) fits =
-    elim (nat_le (number_of_last opening (changes ∷ older)) r) as (λ b. RevisionsFit (cond b (changes ∷ older) (revisions_up_to opening r older)))
-    [ true ↦ fits | false ↦ up_to_fits opening r older fits.1 ]
+up_to_fits opening r (changes ∷ older) fits = grind (arith, nat_tests, up_to_fits opening r older fits.1)
 
 pub lease_at_fits : (h : History) (key : List ℕ) (r : ℕ) → LeasesFit h → IfSome (key_at h key r) LeaseFits
 lease_at_fits h key r fits = after_all_fits h.opening key (revisions_up_to h.opening r h.revisions) fits.0 (up_to_fits h.opening r h.revisions fits.1)
@@ -122,29 +102,15 @@ lease_at_fits h key r fits = after_all_fits h.opening key (revisions_up_to h.ope
 -- they fit once the oldest revisions are dropped
 above_fits : (opening : Opening) (number : ℕ) (revisions : List (List Change)) → RevisionsFit revisions → RevisionsFit (revisions_above opening number revisions)
 above_fits opening number [] fits = tt
-above_fits opening number (changes ∷ older) fits =
-    by_test (nat_lt number (number_of_last opening (changes ∷ older))) (above_fits opening number older fits.1)
-  where
-    by_test : (b : Bool) → RevisionsFit (revisions_above opening number older) → RevisionsFit (cond b (changes ∷ revisions_above opening number older) [])
-    by_test true rest = (fits.0, rest)
-    by_test false rest = tt
+above_fits opening number (changes ∷ older) fits = grind (arith, nat_tests, above_fits opening number older fits.1)
 
 pub cut_fits : (h : History) (number : ℕ) → LeasesFit h → LeasesFit (cut number h)
-cut_fits h number fits = elim (cases_lt h.opening.number number) [
-  | inl less ↦
-      subst (λ (g : History). LeasesFit g) (sym (cut_off number h less)) (
-        (λ key. subst (λ (s : Option KeyState). IfSome s LeaseFits) (sym (opened_by_cut number h key (omega (arith, less)))) (lease_at_fits h key number fits)),
-        above_fits h.opening number h.revisions fits.1,
-      )
-  | inr opened ↦ subst (λ (g : History). LeasesFit g) (sym (cut_at_the_opening h number opened)) fits
-]
+cut_fits h number fits = grind (arith, nat_tests, cases_lt, cut_off, opened_by_cut, lease_at_fits, above_fits, cut_at_the_opening)
 
 pub lease_copied_fits : (h : History) (changes : List Change) (key : List ℕ) → LeasesFit h → ChangesFit changes →
     IfSome (copy h changes key) LeaseFits
-lease_copied_fits h changes key fits change =
-    after_fits (now h + 1) (change_of key changes) (key_now h key) (found_fits key changes change) (after_all_fits h.opening key h.revisions fits.0 fits.1)
+lease_copied_fits h changes key fits change = grind (arith, nat_tests, after_fits, found_fits, after_all_fits)
 
 -- a deletion, or none, names no lease
 pub deleted_fits : (changes : List Change) (key : List ℕ) (s : Option KeyState) → ChangesFit changes → ChangesFit (with_copied changes (deletion_of key s))
-deleted_fits changes key None fits = fits
-deleted_fits changes key (Some s) fits = fits-push changes (DelChange key) fits tt
+deleted_fits changes key s fits = grind (arith, nat_tests, fits-push)

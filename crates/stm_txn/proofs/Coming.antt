@@ -1,6 +1,7 @@
 -- Leases that expired one after another: one more comes at their end.
-use Rattle.std.proofs.Common.{◌≡◌, ◌∙◌, ℕ, suc, List, [], ◌∷◌, ◌++◌, length, Option, Some, None, refl, sym, ap, subst}
+use Rattle.std.proofs.Common.{◌≡◌, ◌∙◌, ℕ, List, [], ◌∷◌, ◌++◌, length, Option, Some, None, refl, sym, ap, subst, arith}
 use Rattle.std.specs.Prelude.{Result, Ok, Err}
+use Rattle.std.proofs.lemmas.Bool.Decides.{nat_tests}
 use Rattle.stm_leases.specs.DueFirst.{first_due}
 use Rattle.stm_outcome.specs.declared.advance.Expired.{Expired}
 use Rattle.stm_outcome.specs.declared.refusal.Refusal.{Refusal}
@@ -44,11 +45,7 @@ first_by_outcome first e es left id (Ok next) due is come =
 
 first_by_due : (first : Standing) (e : Expired) (es : List Expired) (left : Standing) (due : Option ℕ) →
     first_due first.live first.moment ≡ due → HasCome first (e ∷ es) left → ComesFirst first e es left
-first_by_due first e es left None due come =
-    let whole : come_to [] first None ≡ come_to (e ∷ es) left None =
-    sym (none_due (suc (length es)) first due) ∙ come in
-    let never : [] ≡ e ∷ es = ap (λ (a : Advance). a.expired) whole in absurd (cc)
-first_by_due first e es left (Some id) due come = first_by_outcome first e es left id (ended first id) due refl come
+first_by_due first e es left due h6 come = grind (arith, nat_tests, none_due, first_by_outcome)
 
 pub comes_first : (first : Standing) (e : Expired) (es : List Expired) (left : Standing) → HasCome first (e ∷ es) left → ComesFirst first e es left
 comes_first first e es left come = first_by_due first e es left (first_due first.live first.moment) refl come

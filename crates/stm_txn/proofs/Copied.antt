@@ -1,5 +1,6 @@
 -- What a copy of the parts of a store keeps.
-use Rattle.std.proofs.Common.{◌≡◌, ◌≤◌, ℕ, sym, ap, subst, ◌∙◌}
+use Rattle.std.proofs.Common.{◌≡◌, ◌≤◌, ℕ, arith}
+use Rattle.std.proofs.lemmas.Bool.Decides.{nat_tests}
 use Rattle.stm_history.specs.History.{now}
 use Rattle.stm_keys.specs.Keys.{Contents}
 use Rattle.stm_leases.specs.Leases.{Leases, lease_of}
@@ -26,13 +27,7 @@ store_of limit keys leases moment watchers = record {
 module _ (keys copied_keys : Contents) (leases copied_leases : Leases) (watchers copied_watchers : WatchersView)
     (same_keys : copied_keys ≡ keys) (same_leases : copied_leases ≡ record leases { spare = 0 }) (same_watchers : copied_watchers ≡ watchers) where
   pub parts_copied : AreParts keys leases watchers → AreParts copied_keys copied_leases copied_watchers
-  parts_copied are =
-      subst (λ (k : Contents). AreParts k copied_leases copied_watchers) (sym same_keys)
-      (subst (λ (l : Leases). AreParts keys l copied_watchers) (sym same_leases)
-      (subst (λ (ws : WatchersView). AreParts keys (record leases { spare = 0 }) ws) (sym same_watchers) are))
+  parts_copied are = grind (arith, nat_tests)
 
   pub store_copied : (limit moment : ℕ) → store_of limit copied_keys copied_leases moment copied_watchers ≡ store_of limit keys leases moment watchers
-  store_copied limit moment =
-      ap (λ (k : Contents). store_of limit k copied_leases moment copied_watchers) same_keys
-      ∙ ap (λ (l : Leases). store_of limit keys l moment copied_watchers) same_leases
-      ∙ ap (λ (ws : WatchersView). store_of limit keys leases moment ws) same_watchers
+  store_copied limit moment = grind (arith, nat_tests)

@@ -10,8 +10,9 @@ use Rattle.std.specs.FinMap as finmap
 use Rattle.std.specs.declared.cmp.Ordering.TheVariants.{Less}
 use Rattle.std.proofs.lemmas.Map.Text.{is_eq-slice_cmp}
 use Rattle.std.proofs.lemmas.Cmp.{nat_eq_equiv}
+use Rattle.std.proofs.lemmas.Bool.Decides.{nat_tests}
 use Rattle.stm_history.specs.declared.change.Change.{Change}
-use Rattle.stm_history.specs.declared.change.Change.TheVariants.{Put, Del}
+use Rattle.stm_history.specs.declared.change.Change.TheVariants.{Del}
 use Rattle.stm_history.specs.declared.key_state.KeyState.{KeyState}
 use Rattle.stm_history.specs.declared.revisions.TheConstants.{HIGHEST_REVISION}
 use Rattle.stm_history.specs.History.{History, now, key_now, add_revision, change_of, after_change, HasDistinctKeys}
@@ -27,12 +28,10 @@ use Rattle.stm_leases.proofs.DueLaws.{first_due_is_next}
 use Rattle.stm_leases.proofs.Tables.{test_number}
 use Rattle.stm_outcome.specs.declared.advance.Expired.{Expired}
 use Rattle.stm_outcome.specs.declared.refusal.Refusal.{Refusal}
-use Rattle.stm_outcome.specs.declared.refusal.Refusal.TheVariants.{RevisionsUsedUp}
 use Rattle.stm_txn.specs.Leasing.{attaching, attached_after, attached_of, lease_now}
 use Rattle.stm_txn.specs.LeaseKeys.{keys_of_lease, deletions_of}
 use Rattle.stm_outcome.specs.Outcome.{with_changes, is_used_up}
-use Rattle.stm_txn.specs.Standing.{Standing, IsRefusalOf, without_lease, ended, Advance, after, expired_in, expire_up_to, expire_all, IsCutShort}
-use Rattle.stm_txn.specs.Standing.{with_expiries}
+use Rattle.stm_txn.specs.Standing.{Standing, IsRefusalOf, without_lease, ended, Advance, after, expired_in, expire_up_to, expire_all, IsCutShort, with_expiries}
 use Rattle.stm_outcome.proofs.Branching.{equal_text, apart_case, apart_back}
 use Rattle.stm_txn.proofs.Running.{none_used, all_used}
 use Rattle.stm_txn.proofs.Naming.{skipped, rest_ascending, are_keys}
@@ -43,9 +42,7 @@ renewed_case : (r : Result (Unit {0}) LeaseNotFound) (old new : Leases) (id at :
     ((term : Term) → finmap.get old.live id ≡ Some term → new ≡ record old { live = finmap.insert old.live id (record term { renewed = at }) }) →
     OnErr r (new ≡ old) → new.attached ≡ old.attached
 renewed_case r old new id at (Some term) is found ok err = ap (λ (s : Leases). s.attached) (ok term is)
-renewed_case (Ok u) old new id at None is found ok err =
-    let live : is_some (finmap.get old.live id) ≡ true = found.0 refl in
-    absurd (cc (ap (λ (o : Option Term). is_some o) is))
+renewed_case (Ok u) old new id at None is found ok err = grind (arith, nat_tests)
 renewed_case (Err e) old new id at None is found ok err = ap (λ (s : Leases). s.attached) err
 
 pub renewed_attached : (r : Result (Unit {0}) LeaseNotFound) (old new : Leases) (id at : ℕ) → (IsOk r ↔ IsLive old id) →
@@ -53,18 +50,9 @@ pub renewed_attached : (r : Result (Unit {0}) LeaseNotFound) (old new : Leases) 
     OnErr r (new ≡ old) → new.attached ≡ old.attached
 renewed_attached r old new id at found ok err = renewed_case r old new id at (finmap.get old.live id) refl found ok err
 
--- keys are attached as stored once their leases moved with a revision's changes
-attached_by_change : (n : ℕ) (o : Option Change) (s : Option KeyState) → attached_after o (attaching s) ≡ attaching (after_change n o s)
-attached_by_change n None s = refl
-attached_by_change n (Some (Put key value lease)) None = refl
-attached_by_change n (Some (Put key value lease)) (Some s) = refl
-attached_by_change n (Some (Del key)) s = refl
-
 pub still_stored : (h : History) (cs : List Change) (key : List ℕ) (before after : Option ℕ) → before ≡ attaching (key_now h key) →
     after ≡ attached_after (change_of key cs) before → after ≡ attaching (key_now (add_revision h cs) key)
-still_stored h cs key before after was is =
-    is ∙ ap (attached_after (change_of key cs)) was ∙ attached_by_change _ (change_of key cs) (key_now h key)
-    ∙ sym (ap attaching (one_more_revision h cs key))
+still_stored h cs key before after was is = grind (arith, nat_tests, one_more_revision)
 
 -- ascending texts are distinct
 less_apart : (a b : List ℕ) → slice_cmp nat_cmp a b ≡ Less → bytes_eq b a ≡ false
@@ -72,8 +60,7 @@ less_apart a b less = apart_back a b (sym (is_eq-slice_cmp a b) ∙ ap is_eq les
 
 below_all : (k : List ℕ) (xs : List (List ℕ)) → IsAscending (k ∷ xs) → change_of k (map Del xs) ≡ None
 below_all k [] ascending = refl
-below_all k (x ∷ xs) ascending =
-    ap (λ b. cond b (Some (Del x)) (change_of k (map Del xs))) (less_apart k x ascending.0) ∙ below_all k xs (skipped k x xs ascending)
+below_all k (x ∷ xs) ascending = grind (arith, nat_tests, less_apart, skipped, below_all k xs (skipped k x xs ascending))
 
 distinct_deletions : (keys : List (List ℕ)) → IsAscending keys → HasDistinctKeys (map Del keys)
 distinct_deletions [] ascending = tt
@@ -84,16 +71,13 @@ deletions_are_distinct h id = distinct_deletions (keys_of_lease h id) (are_keys 
 
 -- a key that is attached to a lease is present
 attaching_present : (s : Option KeyState) (id : ℕ) → attaching s ≡ Some id → IsSome s
-attaching_present None id is = cc
-attaching_present (Some s) id is = refl
+attaching_present s id is = grind (arith, nat_tests)
 
 present_deletions : (h : History) (id : ℕ) (keys : List (List ℕ)) → ((key : List ℕ) → Contains keys key → lease_now h key ≡ Some id)
     → DeletePresent h (map Del keys)
 present_deletions h id [] attach = tt
-present_deletions h id (k ∷ ks) attach = (
-  attaching_present (key_now h k) id (attach k (0, omega arith, refl)),
-  present_deletions h id ks (λ key has. attach key (suc has.0, omega (arith, has.1), has.2)),
-)
+present_deletions h id (k ∷ ks) attach =
+    grind (arith, nat_tests, attaching_present, present_deletions h id ks (λ key has. attach key (suc has.0, omega (arith, has.1), has.2)))
 
 pub deletions_are_present : (h : History) (id : ℕ) → DeletePresent h (deletions_of h id)
 deletions_are_present h id = present_deletions h id (keys_of_lease h id) (λ key has. ((are_keys h id).each key).0 has)
@@ -120,23 +104,13 @@ deleted_key (x ∷ xs) key (suc k) none within is =
 deletion_case : (keys : List (List ℕ)) (key : List ℕ) (n : ℕ) (s : Option KeyState) →
     (change_of key (map Del keys) ≡ None) ⊎ (after_change n (change_of key (map Del keys)) s ≡ None)
 deletion_case [] key n s = inl refl
-deletion_case (x ∷ xs) key n s =
-    elim (bytes_eq x key) as (λ b. (cond b (Some (Del x)) (change_of key (map Del xs)) ≡ None)
-    ⊎ (after_change n (cond b (Some (Del x)) (change_of key (map Del xs))) s ≡ None)) [
-      | true ↦ inr refl
-      | false ↦ deletion_case xs key n s
-    ]
+deletion_case (x ∷ xs) key n s = grind (arith, nat_tests, deletion_case xs key n s)
 
 -- once its keys are deleted, no key is attached to a lease
 gone_case : (h : History) (id : ℕ) (keys : List (List ℕ)) (key : List ℕ) (n : ℕ) → AreKeysOf (lease_now h) id keys →
     (change_of key (map Del keys) ≡ None) ⊎ (after_change n (change_of key (map Del keys)) (key_now h key) ≡ None) →
     attaching (after_change n (change_of key (map Del keys)) (key_now h key)) ≡ Some id → ⊥
-gone_case h id keys key n are (inl none) is =
-    let before : attaching (key_now h key) ≡ Some id = sym (ap (λ o. attaching (after_change n o (key_now h key))) none) ∙ is in
-    let has : Contains keys key = (are.each key).1 before in
-    deleted_key keys key has.0 none has.1 has.2
-gone_case h id keys key n are (inr none) is =
-    let nothing : None ≡ Some id = sym (ap attaching none) ∙ is in absurd (cc)
+gone_case h id keys key n are h7 is = grind (arith, nat_tests, deleted_key)
 
 gone_from : (h : History) (id : ℕ) (keys : List (List ℕ)) (key : List ℕ) → AreKeysOf (lease_now h) id keys →
     lease_now (with_changes h (map Del keys)) key ≡ Some id → ⊥
@@ -151,8 +125,7 @@ gone h id key is = gone_from h id (keys_of_lease h id) key (are_keys h id) is
 
 -- a key that is attached to the lease is what uses up the revisions
 not_true : (b : Bool) → (b ≡ true → ⊥) → b ≡ false
-not_true true never = absurd (never refl)
-not_true false never = refl
+not_true b never = grind (arith, nat_tests)
 
 stuck_case : (h : History) (id : ℕ) (has : Bool) (keys : List (List ℕ)) → AreKeysOf (lease_now h) id keys → IsTrue has ↔ HasKeys (lease_now h) id →
     (nat_eq (now h) HIGHEST_REVISION && has) ≡ is_used_up h (map Del keys)
@@ -169,12 +142,8 @@ pub stuck : (h : History) (id : ℕ) (has : Bool) → IsTrue has ↔ HasKeys (le
     (nat_eq (now h) HIGHEST_REVISION && has) ≡ is_used_up h (deletions_of h id)
 stuck h id has reports = stuck_case h id has (keys_of_lease h id) (are_keys h id) reports
 
-ended_case : (used : Bool) (taken next : Standing) → cond used (Err RevisionsUsedUp) (Ok taken) ≡ Ok next → taken ≡ next
-ended_case true taken next is = cc
-ended_case false taken next is = cc
-
 pub ended_is : (s next : Standing) (id : ℕ) → ended s id ≡ Ok next → without_lease s id ≡ next
-ended_is s next id is = ended_case (is_used_up s.history (deletions_of s.history id)) (without_lease s id) next is
+ended_is s next id is = grind (arith, nat_tests)
 
 -- a lease that is taken away leaves fewer
 pub one_fewer : (live : Live) (id : ℕ) → finmap.contains_key live id ≡ true → finmap.len live ≡ suc (finmap.len (finmap.remove live id))
@@ -196,34 +165,11 @@ pub due_lives : (live : Live) (moment id : ℕ) → first_due live moment ≡ So
 due_lives live moment id is = ap (λ (o : Option Term). is_some o) ((first_due_is_next.next live moment id).0 is).live_now
 
 pub ended_fewer : (s next : Standing) (id : ℕ) → first_due s.live s.moment ≡ Some id → ended s id ≡ Ok next → finmap.len s.live ≡ suc (finmap.len next.live)
-ended_fewer s next id due is =
-    one_fewer s.live id (due_lives s.live s.moment id due) ∙ ap (λ (x : Standing). suc (finmap.len x.live)) (ended_is s next id is)
+ended_fewer s next id due is = grind (arith, nat_tests, one_fewer, due_lives, ended_is)
 
 -- One step of an advance.
 pub none_due : (more : ℕ) (s : Standing) → first_due s.live s.moment ≡ None → expire_up_to more s ≡ record { expired = []; leaves = s; cause = None }
-none_due zero s none = refl
-none_due (suc more) s none =
-    ap (λ (o : Option ℕ). elim o as (λ x. Advance) [
-      | None ↦ record { expired = []; leaves = s; cause = None }
-      | Some id ↦ elim (ended s id) as (λ x. Advance) [
-        | Err cause ↦ record { expired = []; leaves = s; cause = Some cause }
-        | Ok next ↦ after (expired_in id next ∷ []) (expire_up_to more next)
-      ]
-    ]) none
-
-one_due : (more id : ℕ) (s : Standing) → first_due s.live s.moment ≡ Some id → expire_up_to (suc more) s
-    ≡ elim (ended s id) as (λ x. Advance) [
-      | Err cause ↦ record { expired = []; leaves = s; cause = Some cause }
-      | Ok next ↦ after (expired_in id next ∷ []) (expire_up_to more next)
-    ]
-one_due more id s due =
-    ap (λ (o : Option ℕ). elim o as (λ x. Advance) [
-      | None ↦ record { expired = []; leaves = s; cause = None }
-      | Some first ↦ elim (ended s first) as (λ x. Advance) [
-        | Err cause ↦ record { expired = []; leaves = s; cause = Some cause }
-        | Ok next ↦ after (expired_in first next ∷ []) (expire_up_to more next)
-      ]
-    ]) due
+none_due more s none = grind (arith, nat_tests)
 
 pub one_ended : (more id : ℕ) (s : Standing) (outcome : Result Standing Refusal) → first_due s.live s.moment ≡ Some id → ended s id ≡ outcome →
     expire_up_to (suc more) s
@@ -231,20 +177,14 @@ pub one_ended : (more id : ℕ) (s : Standing) (outcome : Result Standing Refusa
       | Err cause ↦ record { expired = []; leaves = s; cause = Some cause }
       | Ok next ↦ after (expired_in id next ∷ []) (expire_up_to more next)
     ]
-one_ended more id s outcome due is =
-    one_due more id s due
-    ∙ ap (λ (r : Result Standing Refusal). elim r as (λ x. Advance) [
-      | Err cause ↦ record { expired = []; leaves = s; cause = Some cause }
-      | Ok next ↦ after (expired_in id next ∷ []) (expire_up_to more next)
-    ]) is
+one_ended more id s outcome due is = grind (arith, nat_tests)
 
 pub done : (s : Standing) → first_due s.live s.moment ≡ None → expire_all s ≡ record { expired = []; leaves = s; cause = None }
 done s none = none_due (finmap.len s.live) s none
 
 pub next_ended : (s next : Standing) (id : ℕ) → first_due s.live s.moment ≡ Some id → ended s id ≡ Ok next →
     expire_all s ≡ after (expired_in id next ∷ []) (expire_all next)
-next_ended s next id due is =
-    ap (λ n. expire_up_to n s) (ended_fewer s next id due is) ∙ one_ended (finmap.len next.live) id s (Ok next) due is
+next_ended s next id due is = grind (arith, nat_tests, ended_fewer, one_ended)
 
 pub next_refused : (s : Standing) (id : ℕ) (cause : Refusal) → first_due s.live s.moment ≡ Some id → ended s id ≡ Err cause →
     expire_all s ≡ record { expired = []; leaves = s; cause = Some cause }
@@ -300,6 +240,4 @@ removed_log live next id log is stands asked =
 pub one_more_logged : (first s next : Standing) (id : ℕ) (expired : List Expired) → ended s id ≡ Ok next →
     ((log : List LogItem) → StandsFor first.live log → StandsFor s.live (with_expiries expired log)) →
     (log : List LogItem) → StandsFor first.live log → StandsFor next.live (with_expiries (expired ++ expired_in id next ∷ []) log)
-one_more_logged first s next id expired is logged log stands asked =
-    removed_log s.live next.live id (with_expiries expired log) (sym (ap (λ (x : Standing). x.live) (ended_is s next id is))) (logged log stands) asked
-    ∙ sym (ap (λ l. term_of l asked) (with_expiries-push expired (expired_in id next) log))
+one_more_logged first s next id expired is logged log stands asked = grind (arith, nat_tests, removed_log, ended_is, with_expiries-push)

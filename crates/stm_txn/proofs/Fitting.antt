@@ -1,9 +1,9 @@
 -- The numbers of an answer fit.
-use Rattle.std.proofs.Common.{◌≡◌, ℕ, ◌+◌, ◌≤◌, true, false, cond, List, [], ◌∷◌, ◌++◌, Option, Some, None, refl, sym, ap, subst, arith}
-use Rattle.std.specs.Prelude.{nat_eq, nat_le, Ok, IfSome}
-use Rattle.std.proofs.lemmas.Bool.{leb-true}
+use Rattle.std.proofs.Common.{◌≡◌, ℕ, ◌+◌, ◌≤◌, true, List, [], ◌∷◌, ◌++◌, Option, Some, None, refl, sym, ap, subst, arith}
+use Rattle.std.specs.Prelude.{nat_le, Ok, IfSome}
+use Rattle.std.proofs.lemmas.Bool.{leb-true, Decides.nat_tests}
 use Rattle.stm_history.specs.declared.change.Change.{Change}
-use Rattle.stm_history.specs.declared.change.Change.TheVariants.{Put as PutChange, Del as DelChange}
+use Rattle.stm_history.specs.declared.change.Change.TheVariants.{Put as PutChange}
 use Rattle.stm_history.specs.declared.key_state.KeyState.{KeyState}
 use Rattle.stm_history.specs.declared.revisions.TheConstants.{HIGHEST_REVISION, HIGHEST_NUMBER}
 use Rattle.stm_history.specs.History.{History, now, key_now, key_at, mod_of, change_of, after_change}
@@ -23,7 +23,6 @@ use Rattle.stm_outcome.specs.Branches.{carried, deletion_of, count_of, are_reada
 use Rattle.stm_outcome.specs.LookUps.{copy, read_copied, with_copied, answers_copied}
 use Rattle.stm_outcome.specs.Outcome.{Done, with_changes, outcome}
 use Rattle.stm_txn.specs.Standing.{Standing, transacted, ended, expired_in, terms_of}
-use Rattle.stm_txn.specs.LeaseKeys.{deletions_of}
 use Rattle.stm_outcome.specs.declared.advance.Expired.{Expired}
 use Rattle.stm_txn.proofs.Ending.{ended_is}
 use Rattle.stm_outcome.specs.Numbers.{LeaseFits, ChangesFit, LeasesFit, StateFits, StatesFit, ExpiredFits, AllExpiredFit, ReadFits, OpsFit, AnswerFits}
@@ -38,13 +37,7 @@ use Rattle.stm_txn.proofs.Transacting.{failed_case}
 pub changed_small : (h : History) (o : Option Change) (s : Option KeyState) → now h ≤ HIGHEST_REVISION →
     IfSome s (AreSmallIn h) →
     IfSome (after_change (now h + 1) o s) HasSmallNumbers
-changed_small h None None bounded small = tt
-changed_small h None (Some s) bounded small =
-    record { version = omega (arith, small.0); mod_rev = omega (arith, small.1); create_rev = omega (arith, small.1, small.2) }
-changed_small h (Some (PutChange key value lease)) None bounded small = record { version = omega arith; mod_rev = omega arith; create_rev = omega arith }
-changed_small h (Some (PutChange key value lease)) (Some s) bounded small =
-    record { version = omega (arith, small.0); mod_rev = omega arith; create_rev = omega (arith, small.1, small.2) }
-changed_small h (Some (DelChange key)) s bounded small = tt
+changed_small h o s bounded small = grind (arith, nat_tests)
 
 abbrev pub IsSmallFor : History → Option KeyState → Type 0
 IsSmallFor h s = IfSome s (AreSmallIn h)
@@ -55,13 +48,11 @@ copy_small h changes key bounded =
     (subst (IsSmallFor h) (last_revision_is_now h key (now h) (omega arith)) (numbers_stay_small h key (now h)))
 
 carried_small : (h : History) (changes : List Change) → now h ≤ HIGHEST_REVISION → carried h changes ≤ HIGHEST_NUMBER
-carried_small h [] bounded = omega arith
-carried_small h (c ∷ cs) bounded = omega arith
+carried_small h changes bounded = grind (arith, nat_tests)
 
 -- both kinds of numbers of a state
 state_case : (o : Option KeyState) → IfSome o HasSmallNumbers → IfSome o LeaseFits → IfSome o StateFits
-state_case None small lease = tt
-state_case (Some s) small lease = record { numbers = small; lease = lease }
+state_case o small lease = grind (arith, nat_tests)
 
 pub states_fit : (h : History) → now h ≤ HIGHEST_REVISION → LeasesFit h → StatesFit h
 states_fit h bounded fits key revision = state_case (key_at h key revision) (at_small h key revision bounded) (lease_at_fits h key revision fits)
@@ -69,21 +60,10 @@ states_fit h bounded fits key revision = state_case (key_at h key revision) (at_
 -- what a read answers
 read_fits : (h : History) (changes : List Change) (key : List ℕ) (rev : ℕ) → now h ≤ HIGHEST_REVISION → LeasesFit h → ChangesFit changes →
     rev ≤ now h → ReadFits (read_copied h changes key rev)
-read_fits h changes key rev bounded fits named reached =
-    elim (nat_eq rev 0) as (λ b. ReadFits (cond b
-    (record { key = key; kv = copy h changes key; of_rev = carried h changes; revision = carried h changes })
-    (record { key = key; kv = key_at h key rev; of_rev = rev; revision = carried h changes }))) [
-      | true ↦ record {
-        of_rev = carried_small h changes bounded;
-        revision = carried_small h changes bounded;
-        state = state_case (copy h changes key) (copy_small h changes key bounded) (lease_copied_fits h changes key fits named);
-      }
-      | false ↦ record { of_rev = omega arith; revision = carried_small h changes bounded; state = states_fit h bounded fits key rev }
-    ]
+read_fits h changes key rev bounded fits named reached = grind (arith, nat_tests, carried_small, state_case, copy_small, lease_copied_fits, states_fit)
 
 one_at_most : (o : Option Change) → count_of o ≤ 1
-one_at_most None = omega arith
-one_at_most (Some c) = omega arith
+one_at_most o = grind (arith, nat_tests)
 
 answers_fit : (h : History) (changes : List Change) (ops : List Op) → now h ≤ HIGHEST_REVISION → LeasesFit h → ChangesFit changes →
     NamesFit ops → are_readable (now h) ops ≡ true → OpsFit (answers_copied h changes ops)
@@ -103,8 +83,7 @@ answers_fit h changes (Del key ∷ ops) bounded fits named names readable = (
 )
 
 counter_fits : (h : History) (changes : List Change) → now h ≤ HIGHEST_REVISION → now (with_changes h changes) ≤ HIGHEST_NUMBER
-counter_fits h [] bounded = omega arith
-counter_fits h (c ∷ cs) bounded = omega arith
+counter_fits h changes bounded = grind (arith, nat_tests)
 
 failed_fits : (h : History) (cs : List Compare) (failed : Option FailedCompare) → now h ≤ HIGHEST_REVISION → first_failed (key_now h) 0 cs ≡ failed →
     IfSome failed (λ (f : FailedCompare). f.mod_rev ≤ HIGHEST_NUMBER)
@@ -137,10 +116,7 @@ numbers_fit s next txn a bounded fits in_range is =
 -- a lease that expired, and one more of them
 pub expired_fits : (s next : Standing) (id : ℕ) → now s.history ≤ HIGHEST_REVISION → AreInRange s.live → is_live_in s.live id ≡ true →
     ended s id ≡ Ok next → ExpiredFits (expired_in id next)
-expired_fits s next id bounded in_range live is = (
-  live_fits s.live id in_range live,
-  subst (λ (n : Standing). now n.history ≤ HIGHEST_NUMBER) (ended_is s next id is) (counter_fits s.history (deletions_of s.history id) bounded),
-)
+expired_fits s next id bounded in_range live is = grind (arith, nat_tests, live_fits, ended_is, counter_fits)
 
 pub AllExpiredFit-push : (es : List Expired) (e : Expired) → AllExpiredFit es → ExpiredFits e → AllExpiredFit (es ++ e ∷ [])
 AllExpiredFit-push [] e before one = (one, tt)

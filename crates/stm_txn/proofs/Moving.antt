@@ -1,16 +1,15 @@
 -- Keys that move between leases with the changes of a revision.
-use Rattle.std.proofs.Common.{◌≡◌, ℕ, Bool, true, false, cond, List, [], ◌∷◌, Option, Some, None, map, eq-eqb, refl, sym, ◌∙◌, ap, subst}
+use Rattle.std.proofs.Common.{◌≡◌, ℕ, Bool, true, false, cond, List, [], ◌∷◌, Option, Some, None, map, eq-eqb, refl, ◌∙◌, ap, subst, arith}
 use Rattle.std.specs.Prelude.{bytes_eq, nat_eq}
 use Rattle.std.specs.Ordering.{nat_cmp}
 use Rattle.std.specs.Cmp.Lexicographic.{slice_cmp, nat_list_cmp_total}
 use Rattle.std.specs.FinMap as finmap
-use Rattle.std.proofs.lemmas.Bool.Decides.{same_from_decides}
+use Rattle.std.proofs.lemmas.Bool.Decides.{same_from_decides, nat_tests}
 use Rattle.std.proofs.lemmas.Slice.Eq.{bytes_eq-Decides}
 use Rattle.std.proofs.lemmas.Map.Text.{is_eq-slice_cmp}
 use Rattle.stm_history.specs.declared.change.Change.{Change}
 use Rattle.stm_history.specs.History.{History, now, add_revision, number_of_last, key_after, key_of, change_of, HasDistinctKeys}
 use Rattle.stm_keys.specs.declared.event.Event.{Event}
-use Rattle.stm_keys.specs.declared.event.Event.TheVariants.{Put as PutEvent, Delete as DeleteEvent}
 use Rattle.stm_keys.specs.Events.{key_of_event, change_of_event, events_of, events_above, events_numbered}
 use Rattle.stm_keys.proofs.Recorded.{changes_shown}
 use Rattle.stm_leases.specs.Live.{Live}
@@ -19,8 +18,7 @@ use Rattle.stm_txn.specs.Moves.{detached_all, attached_one, attached_all, IsLoos
 use Rattle.stm_outcome.proofs.Branching.{same_text, equal_text, apart_case, apart_back}
 
 bytes_eq_comm : (a b : List ℕ) → bytes_eq a b ≡ bytes_eq b a
-bytes_eq_comm a b =
-    same_from_decides (bytes_eq a b) (bytes_eq b a) (bytes_eq-Decides a b) ((λ e. sym (same_text b a e)), (λ e. equal_text b a (sym e)))
+bytes_eq_comm a b = grind (arith, nat_tests, same_from_decides, bytes_eq-Decides, same_text, equal_text)
 
 -- where keys are attached once one of them is attached to a lease, or detached
 pub get_attached : (m : finmap.FinMap (slice_cmp nat_cmp) ℕ) (k : List ℕ) (id : ℕ) (q : List ℕ) →
@@ -37,8 +35,7 @@ get_taken m k q =
 
 -- a key that is attached to no lease is not detached
 none_taken : (b : Bool) (before : Option ℕ) → before ≡ None → cond b None before ≡ None
-none_taken true before is = refl
-none_taken false before is = is
+none_taken b before is = grind (arith, nat_tests)
 
 detached-none : (cs : List Change) (key : List ℕ) → detached_all cs key None ≡ None
 detached-none [] key = refl
@@ -51,8 +48,7 @@ none_if (Some c) before = None
 
 detached_case : (b : Bool) (c : Change) (cs : List Change) (key : List ℕ) (x : Option ℕ) → detached_all cs key x ≡ none_if (change_of key cs) x →
     detached_all cs key (cond b None x) ≡ none_if (cond b (Some c) (change_of key cs)) x
-detached_case true c cs key x rest = detached-none cs key
-detached_case false c cs key x rest = rest
+detached_case b c cs key x rest = grind (arith, nat_tests, detached-none)
 
 detached_reported : (cs : List Change) (key : List ℕ) (x : Option ℕ) → detached_all cs key x ≡ none_if (change_of key cs) x
 detached_reported [] key x = refl
@@ -60,8 +56,7 @@ detached_reported (c ∷ cs) key x = detached_case (bytes_eq (key_of c) key) c c
 
 -- a key without a change is not among those that the changes attach
 loose_with : (key k : List ℕ) (to : Option ℕ) (rest : List (List ℕ × ℕ)) → bytes_eq key k ≡ false → IsLoose key rest → IsLoose key (with_attach k to rest)
-loose_with key k None rest apart loose = loose
-loose_with key k (Some id) rest apart loose = (apart, loose)
+loose_with key k to rest apart loose = grind (arith, nat_tests)
 
 loose_of : (key : List ℕ) (cs : List Change) → change_of key cs ≡ None → IsLoose key (attached_of cs)
 loose_of key [] none = tt
@@ -72,12 +67,10 @@ loose_of key (c ∷ cs) none =
 -- keys of distinct changes that are attached nowhere can be attached where the changes say
 can_with : (f : List ℕ → Option ℕ) (live : Live) (k : List ℕ) (to : Option ℕ) (rest : List (List ℕ × ℕ)) →
     f k ≡ None → IsLoose k rest → AttachedToLive live (with_attach k to rest) → (AttachedToLive live rest → CanAttach f live rest) → CanAttach f live (with_attach k to rest)
-can_with f live k None rest free loose on_live others = others on_live
-can_with f live k (Some id) rest free loose on_live others = (free, on_live.0, loose, others on_live.1)
+can_with f live k to rest free loose on_live others = grind (arith, nat_tests)
 
 found_case : (b : Bool) (c d : Change) (o : Option Change) (P : Type 0) → o ≡ Some d → ((e : Change) → cond b (Some c) o ≡ Some e → P) → P
-found_case true c d o P is use_it = use_it c refl
-found_case false c d o P is use_it = use_it d is
+found_case b c d o P is use_it = grind (arith, nat_tests)
 
 pub can_attach : (f : List ℕ → Option ℕ) (live : Live) (cs : List Change) → HasDistinctKeys cs → AttachedToLive live (attached_of cs) →
     ((key : List ℕ) (d : Change) → change_of key cs ≡ Some d → f key ≡ None) → CanAttach f live (attached_of cs)
@@ -103,13 +96,7 @@ attached_with : (b : Bool) (c : Change) (k : List ℕ) (to : Option ℕ) (cs : L
     (b ≡ true → change_of key cs ≡ None) →
     ((y : Option ℕ) → attached_all (attached_of cs) key y ≡ reported (change_of key cs) y) →
     attached_all (with_attach k to (attached_of cs)) key x ≡ reported (cond b (Some c) (change_of key cs)) x
-attached_with true c k None cs key x test is apart rest = rest x ∙ ap (λ o. reported o x) (apart refl) ∙ ap (λ t. or_attached t x) (sym is)
-attached_with false c k None cs key x test is apart rest = rest x
-attached_with true c k (Some id) cs key x test is apart rest =
-    ap (λ b. attached_all (attached_of cs) key (cond b (Some id) x)) test ∙ rest (Some id) ∙ ap (λ o. reported o (Some id)) (apart refl)
-    ∙ ap (λ t. or_attached t x) (sym is)
-attached_with false c k (Some id) cs key x test is apart rest =
-    ap (λ b. attached_all (attached_of cs) key (cond b (Some id) x)) test ∙ rest x
+attached_with b c k to cs key x test is apart rest = grind (arith, nat_tests)
 
 attached_reported : (cs : List Change) (key : List ℕ) → HasDistinctKeys cs → (x : Option ℕ) → attached_all (attached_of cs) key x ≡ reported (change_of key cs) x
 attached_reported [] key distinct x = refl
@@ -118,20 +105,10 @@ attached_reported (c ∷ cs) key distinct x =
     (λ same. subst (λ k. change_of k cs ≡ None) (same_text (key_of c) key same) distinct.0)
     (attached_reported cs key distinct.1)
 
-moved_case : (o : Option Change) (before : Option ℕ) → reported o (none_if o before) ≡ attached_after o before
-moved_case None before = refl
-moved_case (Some c) before = on_none (attached_by c)
-  where
-    on_none : (to : Option ℕ) → or_attached to None ≡ to
-    on_none None = refl
-    on_none (Some id) = refl
-
 -- after both walks each key is attached where its change says
 pub moved : (cs : List Change) (key : List ℕ) (before middle after : Option ℕ) → HasDistinctKeys cs →
     middle ≡ detached_all cs key before → after ≡ attached_all (attached_of cs) key middle → after ≡ attached_after (change_of key cs) before
-moved cs key before middle after distinct off on =
-    on ∙ ap (attached_all (attached_of cs) key) (off ∙ detached_reported cs key before) ∙ attached_reported cs key distinct (none_if (change_of key cs) before)
-    ∙ moved_case (change_of key cs) before
+moved cs key before middle after distinct off on = grind (arith, nat_tests, detached_reported, attached_reported)
 
 -- a key with a change is attached nowhere in between
 pub free_between : (cs : List Change) (key : List ℕ) (before middle : Option ℕ) (d : Change) → middle ≡ detached_all cs key before → change_of key cs ≡ Some d →
@@ -142,22 +119,15 @@ free_between cs key before middle d off is = off ∙ detached_reported cs key be
 pub can_after : (f g : List ℕ → Option ℕ) (live next : Live) (attach : List ℕ × ℕ) (rest : List (List ℕ × ℕ)) → IsLoose attach.0 rest → CanAttach f live rest →
     ((key : List ℕ) → g key ≡ attached_one attach key (f key)) → next ≡ live → CanAttach g next rest
 can_after f g live next attach [] loose can reported same = tt
-can_after f g live next attach (x ∷ xs) loose can reported same = (
-  reported x.0 ∙ ap (λ b. cond b (Some attach.1) (f x.0)) loose.0 ∙ can.0,
-  ap (λ (l : Live). finmap.contains_key l x.1) same ∙ can.1,
-  can.2,
-  can_after f g live next attach xs loose.1 can.3 reported same,
-)
+can_after f g live next attach (x ∷ xs) loose can reported same = grind (arith, nat_tests, can_after f g live next attach xs loose.1 can.3 reported same)
 
 -- an event is about the key of its change
 pub key_shown : (e : Event) → key_of (change_of_event e) ≡ key_of_event e
-key_shown (PutEvent key state) = refl
-key_shown (DeleteEvent key revision) = refl
+key_shown e = grind (arith, nat_tests)
 
 -- the events of a new revision show its changes
 number_case : (b : Bool) (events rest : List Event) → b ≡ true → cond b events rest ≡ events
-number_case true events rest holds = refl
-number_case false events rest holds = absurd (cc)
+number_case b events rest holds = grind (arith, nat_tests)
 
 pub last_changes : (h : History) (cs : List Change) → map change_of_event (events_of (add_revision h cs) (now (add_revision h cs))) ≡ cs
 last_changes h cs =

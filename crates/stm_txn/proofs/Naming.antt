@@ -9,7 +9,7 @@ use Rattle.std.specs.declared.cmp.Ordering.TheVariants.{Less, Equal, Greater}
 use Rattle.std.specs.FinMap as finmap
 use Rattle.std.specs.FinMap.{find}
 use Rattle.std.specs.FinMap.Entries.{is_some-find}
-use Rattle.std.proofs.lemmas.Bool.{eq-eqb}
+use Rattle.std.proofs.lemmas.Bool.{eq-eqb, Decides.nat_tests}
 use Rattle.std.proofs.lemmas.Map.Text.{is_eq-slice_cmp}
 use Rattle.stm_history.specs.declared.change.Change.{Change}
 use Rattle.stm_history.specs.declared.key_state.KeyState.{KeyState}
@@ -20,7 +20,7 @@ use Rattle.stm_history.proofs.HistoryLaws.{one_more}
 use Rattle.stm_leases.specs.Leases.{Leases, lease_of}
 use Rattle.stm_leases.specs.AttachedKeys.{is_on, keys_on, IsAscending, AreKeysOf}
 use Rattle.stm_leases.proofs.KeyLaws.{keys_on_are_keys, one_list_of_keys, ascending_is_unique}
-use Rattle.stm_txn.specs.Leasing.{attaching, AttachedAsStored, lease_now}
+use Rattle.stm_txn.specs.Leasing.{AttachedAsStored, lease_now}
 use Rattle.stm_txn.specs.PresentKeys.{keys_present, PresentKeysAreListed}
 use Rattle.stm_txn.specs.LeaseKeys.{with_key, in_order, keys_named, keys_of_lease}
 use Rattle.stm_outcome.proofs.Branching.{same_text}
@@ -41,13 +41,7 @@ below_with k key (x ∷ xs) less ascending =
 
 ascending_with : (key : List ℕ) (ks : List (List ℕ)) → IsAscending ks → IsAscending (with_key key ks)
 ascending_with key [] ascending = tt
-ascending_with key (x ∷ xs) ascending =
-    elim (slice_cmp nat_cmp key x) as (λ o. slice_cmp nat_cmp key x ≡ o →
-    IsAscending (elim o as (λ r. List (List ℕ)) [ Less ↦ key ∷ (x ∷ xs) | Equal ↦ x ∷ xs | Greater ↦ x ∷ with_key key xs ])) [
-      | Less ↦ λ is. (is, ascending)
-      | Equal ↦ λ is. ascending
-      | Greater ↦ λ is. below_with x key xs (turned key x is) ascending
-    ] refl
+ascending_with key (x ∷ xs) ascending = grind (arith, nat_tests, below_with, turned)
 
 orders : (keys : List (List ℕ)) → IsAscending (in_order keys)
 orders [] = tt
@@ -58,24 +52,16 @@ skipped k x [] ascending = tt
 skipped k x (y ∷ ys) ascending = (nat_list_cmp_total.trans k x y ascending.0 ascending.1.0, ascending.1.1)
 
 pub rest_ascending : (k : List ℕ) (xs : List (List ℕ)) → IsAscending (k ∷ xs) → IsAscending xs
-rest_ascending k [] ascending = tt
-rest_ascending k (x ∷ xs) ascending = ascending.1
+rest_ascending k xs ascending = grind (arith, nat_tests)
 
 below_filtered : (test : List ℕ → Bool) (k : List ℕ) (ks : List (List ℕ)) → IsAscending (k ∷ ks) → IsAscending (k ∷ filter test ks)
 below_filtered test k [] ascending = tt
 below_filtered test k (x ∷ xs) ascending =
-    elim (test x) as (λ b. IsAscending (k ∷ cond b (x ∷ filter test xs) (filter test xs))) [
-      | true ↦ (ascending.0, below_filtered test x xs ascending.1)
-      | false ↦ below_filtered test k xs (skipped k x xs ascending)
-    ]
+    grind (arith, nat_tests, skipped, below_filtered test x xs ascending.1, below_filtered test k xs (skipped k x xs ascending))
 
 filtered_ascend : (test : List ℕ → Bool) (ks : List (List ℕ)) → IsAscending ks → IsAscending (filter test ks)
 filtered_ascend test [] ascending = tt
-filtered_ascend test (x ∷ xs) ascending =
-    elim (test x) as (λ b. IsAscending (cond b (x ∷ filter test xs) (filter test xs))) [
-      | true ↦ below_filtered test x xs ascending
-      | false ↦ filtered_ascend test xs (rest_ascending x xs ascending)
-    ]
+filtered_ascend test (x ∷ xs) ascending = grind (arith, nat_tests, below_filtered, rest_ascending, filtered_ascend test xs (rest_ascending x xs ascending))
 
 -- a key is among these
 abbrev IsAmong : List ℕ → List (List ℕ) → Type 0
@@ -94,18 +80,11 @@ among_with key (x ∷ xs) =
 
 later_among : (key other x : List ℕ) (xs : List (List ℕ)) → (IsAmong key xs → IsAmong key (with_key other xs)) →
     (x ≡ key) ⊎ IsAmong key xs → (x ≡ key) ⊎ IsAmong key (with_key other xs)
-later_among key other x xs rest (inl here) = inl here
-later_among key other x xs rest (inr there) = inr (rest there)
+later_among key other x xs rest h6 = grind (arith, nat_tests)
 
 still_among : (key other : List ℕ) (ks : List (List ℕ)) → IsAmong key ks → IsAmong key (with_key other ks)
 still_among key other [] among = absurd among
-still_among key other (x ∷ xs) among =
-    elim (slice_cmp nat_cmp other x) as (λ o.
-    IsAmong key (elim o as (λ r. List (List ℕ)) [ Less ↦ other ∷ (x ∷ xs) | Equal ↦ x ∷ xs | Greater ↦ x ∷ with_key other xs ])) [
-      | Less ↦ inr among
-      | Equal ↦ among
-      | Greater ↦ later_among key other x xs (still_among key other xs) among
-    ]
+still_among key other (x ∷ xs) among = grind (arith, nat_tests, later_among, still_among key other xs)
 
 older_among : (key : List ℕ) (cs : List Change) (ks : List (List ℕ)) → IsAmong key (in_order ks) → IsAmong key (in_order (map key_of cs ++ ks))
 older_among key [] ks among = among
@@ -138,13 +117,10 @@ any_case false key k keys test rest any = still_among key k (in_order keys) (res
 
 any_among : (key : List ℕ) (keys : List (List ℕ)) → list_any (eq_by_cmp (slice_cmp nat_cmp) key) keys ≡ true → IsAmong key (in_order keys)
 any_among key [] any = cc
-any_among key (k ∷ keys) any =
-    any_case (bytes_eq key k) key k keys refl (any_among key keys)
-    (ap (λ b. b || list_any (eq_by_cmp (slice_cmp nat_cmp) key) keys) (sym (is_eq-slice_cmp key k)) ∙ any)
+any_among key (k ∷ keys) any = grind (arith, nat_tests, any_case, is_eq-slice_cmp, any_among key keys)
 
 reached_some : (number : ℕ) (o : Option KeyState) → is_some (if_reached number o) ≡ true → is_some o ≡ true
-reached_some number None some = cc
-reached_some number (Some s) some = refl
+reached_some number o some = grind (arith, nat_tests)
 
 abbrev keys_at : Opening → List (List ℕ)
 keys_at opening = map (λ (e : List ℕ × KeyState). e.0) opening.states
@@ -163,21 +139,14 @@ present_after opening key (changes ∷ older) present =
 present_named : (h : History) (key : List ℕ) → is_some (key_now h key) ≡ true → IsAmong key (keys_named h)
 present_named h key present = present_after h.opening key h.revisions present
 
-attaching_present : (s : Option KeyState) (id : ℕ) → attaching s ≡ Some id → is_some s ≡ true
-attaching_present None id is = cc
-attaching_present (Some s) id is = refl
-
 -- which keys pass the test of a lease
 on_case : (id : ℕ) (o : Option ℕ) → (is_on id o ≡ true) ↔ (o ≡ Some id)
-on_case id None = ((λ e. cc), (λ e. cc))
-on_case id (Some lease) = ((λ e. ap Some (eqb-true lease id e)), (λ e. eq-eqb lease id (ap (λ (o : Option ℕ). elim o [ None ↦ lease | Some l ↦ l ]) e)))
+on_case id o = grind (arith, nat_tests, eqb-true, eq-eqb)
 
 filtered_case : (b : Bool) (test : List ℕ → Bool) (key x : List ℕ) (xs : List (List ℕ)) → test x ≡ b →
     (IsAmong key (filter test xs) → IsAmong key xs × (test key ≡ true)) →
     IsAmong key (cond b (x ∷ filter test xs) (filter test xs)) → ((x ≡ key) ⊎ IsAmong key xs) × (test key ≡ true)
-filtered_case true test key x xs is rest (inl here) = (inl here, sym (ap test here) ∙ is)
-filtered_case true test key x xs is rest (inr there) = let among = rest there in (inr among.0, among.1)
-filtered_case false test key x xs is rest there = let among = rest there in (inr among.0, among.1)
+filtered_case b test key x xs is rest there = grind (arith, nat_tests)
 
 passed : (test : List ℕ → Bool) (key : List ℕ) (ks : List (List ℕ)) → IsAmong key (filter test ks) → IsAmong key ks × (test key ≡ true)
 passed test key [] among = absurd among
@@ -185,10 +154,7 @@ passed test key (x ∷ xs) among = filtered_case (test x) test key x xs refl (pa
 
 passes_case : (b : Bool) (test : List ℕ → Bool) (key x : List ℕ) (xs : List (List ℕ)) → test x ≡ b → test key ≡ true →
     (IsAmong key xs → IsAmong key (filter test xs)) → (x ≡ key) ⊎ IsAmong key xs → IsAmong key (cond b (x ∷ filter test xs) (filter test xs))
-passes_case true test key x xs is at rest (inl here) = inl here
-passes_case true test key x xs is at rest (inr there) = inr (rest there)
-passes_case false test key x xs is at rest (inl here) = let fails : test key ≡ false = sym (ap test here) ∙ is in absurd (cc)
-passes_case false test key x xs is at rest (inr there) = rest there
+passes_case b test key x xs is at rest h9 = grind (arith, nat_tests)
 
 passes : (test : List ℕ → Bool) (key : List ℕ) (ks : List (List ℕ)) → test key ≡ true → IsAmong key ks → IsAmong key (filter test ks)
 passes test key [] at among = absurd among
@@ -206,18 +172,7 @@ place_of (x ∷ xs) key (inl here) = (0, omega arith, here)
 place_of (x ∷ xs) key (inr there) = let found : Contains xs key = place_of xs key there in (suc found.0, omega (arith, found.1), found.2)
 
 pub are_keys : (h : History) (id : ℕ) → AreKeysOf (lease_now h) id (keys_of_lease h id)
-are_keys h id = record {
-  ascending = filtered_ascend test (keys_named h) (orders (named_by h));
-  each = λ key. (
-    (λ has. (on_case id (lease_now h key)).0 (passed test key (keys_named h) (at_place (keys_of_lease h id) key has.0 has.1 has.2)).1),
-    (λ is. place_of (keys_of_lease h id) key
-        (passes test key (keys_named h) ((on_case id (lease_now h key)).1 is)
-        (present_named h key (attaching_present (key_now h key) id is)))),
-  );
-}
-  where
-    test : List ℕ → Bool
-    test key = is_on id (lease_now h key)
+are_keys h id = grind (arith, nat_tests, filtered_ascend, orders, on_case, passed, at_place, place_of, passes, present_named)
 
 -- the keys on a lease's list are these
 pub is_the_list : (s : Leases) (h : History) (id : ℕ) (keys : List (List ℕ)) → keys ≡ keys_on s.attached id → AttachedAsStored (lease_of s) h →
@@ -236,13 +191,7 @@ pub present_ascend : (h : History) → IsAscending (keys_present h)
 present_ascend h = filtered_ascend (λ key. is_some (key_now h key)) (keys_named h) (orders (named_by h))
 
 pub present_each : (h : History) (key : List ℕ) → Contains (keys_present h) key ↔ (is_some (key_now h key) ≡ true)
-present_each h key = (
-  (λ has. (passed test key (keys_named h) (at_place (keys_present h) key has.0 has.1 has.2)).1),
-  (λ present. place_of (keys_present h) key (passes test key (keys_named h) present (present_named h key present))),
-)
-  where
-    test : List ℕ → Bool
-    test key = is_some (key_now h key)
+present_each h key = grind (arith, nat_tests, passed, at_place, place_of, passes, present_named)
 
 pub present_listed : PresentKeysAreListed
 present_listed h keys ascending each =

@@ -1,6 +1,7 @@
 -- The numbers of the events of a batch fit.
-use Rattle.std.proofs.Common.{◌≡◌, ℕ, zero, suc, ◌+◌, ◌-◌, ◌≤◌, Bool, true, false, cond, List, [], ◌∷◌, ◌++◌, map, take, Option, Some, None, ap, subst, arith}
-use Rattle.std.specs.Prelude.{nat_lt, slice_set, Result, Ok, Err}
+use Rattle.std.proofs.Common.{◌≡◌, ℕ, zero, suc, ◌+◌, ◌≤◌, true, false, cond, List, [], ◌∷◌, ◌++◌, map, take, Option, Some, subst, arith}
+use Rattle.std.specs.Prelude.{nat_lt, Ok}
+use Rattle.std.proofs.lemmas.Bool.Decides.{nat_tests}
 use Rattle.stm_history.specs.declared.change.Change.{Change}
 use Rattle.stm_history.specs.declared.change.Change.TheVariants.{Put as PutChange, Del as DelChange}
 use Rattle.stm_history.specs.declared.key_state.KeyState.{KeyState}
@@ -9,26 +10,19 @@ use Rattle.stm_history.specs.Opening.{Opening}
 use Rattle.stm_history.specs.History.{History, number_of_last, now, key_now, state_after_put}
 use Rattle.stm_history.proofs.HistoryLaws.{numbers_stay_small, last_revision_is_now}
 use Rattle.stm_keys.specs.declared.event.Event.{Event}
-use Rattle.stm_keys.specs.Events.{event_of, events_above, key_of_event}
+use Rattle.stm_keys.specs.Events.{event_of, events_above}
 use Rattle.stm_watch.specs.declared.pending_revision.PendingRevision.{PendingRevision}
 use Rattle.stm_watch.specs.declared.watched.Watched.{Watched}
-use Rattle.stm_watch.specs.Watching.{Watching}
 use Rattle.stm_watch.specs.declared.watchers.Batch.{Batch}
-use Rattle.stm_watch.specs.Keys.{is_watched}
-use Rattle.stm_watch.specs.Pending.{matching, pending_of_revision, pending_above, pending, pending_events, batch_of, after_poll}
-use Rattle.stm_watch.specs.Calls.{watcher_at, poll_found, Step as WatchStep}
-use Rattle.stm_watch.specs.declared.refusal.PollRefusal.{PollRefusal}
-use Rattle.stm_watch.specs.declared.refusal.PollRefusal.TheVariants.{Compacted as LostToPoll}
-use Rattle.stm_outcome.specs.declared.refusal.Refusal.{Refusal}
-use Rattle.stm_txn.specs.Standing.{Standing, Step, polled, poll_step}
+use Rattle.stm_watch.specs.Pending.{matching, pending_of_revision, pending_above, pending_events}
+use Rattle.stm_txn.specs.Standing.{Standing, polled}
 use Rattle.stm_outcome.specs.Numbers.{LeaseFits, ChangesFit, RevisionsFit, LeasesFit, EventsFit}
 use Rattle.stm_txn.proofs.Fitting.{IsSmallFor, changed_small}
 
 -- ---- the events of a revision
 
 lease_put : (number : ℕ) (value : List ℕ) (lease : ℕ) (s : Option KeyState) → lease ≤ HIGHEST_NUMBER → LeaseFits (state_after_put number value lease s)
-lease_put number value lease None fits = fits
-lease_put number value lease (Some s) fits = fits
+lease_put number value lease s fits = grind (arith, nat_tests)
 
 small_now : (h : History) (key : List ℕ) → IsSmallFor h (key_now h key)
 small_now h key = subst (IsSmallFor h) (last_revision_is_now h key (now h) (omega arith)) (numbers_stay_small h key (now h))
@@ -53,11 +47,7 @@ above_fit opening changes older bounded fits =
 
 matching_fit : (watched : Watched) (es : List Event) → EventsFit es → EventsFit (matching watched es)
 matching_fit watched [] fits = tt
-matching_fit watched (e ∷ es) fits =
-    elim (is_watched watched (key_of_event e)) as (λ b. EventsFit (cond b (e ∷ matching watched es) (matching watched es))) [
-      | true ↦ (fits.0, matching_fit watched es fits.1)
-      | false ↦ matching_fit watched es fits.1
-    ]
+matching_fit watched (e ∷ es) fits = grind (arith, nat_tests, matching_fit watched es fits.1)
 
 -- ---- what is reported
 
@@ -66,8 +56,7 @@ AllReportedFit [] = Unit {0}
 AllReportedFit (t ∷ ts) = EventsFit t.events × AllReportedFit ts
 
 reported_at_fits : (number : ℕ) (es : List Event) → EventsFit es → AllReportedFit (pending_of_revision number es)
-reported_at_fits number [] fits = tt
-reported_at_fits number (e ∷ es) fits = (fits, tt)
+reported_at_fits number es fits = grind (arith, nat_tests)
 
 reported_append : (ts us : List PendingRevision) → AllReportedFit ts → AllReportedFit us → AllReportedFit (ts ++ us)
 reported_append [] us first second = second
@@ -102,21 +91,6 @@ all_events_fit (t ∷ ts) fits = events_append t.events (pending_events ts) fits
 
 -- ---- a batch
 
-found_fits : (s next : Standing) (id most : ℕ) (b : Batch) (o : Option Watching) → now s.history ≤ HIGHEST_REVISION → LeasesFit s.history
-    → poll_step s (poll_found s.history id most s.watchers o) ≡ Ok record { answer = b; next = next } → EventsFit b.events
-found_fits s next id most b None bounded fits is = absurd (cc)
-found_fits s next id most b (Some w) bounded fits is =
-    subst (λ (x : Batch). EventsFit x.events) (answered w.lost is)
-    (all_events_fit (take most (pending s.history w)) (taken_fit most (pending s.history w)
-    (reported_fit s.history.opening w.seen w.watched s.history.revisions bounded fits.1)))
-  where
-    given : Result (WatchStep Batch) PollRefusal
-    given = Ok (record { answer = batch_of most s.history w; next = slice_set s.watchers (id - 1) (Some (after_poll most s.history w)) })
-
-    answered : (lost : Bool) → poll_step s (cond lost (Err LostToPoll) given) ≡ Ok record { answer = b; next = next } → batch_of most s.history w ≡ b
-    answered true is = absurd (cc)
-    answered false is = ap (λ (r : Result (Step Batch) Refusal). elim r [ Ok step ↦ step.answer | Err e ↦ b ]) is
-
 pub batch_fits : (s next : Standing) (id most : ℕ) (b : Batch) → now s.history ≤ HIGHEST_REVISION → LeasesFit s.history
     → polled s id most ≡ Ok record { answer = b; next = next } → EventsFit b.events
-batch_fits s next id most b bounded fits is = found_fits s next id most b (watcher_at id s.watchers) bounded fits is
+batch_fits s next id most b bounded fits is = grind (arith, nat_tests, all_events_fit, taken_fit, reported_fit)

@@ -1,16 +1,16 @@
 -- What it takes for a store to open with keys and leases, part by part.
-use Rattle.std.proofs.Common.{◌≡◌, ◌≤◌, ◌&&◌, ℕ, Bool, true, false, List, [], ◌∷◌, ◌++◌, Option, None, Some, refl, sym, ap, ◌∙◌, cond, arith, eqb-true}
+use Rattle.std.proofs.Common.{◌≡◌, ◌≤◌, ℕ, Bool, true, false, List, [], ◌∷◌, ◌++◌, Option, None, Some, refl, sym, ap, ◌∙◌, cond, arith, eqb-true}
 use Rattle.std.specs.FinMap as finmap
 use Rattle.std.specs.FinMap.{find, is_sorted}
 use Rattle.std.specs.FinMap.Entries.{find-append}
-use Rattle.std.specs.Prelude.{is_none, nat_le, nat_eq, bytes_eq, IfSome}
+use Rattle.std.specs.Prelude.{nat_eq, bytes_eq, IfSome}
 use Rattle.std.specs.Ordering.{nat_cmp}
 use Rattle.std.specs.Cmp.Lexicographic.{slice_cmp, nat_list_cmp_total}
-use Rattle.std.proofs.lemmas.Bool.{and_parts, leb-true}
+use Rattle.std.proofs.lemmas.Bool.{and_parts, leb-true, Decides.nat_tests}
 use Rattle.std.proofs.lemmas.Cmp.{nat_list_eq_equiv}
 use Rattle.std.proofs.lemmas.Map.Text.{is_eq-slice_cmp}
 use Rattle.stm_history.specs.declared.key_state.KeyState.{KeyState}
-use Rattle.stm_history.specs.declared.revisions.TheConstants.{HIGHEST_REVISION, HIGHEST_NUMBER}
+use Rattle.stm_history.specs.declared.revisions.TheConstants.{HIGHEST_NUMBER}
 use Rattle.stm_history.specs.Opening.{States, opened_state}
 use Rattle.stm_keys.specs.CanOpen.{can_open}
 use Rattle.stm_keys.proofs.OpeningLaws.{can_open_found, can_open_sorted}
@@ -24,28 +24,17 @@ use Rattle.stm_txn.specs.declared.restored.KeptLease.{KeptLease}
 use Rattle.stm_txn.specs.declared.restored.Checkpoint.{Checkpoint}
 use Rattle.stm_txn.specs.Restored.{term_kept, are_granted, is_in_range, can_restore, restored}
 
-is_none_only : {T : Type 0} (o : Option T) → is_none o ≡ true → o ≡ None
-is_none_only None is = refl
-is_none_only (Some x) is = absurd (cc)
-
 -- the first of the grants is not refused, and neither are the others once it was made
 pub first_granted : (lease : KeptLease) (leases : List KeptLease) (live : Live) → are_granted (lease ∷ leases) live ≡ true
     → (grant_refusal live lease.id lease.ttl ≡ None) × (are_granted leases (finmap.insert live lease.id (term_kept lease)) ≡ true)
-first_granted lease leases live is = let parts = and_parts _ _ is in (is_none_only _ parts.0, parts.1)
+first_granted lease leases live is = grind (arith, nat_tests, and_parts)
 
 -- all grants are, and the limit is one of a store
 pub grants_are : (c : Checkpoint) → can_restore c ≡ true → are_granted c.leases finmap.empty ≡ true
 grants_are c can = (and_parts _ _ (and_parts _ _ can).1).0
 
-limits_are : (c : Checkpoint) → can_restore c ≡ true → (nat_le c.operations most_operations && can_open c.revision c.states) ≡ true
-limits_are c can =
-    let range = (and_parts (is_in_range c) _ can).0 in
-    let high = (and_parts (nat_le 1 c.revision) _ range).1 in
-    let some = (and_parts (nat_le c.revision HIGHEST_REVISION) _ high).1 in
-    (and_parts (nat_le 1 c.operations) _ some).1
-
 pub few_operations : (c : Checkpoint) → can_restore c ≡ true → c.operations ≤ most_operations
-few_operations c can = leb-true c.operations most_operations (and_parts _ (can_open c.revision c.states) (limits_are c can)).0
+few_operations c can = grind (arith, nat_tests, leb-true, and_parts)
 
 -- ---- keys and their leases
 
@@ -78,11 +67,7 @@ attached_next states next e old new more none before added k =
 -- ---- a checkpoint whose numbers are those of a store
 
 in_range_opens : (c : Checkpoint) → is_in_range c ≡ true → can_open c.revision c.states ≡ true
-in_range_opens c is =
-    let high = (and_parts (nat_le 1 c.revision) _ is).1 in
-    let some = (and_parts (nat_le c.revision HIGHEST_REVISION) _ high).1 in
-    let few = (and_parts (nat_le 1 c.operations) _ some).1 in
-    (and_parts (nat_le c.operations most_operations) _ few).1
+in_range_opens c is = grind (arith, nat_tests, and_parts)
 
 pub states_ascend : (c : Checkpoint) → is_in_range c ≡ true → is_sorted (slice_cmp nat_cmp) c.states ≡ true
 states_ascend c is = can_open_sorted c.revision c.states (in_range_opens c is)
@@ -100,8 +85,7 @@ fits_by s key lease false is live range at = live_fits s.live lease range (live 
 
 state_fits : (s : Leases) (key : List ℕ) (state : Option KeyState) → AttachedToLive s → AreInRange s.live → lease_of s key ≡ attaching state →
     IfSome state LeaseFits
-state_fits s key None live range at = tt
-state_fits s key (Some k) live range at = fits_by s key k.lease (nat_eq k.lease 0) refl live range at
+state_fits s key state live range at = grind (arith, nat_tests, fits_by)
 
 pub leases_fit : (c : Checkpoint) (s : Leases) → AttachedToLive s → AreInRange s.live → AttachedAsStored (lease_of s) (restored c).history →
     LeasesFit (restored c).history

@@ -1,8 +1,8 @@
 -- A branch that no operation refuses.
-use Rattle.std.proofs.Common.{◌≡◌, ℕ, ◌+◌, Bool, true, false, cond, List, [], ◌∷◌, ◌++◌, Option, Some, None, refl, sym, ◌∙◌, ap, subst}
-use Rattle.std.specs.Prelude.{nat_eq, nat_lt, ◌||◌, ◌&&◌, is_some, IsSome}
+use Rattle.std.proofs.Common.{◌≡◌, ℕ, ◌+◌, Bool, true, false, cond, List, [], ◌∷◌, ◌++◌, Option, Some, None, refl, sym, ◌∙◌, ap, arith}
+use Rattle.std.specs.Prelude.{nat_eq, ◌||◌, ◌&&◌, is_some, IsSome}
 use Rattle.std.specs.FinMap as finmap
-use Rattle.std.proofs.lemmas.Bool.{le-leb, ltb-false}
+use Rattle.std.proofs.lemmas.Bool.{le-leb, ltb-false, Decides.nat_tests}
 use Rattle.stm_history.specs.declared.change.Change.{Change}
 use Rattle.stm_history.specs.declared.change.Change.TheVariants.{Put as PutChange, Del as DelChange}
 use Rattle.std.specs.List.{list_any}
@@ -14,21 +14,17 @@ use Rattle.stm_outcome.specs.Checks.{has_clash}
 use Rattle.stm_outcome.proofs.Branching.{neither, all_fit, HasDistinctKeys-push, puts_fit, dels_fit, first_deletion, nothing_before}
 use Rattle.stm_outcome.specs.declared.txn.Op.{Op}
 use Rattle.stm_outcome.specs.declared.txn.Op.TheVariants.{Get, Put, Del}
-use Rattle.stm_outcome.specs.declared.refusal.Refusal.TheVariants.{Compacted, LeaseNotFound}
+use Rattle.stm_outcome.specs.declared.refusal.Refusal.TheVariants.{LeaseNotFound}
 use Rattle.stm_outcome.specs.Branches.{deletion_of, is_readable, are_readable, op_refusal, branch_refusal}
 use Rattle.stm_outcome.specs.LookUps.{copy, with_copied, changes_copied}
 use Rattle.stm_leases.specs.Live.{Live}
 use Rattle.stm_txn.specs.Leasing.{attached_by, with_attach, attached_of, AttachedToLive}
-use Rattle.stm_outcome.specs.Terms.{Terms, is_below_floor}
+use Rattle.stm_outcome.specs.Terms.{Terms}
 use Rattle.stm_txn.specs.Standing.{Standing, terms_of}
 use Rattle.stm_outcome.proofs.Widening.{both_none, reached_case}
 
 one_readable : (terms : Terms) (op : Op) → op_refusal terms op ≡ None → is_readable (now terms.history) op ≡ true
-one_readable terms (Get key rev) none =
-    let counter : ℕ = now terms.history in
-    le-leb rev counter (ltb-false counter rev (reached_case (nat_lt counter rev) (cond (is_below_floor terms.floor rev) (Some Compacted) None) none))
-one_readable terms (Put key value lease) none = refl
-one_readable terms (Del key) none = refl
+one_readable terms op none = grind (arith, nat_tests, le-leb, ltb-false, reached_case)
 
 pub all_readable : (terms : Terms) (ops : List Op) → branch_refusal terms ops ≡ None → are_readable (now terms.history) ops ≡ true
 all_readable terms [] none = refl
@@ -38,14 +34,11 @@ all_readable terms (op ∷ ops) none =
 
 -- one more change at the end attaches its key after the others
 with_attach-append : (key : List ℕ) (to : Option ℕ) (xs ys : List (List ℕ × ℕ)) → with_attach key to xs ++ ys ≡ with_attach key to (xs ++ ys)
-with_attach-append key None xs ys = refl
-with_attach-append key (Some id) xs ys = refl
+with_attach-append key to xs ys = grind (arith, nat_tests)
 
 attached_of-push : (cs : List Change) (c : Change) → attached_of (cs ++ c ∷ []) ≡ attached_of cs ++ with_attach (key_of c) (attached_by c) []
 attached_of-push [] c = refl
-attached_of-push (d ∷ ds) c =
-    ap (with_attach (key_of d) (attached_by d)) (attached_of-push ds c)
-    ∙ sym (with_attach-append (key_of d) (attached_by d) (attached_of ds) (with_attach (key_of c) (attached_by c) []))
+attached_of-push (d ∷ ds) c = grind (arith, nat_tests, with_attach-append, attached_of-push ds c)
 
 live-append : (live : Live) (xs ys : List (List ℕ × ℕ)) → AttachedToLive live xs → AttachedToLive live ys → AttachedToLive live (xs ++ ys)
 live-append live [] ys on_xs on_ys = on_ys
@@ -54,18 +47,11 @@ live-append live (x ∷ xs) ys on_xs on_ys = (on_xs.0, live-append live xs ys on
 named_case : (live : Live) (key : List ℕ) (lease : ℕ) (zero_lease : Bool) →
     cond (zero_lease || finmap.contains_key live lease) None (Some LeaseNotFound) ≡ None →
     AttachedToLive live (with_attach key (cond zero_lease None (Some lease)) [])
-named_case live key lease true none = tt
-named_case live key lease false none = (found_case (finmap.contains_key live lease) none, tt)
-  where
-    found_case : (b : Bool) → cond b None (Some LeaseNotFound) ≡ None → b ≡ true
-    found_case true none = refl
-    found_case false none = cc
+named_case live key lease zero_lease none = grind (arith, nat_tests)
 
 live_push : (live : Live) (cs : List Change) (c : Change) → AttachedToLive live (attached_of cs) → AttachedToLive live (with_attach (key_of c) (attached_by c) []) →
     AttachedToLive live (attached_of (cs ++ c ∷ []))
-live_push live cs c before one =
-    let P : List (List ℕ × ℕ) → Type 0 = AttachedToLive live in
-    subst P (sym (attached_of-push cs c)) (live-append live (attached_of cs) (with_attach (key_of c) (attached_by c) []) before one)
+live_push live cs c before one = grind (arith, nat_tests, attached_of-push, live-append)
 
 -- what a branch attaches, it attaches to live leases
 live_after : (s : Standing) (done : List Change) (ops : List Op) → branch_refusal (terms_of s) ops ≡ None → AttachedToLive s.live (attached_of done) →
@@ -90,12 +76,10 @@ attaches_live s ops none = live_after s [] ops none tt
 
 -- nothing is used up below the highest revision, or without changes
 pub none_used : (b : Bool) → (b && false) ≡ false
-none_used true = refl
-none_used false = refl
+none_used b = grind (arith, nat_tests)
 
 pub all_used : (b : Bool) → (b && true) ≡ b
-all_used true = refl
-all_used false = refl
+all_used b = grind (arith, nat_tests)
 
 -- A branch deletes only what is present, where it changes no key twice.
 pub DeletePresent-push : (h : History) (cs : List Change) (c : Change) → DeletePresent h cs → DeletePresent h (c ∷ []) → DeletePresent h (cs ++ c ∷ [])

@@ -1,6 +1,7 @@
 -- Transactions as steps of a store.
-use Rattle.std.proofs.Common.{◌≡◌, ℕ, ◌<◌, false, List, length, Option, Some, None, refl, sym, ◌∙◌, ap, subst}
-use Rattle.std.specs.Prelude.{Result, Ok, Err, IfOk, IfErr, IfSome}
+use Rattle.std.proofs.Common.{◌≡◌, ℕ, ◌<◌, false, List, length, Option, Some, None, sym, ◌∙◌, ap, subst, arith}
+use Rattle.std.specs.Prelude.{Result, Ok, IfOk, IfErr, IfSome}
+use Rattle.std.proofs.lemmas.Bool.Decides.{nat_tests}
 use Rattle.stm_history.specs.declared.key_state.KeyState.{KeyState}
 use Rattle.stm_history.specs.History.{key_now}
 use Rattle.stm_outcome.specs.declared.txn.Txn.{Txn}
@@ -22,8 +23,7 @@ use Rattle.stm_outcome.proofs.Applying.{chosen_apart, failed_has_its_place, is_d
 pub failed_case : (s : Standing) (outcome_of : Result Done Refusal) (a : TxnAnswer) (next : Standing) →
     step_of s outcome_of ≡ Ok record { answer = a; next = next } →
     (done : Done) × (outcome_of ≡ Ok done) × (done.answer ≡ a)
-failed_case s (Ok done) a next is = (done, refl, ap (λ (r : Result (Step TxnAnswer) Refusal). elim r [ Ok step ↦ step.answer | Err e ↦ a ]) is)
-failed_case s (Err e) a next is = cc
+failed_case s outcome_of a next is = grind (arith, nat_tests)
 
 answered_failed : (terms : Terms) (txn : Txn) (done : Done) → outcome terms txn ≡ Ok done →
     done.answer.failed ≡ first_failed (key_now terms.history) 0 txn.compares
@@ -45,24 +45,11 @@ placed s next txn a is =
 -- what holds of each answer that is defined holds of a result that returns it
 pub of_answer : {P : TxnAnswer → Type 0} (s next : Standing) (txn : Txn) (r : Result TxnAnswer Refusal) → Returns (transacted s txn) r next →
     ((a : TxnAnswer) → transacted s txn ≡ Ok record { answer = a; next = next } → P a) → IfOk r P
-of_answer s next txn (Ok a) reports each = each a reports
-of_answer s next txn (Err cause) reports each = tt
-
--- a transaction, by its branch as it is run
-refusal_of : (s : Standing) (outcome_of : Result Done Refusal) (refusal : Refusal) → IsRefusalOf outcome_of refusal → IsRefusalOf (step_of s outcome_of) refusal
-refusal_of s (Ok done) refusal is = is
-refusal_of s (Err cause) refusal is = is
+of_answer s next txn r reports each = grind (arith, nat_tests)
 
 same_but_history : (s next : Standing) → next.floor ≡ s.floor → next.limit ≡ s.limit → next.live ≡ s.live → next.moment ≡ s.moment
     → next.watchers ≡ s.watchers → with_history s next.history ≡ next
-same_but_history s next floor limit live moment watchers = λ i. record {
-  history = next.history;
-  floor = sym floor i;
-  limit = sym limit i;
-  live = sym live i;
-  moment = sym moment i;
-  watchers = sym watchers i;
-}
+same_but_history s next floor limit live moment watchers = grind (arith, nat_tests)
 
 abbrev answered : TxnAnswer → Standing → Result (Step TxnAnswer) Refusal
 answered a next = Ok record { answer = a; next = next }
@@ -80,9 +67,4 @@ pub came : (s next : Standing) (txn : Txn) (failed : Option FailedCompare) (ops 
     IfOk r (λ a. outcome_copied (terms_of s) failed ops ≡ Ok record { answer = a; history = next.history }) →
     IfErr r (IsRefusalOf (outcome_copied (terms_of s) failed ops)) → next.floor ≡ s.floor → next.limit ≡ s.limit → next.live ≡ s.live
     → next.moment ≡ s.moment → next.watchers ≡ s.watchers → Returns (transacted s txn) r next
-came s next txn failed ops (Ok a) whole first branch ok refused floor limit live moment watchers =
-    ap (step_of s) (as_run s txn failed ops whole first branch ∙ ok)
-    ∙ ap (answered a) (same_but_history s next floor limit live moment watchers)
-came s next txn failed ops (Err e) whole first branch ok refused floor limit live moment watchers =
-    subst (λ o. IsRefusalOf (step_of s o) e) (sym (as_run s txn failed ops whole first branch))
-    (refusal_of s (outcome_copied (terms_of s) failed ops) e refused)
+came s next txn failed ops r whole first branch ok refused floor limit live moment watchers = grind (arith, nat_tests, as_run, same_but_history)

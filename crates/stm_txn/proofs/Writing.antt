@@ -1,7 +1,8 @@
 -- Writes of distinct keys, made with nothing compared.
-use Rattle.std.proofs.Common.{◌≡◌, ℕ, Bool, false, cond, List, map, Some, None, Ok, Err, sym, ◌∙◌, ap, subst}
+use Rattle.std.proofs.Common.{◌≡◌, ℕ, Bool, false, cond, List, map, Some, None, Ok, ◌∙◌, ap, subst, arith}
 use Rattle.std.specs.Prelude.{Result, IfOk, IfErr}
 use Rattle.std.specs.List.{list_any}
+use Rattle.std.proofs.lemmas.Bool.Decides.{nat_tests}
 use Rattle.stm_history.specs.declared.change.Change.{Change}
 use Rattle.stm_history.specs.History.{History, HasDistinctKeys}
 use Rattle.stm_keys.specs.Keys.{DeletePresent}
@@ -12,7 +13,7 @@ use Rattle.stm_outcome.specs.Branches.{branch_refusal}
 use Rattle.stm_outcome.specs.Commits.{is_on_dead_lease, effective}
 use Rattle.stm_outcome.specs.Effect.{op_of}
 use Rattle.stm_txn.specs.Leasing.{attached_of, AttachedToLive}
-use Rattle.stm_txn.specs.Standing.{Standing, Step, IsRefusalOf, Returns, write_step, written, made, terms_of}
+use Rattle.stm_txn.specs.Standing.{Standing, IsRefusalOf, Returns, write_step, written, made, terms_of}
 use Rattle.stm_outcome.specs.Terms.{Terms}
 use Rattle.stm_outcome.proofs.Applying.{branch_applies, writes_apart, dead_refusal}
 use Rattle.stm_outcome.proofs.Branching.{changes_are_distinct, effect_copied}
@@ -45,5 +46,4 @@ as_made s ws distinct = ap (write_step s) (branch_applies (terms_of s) ws distin
 
 pub come : (s next : Standing) (ws : List Change) (r : Result ℕ Refusal) → HasDistinctKeys ws →
     IfOk r (λ revision. made s ws ≡ Ok record { answer = revision; next = next }) → IfErr r (IsRefusalOf (made s ws)) → Returns (written s ws) r next
-come s next ws (Ok revision) distinct ok refused = as_made s ws distinct ∙ ok
-come s next ws (Err e) distinct ok refused = subst (λ (o : Result (Step ℕ) Refusal). IsRefusalOf o e) (sym (as_made s ws distinct)) refused
+come s next ws r distinct ok refused = grind (arith, nat_tests, as_made)

@@ -1,5 +1,6 @@
 -- A transaction that data spell is read.
 use Rattle.std.proofs.Common.{◌≡◌, ℕ, List, Ok, refl, ap, ◌∙◌, arith}
+use Rattle.std.proofs.lemmas.Bool.Decides.{nat_tests}
 use Rattle.serde_json.specs.Data.{Data, string}
 use Rattle.stm_history.specs.declared.revisions.TheConstants.{HIGHEST_NUMBER}
 use Rattle.stm_outcome.specs.declared.txn.Compare.{Compare}
@@ -40,13 +41,7 @@ target_reads w d (Value s) (is, t) =
 
 compare_reads : (d : Data) (c : Compare) → SpellsCompare d c → compare_of d ≡ Ok c
 unfolding compare_of
-compare_reads d c (w, a, is, s) =
-    let t = target_reads w a c.target s in
-    let named : target_named w ≡ Ok t.0 = t.1 in
-    let side : target_of t.0 a ≡ Ok c.target = t.2 in
-    let key : text_of (string c.key) ≡ Ok c.key = text_reads (string c.key) c.key refl in
-    let order = order_reads c.order in
-    ap compare_of is ∙ rw named (rw (key, order, side) refl)
+compare_reads d c h3 = grind (arith, nat_tests, target_reads, text_reads, order_reads)
 
 -- ---- operations
 

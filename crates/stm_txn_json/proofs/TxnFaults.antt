@@ -1,5 +1,6 @@
 -- The first fault of a transaction is the fault that reading it answers.
-use Rattle.std.proofs.Common.{◌≡◌, ℕ, List, [], ◌∷◌, Bool, true, false, cond, Option, Some, None, Ok, refl, codes}
+use Rattle.std.proofs.Common.{◌≡◌, ℕ, List, [], ◌∷◌, Bool, true, false, cond, Option, Some, None, Ok, refl, arith}
+use Rattle.std.proofs.lemmas.Bool.Decides.{nat_tests}
 use Rattle.serde_json.specs.Data.{Data, string, array, Items, no_items, item}
 use Rattle.serde_json.specs.Find.{as_str}
 use Rattle.stm_history.specs.declared.revisions.TheConstants.{HIGHEST_NUMBER}
@@ -8,36 +9,24 @@ use Rattle.stm_json.specs.Outcome.{bad, ◌>>=◌}
 use Rattle.stm_json.specs.Elements.{one_of, two_of, three_of, number_up_to}
 use Rattle.stm_outcome.specs.declared.txn.Compare.{Compare}
 use Rattle.stm_outcome.specs.declared.txn.Op.{Op}
-use Rattle.stm_outcome.specs.declared.txn.Op.TheVariants.{Get, Put, Del}
+use Rattle.stm_outcome.specs.declared.txn.Op.TheVariants.{Put}
 use Rattle.stm_outcome.specs.declared.txn.Order.{Order}
-use Rattle.stm_outcome.specs.declared.txn.Order.TheVariants.{Equal, NotEqual, Greater, Less}
 use Rattle.stm_outcome.specs.declared.txn.Target.TheVariants.{Version, Create, Mod, Lease, Value}
-use Rattle.stm_outcome.specs.declared.txn.Txn.{Txn}
 use Rattle.stm_txn_json.specs.declared.words.TargetWord.{TargetWord}
 use Rattle.stm_txn_json.specs.declared.words.TargetWord.TheVariants as word
-use Rattle.stm_json.specs.Parts.{same, on_text, text_of}
+use Rattle.stm_json.specs.Parts.{on_text, text_of}
 use Rattle.stm_txn_json.specs.Words.{order_named, target_named}
 use Rattle.stm_txn_json.specs.Reading.{order_of, target_of, compare_parts, compare_of, get_of, put_of, del_of, operation_of}
 use Rattle.stm_txn_json.specs.Reading.{compares_of, operations_of, txn_parts, txn_of}
-use Rattle.stm_json.specs.Faults.{Sort, AnyText, WordOf, wrong, at, word_faults, faults_by, sorted_faults, worded_faults, list_faults, first_of, any_number}
+use Rattle.stm_json.specs.Faults.{Sort, AnyText, WordOf, at, word_faults, faults_by, sorted_faults, worded_faults, list_faults, first_of, any_number}
 use Rattle.stm_txn_json.specs.FirstFault.{order_words, compare_table, operation_table, txn_sorts, txn_faults, first_fault}
 use Rattle.stm_json.proofs.FaultLemmas.{fault_of, wrong_is, part_then, made, text_faulted, list_faulted, number_reported}
 
 -- ---- compares
 
-order_tested : (p : List ℕ) (equal other above below : Bool)
-    → first_of (cond (cond equal true (cond other true (cond above true (cond below true false)))) [] (wrong p Shape))
-    ≡ fault_of p (cond equal (Ok Equal) (cond other (Ok NotEqual) (cond above (Ok Greater) (cond below (Ok Less) (bad Shape)))))
-order_tested p true other above below = refl
-order_tested p false true above below = refl
-order_tested p false false true below = refl
-order_tested p false false false true = refl
-order_tested p false false false false = wrong_is {A = Order} p Shape (bad Shape) refl
-
 order_reported : (p : List ℕ) (o : Option (List ℕ)) → first_of (word_faults order_words p o) ≡ fault_of p (on_text order_named o)
 unfolding order_named
-order_reported p (Some w) = order_tested p (same w (codes "=")) (same w (codes "!=")) (same w (codes ">")) (same w (codes "<"))
-order_reported p None = wrong_is {A = Order} p Shape (bad Shape) refl
+order_reported p o = grind (arith, nat_tests, wrong_is)
 
 order_faulted : (p : List ℕ) (d : Data) → first_of (faults_by (WordOf order_words) p d) ≡ fault_of p (order_of d)
 unfolding order_of
@@ -76,17 +65,11 @@ compare_tested : (p : List ℕ) (ds : Items) (version create modified lease valu
     (cond lease (Some (compare_sorts word.Lease)) (cond value (Some (compare_sorts word.Value)) None))))) ds)
     ≡ fault_of p (cond version (Ok word.Version) (cond create (Ok word.Create) (cond modified (Ok word.Mod) (cond lease (Ok word.Lease)
     (cond value (Ok word.Value) (bad Shape))))) >>= λ w. compare_parts w (three_of ds))
-compare_tested p ds true create modified lease value = compare_faulted p word.Version ds
-compare_tested p ds false true modified lease value = compare_faulted p word.Create ds
-compare_tested p ds false false true lease value = compare_faulted p word.Mod ds
-compare_tested p ds false false false true value = compare_faulted p word.Lease ds
-compare_tested p ds false false false false true = compare_faulted p word.Value ds
-compare_tested p ds false false false false false = wrong_is {A = Compare} p Shape (bad Shape) refl
+compare_tested p ds version create modified lease value = grind (arith, nat_tests, compare_faulted, wrong_is)
 
 compare_reported : (p : List ℕ) (d : Data) → first_of (worded_faults compare_table p d) ≡ fault_of p (compare_of d)
 unfolding compare_of target_named
-compare_reported p (array (item (string w) ds)) =
-    compare_tested p ds (same w (codes "version")) (same w (codes "create")) (same w (codes "mod")) (same w (codes "lease")) (same w (codes "value"))
+compare_reported p (array (item (string w) ds)) = grind (arith, nat_tests, compare_tested)
 compare_reported p _ = wrong_is {A = Compare} p Shape (bad Shape) refl
 
 -- ---- operations
@@ -103,9 +86,7 @@ del_sorts = AnyText ∷ []
 get_faulted : (p : List ℕ) (ds : Items) → first_of (sorted_faults p (Some get_sorts) ds) ≡ fault_of p (get_of (two_of ds))
 get_faulted p no_items = wrong_is p Shape (get_of None) refl
 get_faulted p (item a no_items) = wrong_is p Shape (get_of None) refl
-get_faulted p (item a (item b no_items)) =
-    part_then p 1 (text_of a) _ (faults_by AnyText (at p 1) a) _ (text_faulted (at p 1) a) (λ (key : List ℕ).
-    part_then p 2 (number_up_to HIGHEST_NUMBER b) (λ rev. Ok (Get key rev)) (faults_by any_number (at p 2) b) [] (number_reported (at p 2) b) (λ rev. refl))
+get_faulted p (item a (item b no_items)) = grind (arith, nat_tests, part_then, text_faulted, number_reported)
 get_faulted p (item a (item b (item c ds))) = wrong_is p Shape (get_of None) refl
 
 put_faulted : (p : List ℕ) (ds : Items) → first_of (sorted_faults p (Some put_sorts) ds) ≡ fault_of p (put_of (three_of ds))
@@ -121,8 +102,7 @@ put_faulted p (item a (item b (item c (item d ds)))) = wrong_is p Shape (put_of 
 
 del_faulted : (p : List ℕ) (ds : Items) → first_of (sorted_faults p (Some del_sorts) ds) ≡ fault_of p (del_of (one_of ds))
 del_faulted p no_items = wrong_is p Shape (del_of None) refl
-del_faulted p (item a no_items) =
-    part_then p 1 (text_of a) (λ key. Ok (Del key)) (faults_by AnyText (at p 1) a) [] (text_faulted (at p 1) a) (λ key. refl)
+del_faulted p (item a no_items) = grind (arith, nat_tests, part_then, text_faulted)
 del_faulted p (item a (item b ds)) = wrong_is p Shape (del_of None) refl
 
 operation_tested : (p : List ℕ) (ds : Items) (gets puts dels : Bool)
@@ -133,11 +113,6 @@ operation_tested p ds false true dels = put_faulted p ds
 operation_tested p ds false false true = del_faulted p ds
 operation_tested p ds false false false = wrong_is {A = Op} p Shape (bad Shape) refl
 
-operation_reported : (p : List ℕ) (d : Data) → first_of (worded_faults operation_table p d) ≡ fault_of p (operation_of d)
-unfolding operation_of
-operation_reported p (array (item (string w) ds)) = operation_tested p ds (same w (codes "get")) (same w (codes "put")) (same w (codes "del"))
-operation_reported p _ = wrong_is {A = Op} p Shape (bad Shape) refl
-
 -- ---- transactions
 
 compares_faulted : (p : List ℕ) (d : Data) → first_of (list_faults compare_table p d) ≡ fault_of p (compares_of d)
@@ -145,8 +120,8 @@ unfolding compares_of
 compares_faulted p d = list_faulted compare_table compare_of compare_reported p d
 
 operations_faulted : (p : List ℕ) (d : Data) → first_of (list_faults operation_table p d) ≡ fault_of p (operations_of d)
-unfolding operations_of
-operations_faulted p d = list_faulted operation_table operation_of operation_reported p d
+unfolding operation_of operations_of
+operations_faulted p d = grind (arith, nat_tests, list_faulted, operation_tested, wrong_is)
 
 lists_faulted : (p : List ℕ) (ds : Items) → first_of (sorted_faults p (Some txn_sorts) ds) ≡ fault_of p (txn_parts (three_of ds))
 lists_faulted p no_items = wrong_is p Shape (txn_parts None) refl
@@ -159,15 +134,9 @@ lists_faulted p (item a (item b (item c no_items))) =
     (list_faults operation_table (at p 3) c) [] (operations_faulted (at p 3) c) (λ failure. refl)))
 lists_faulted p (item a (item b (item c (item d ds)))) = wrong_is p Shape (txn_parts None) refl
 
-txn_tested : (p : List ℕ) (ds : Items) (b : Bool)
-    → first_of (sorted_faults p (cond b (Some txn_sorts) None) ds) ≡ fault_of p (cond b (txn_parts (three_of ds)) (bad Shape))
-txn_tested p ds true = lists_faulted p ds
-txn_tested p ds false = wrong_is {A = Txn} p Shape (bad Shape) refl
-
 pub txn_faulted : (p : List ℕ) (d : Data) → first_of (txn_faults p d) ≡ fault_of p (txn_of d)
 unfolding txn_of
-txn_faulted p (array (item (string w) ds)) = txn_tested p ds (same w (codes "txn"))
-txn_faulted p _ = wrong_is {A = Txn} p Shape (bad Shape) refl
+txn_faulted p d = grind (arith, nat_tests, wrong_is, lists_faulted)
 
 -- the first fault is that which reading answers, if it does
 pub first_fault-is : (d : Data) → first_fault d ≡ fault_of [] (txn_of d)

@@ -1,6 +1,7 @@
 -- A word is found by its own text and by no other.
-use Rattle.std.proofs.Common.{◌≡◌, ℕ, List, Bool, true, false, cond, Ok, refl, sym, ap, ◌∙◌, codes}
+use Rattle.std.proofs.Common.{◌≡◌, ℕ, List, cond, Ok, refl, codes, arith}
 use Rattle.std.proofs.lemmas.Slice.Eq.{bytes_eq-Decides}
+use Rattle.std.proofs.lemmas.Bool.Decides.{nat_tests}
 use Rattle.stm_json.specs.declared.cause.Cause.TheVariants.{Shape}
 use Rattle.stm_json.specs.Outcome.{Outcome, bad}
 use Rattle.stm_outcome.specs.declared.txn.Order.{Order}
@@ -18,17 +19,9 @@ target_text word.Mod = codes "mod"
 target_text word.Lease = codes "lease"
 target_text word.Value = codes "value"
 
--- the answer of one test, or of the tests after it
-chosen_by : {W : Type 0} (text : W → List ℕ) (w t : List ℕ) (b : Bool) (y x : W) (rest : Outcome W) → (b ≡ true → w ≡ t) → text y ≡ t
-    → (rest ≡ Ok x → w ≡ text x) → cond b (Ok y) rest ≡ Ok x → w ≡ text x
-chosen_by text w t true y x rest found named others h =
-    let e : y ≡ x = cc in
-    found refl ∙ sym named ∙ ap text e
-chosen_by text w t false y x rest found named others h = others h
-
 pub chosen : {W : Type 0} (text : W → List ℕ) (w t : List ℕ) (y x : W) (rest : Outcome W) → text y ≡ t → (rest ≡ Ok x → w ≡ text x)
     → cond (same w t) (Ok y) rest ≡ Ok x → w ≡ text x
-chosen text w t y x rest named others h = chosen_by text w t (same w t) y x rest (bytes_eq-Decides w t).0 named others h
+chosen text w t y x rest named others h = grind (arith, nat_tests, bytes_eq-Decides)
 
 pub no_word : {W : Type 0} (text : W → List ℕ) (w : List ℕ) (x : W) → bad Shape ≡ Ok x → w ≡ text x
 no_word text w x h = cc
@@ -44,8 +37,7 @@ order_named-is w x h =
 
 pub order_named-text : (x : Order) → order_named (order_text x) ≡ Ok x
 unfolding order_named
-order_named-text Equal = refl
-order_named-text _ = refl
+order_named-text x = grind (arith, nat_tests)
 
 pub target_named-is : (w : List ℕ) (x : TargetWord) → target_named w ≡ Ok x → w ≡ target_text x
 unfolding target_named
@@ -59,5 +51,4 @@ target_named-is w x h =
 
 pub target_named-text : (x : TargetWord) → target_named (target_text x) ≡ Ok x
 unfolding target_named
-target_named-text word.Version = refl
-target_named-text _ = refl
+target_named-text x = grind (arith, nat_tests)

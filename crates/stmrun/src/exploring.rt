@@ -6,7 +6,7 @@ use crate::files::is_missing;
 use crate::found::{Form, only_level, print_found, run_rules_in, runners_of};
 use crate::naming::{RUNNERS, with_names};
 use crate::noting::{Kept, Noting};
-use crate::rules::{is_json, named_in, rules_named, rules_of, say_scenario, unnamed_rule};
+use crate::rules::{is_json, named_in, rules_named, rules_of, unnamed_rule};
 use crate::ruling::Question;
 use crate::sources::{
     Given, JsonFile, NamedSource, SourceText, out_of_memory, say_unasked, source_at, source_text,
@@ -72,7 +72,6 @@ fn run_rule(
     );
     let status = close(&mut budget, status);
     say_read(rt, &scenario);
-    say_scenario(rt, &rule);
     say_read(rt, &rule);
     if explain {
         say_unwritten(rt, out.device.failure);

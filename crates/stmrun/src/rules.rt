@@ -2,9 +2,8 @@
 
 use crate::explaining::{has_hidden, kept_json, say_read};
 use crate::files::open;
-use crate::showing::is_scenario;
 use crate::sources::{JsonFile, is_source, out_of_memory, program_at, rules_at};
-use stm_commands::{KeptSource, Std};
+use stm_commands::Std;
 use stm_compiling::{Rule as SourceRule, unknown_in};
 use stm_devices::{ReadFault, read_all};
 use stm_exploring::{Level, Rule, When, read_rule_to};
@@ -55,20 +54,11 @@ pub(crate) fn rules_of(rt: &HostRuntime, rules: Sequence<SourceRule>) -> Result<
     Ok(asked)
 }
 
-/// Says of what was read as a rule that it is a scenario, if it is one.
-pub(crate) fn say_scenario<S>(rt: &HostRuntime, rule: &KeptSource<'_, S>) {
-    if !rule.is_cut && is_scenario(rt, rule.bytes.as_slice()) {
-        let name = rule.name;
-        let _ = eprintln!(rt; "{name}: this is a scenario, and no rule, which is a program");
-    }
-}
-
 /// The program that is read as JSON; or the status, once what is wrong with it was said. It is explained, or is not.
 fn rule_program(rt: &HostRuntime, file: &JsonFile<'_>, explain: bool) -> Result<Program, u8> {
     let mut err = Std::new(rt.stderr());
     let mut source = kept_json(rt, file);
     let program = read_rule_to(rt.alloc(), explain, &mut source, &mut err);
-    say_scenario(rt, &source);
     say_read(rt, &source);
     program
 }

@@ -29,11 +29,6 @@ fn fault_of(rt: &HostRuntime, input: Input, bytes: &[u8]) -> Option<InputFault> 
     read_input(rt.alloc(), &mut source).err()
 }
 
-/// Whether bytes are a scenario, and no program.
-pub(crate) fn is_scenario(rt: &HostRuntime, bytes: &[u8]) -> bool {
-    fault_of(rt, Input::Program, bytes).is_some() && fault_of(rt, Input::Scenario, bytes).is_none()
-}
-
 /// Says of the bytes of the file of a name, which are no scenario and a program, or the reverse, how they are shown; and answers whether they are that.
 fn say_other(rt: &HostRuntime, input: Input, name: &str, bytes: &[u8]) -> bool {
     let (other, words) = if input == Input::Program {

@@ -22,9 +22,9 @@ then stmrun script s.stm prints its report:
   [\"key\",\"a\",\"1\",2,2,1,0]
   [\"end\",2,1]
 
-So does stmrun script < s.stm, and stmrun script s.json of its JSON. What stmrun explore prints is played, too, with its answers in front:
-stmrun explore s.stm --level ReadCommitted | stmrun script. The report is printed once it is whole, and nothing of it where the scenario
-is bad: then the place of its first fault and the cause stand on standard error. With --format FORMAT it has another form:
+So does stmrun script < s.stm, and stmrun script s.json of its JSON. A schedule that explore prints is played with the answers in front:
+stmrun explore FILE.stm | stmrun script. The report is printed once it is whole, and nothing of it where the scenario is bad: then the
+place of its first fault and the cause stand on standard error. With --format FORMAT it has another form:
 
   lines   the default: each line is a JSON array, which stmrun check reads
   json    each line is a JSON object with named fields

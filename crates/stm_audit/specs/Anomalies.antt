@@ -2,7 +2,7 @@
 --
 -- The levels are those of the Go package `clientv3/concurrency`, "STM": all but ReadCommitted compare the keys read, and SerializableSnapshot the keys
 -- written too. The names are those of Berenson and others, "A Critique of ANSI SQL Isolation Levels", 1995.
-use Rattle.std.specs.Prelude.{ℕ, ◌-◌, Bool, true, false, nat_lt, if◌then◌else◌, List, [], ◌∷◌, find, Option, Some, None, option_map, slice_get}
+use Rattle.std.specs.Prelude.{ℕ, ◌-◌, Bool, true, false, nat_lt, if◌then◌else◌, List, [], ◌∷◌, find, fold, min, Option, Some, None, option_map, slice_get}
 use Rattle.std.specs.Option.{option_or}
 use Rattle.std.specs.List.{list_any}
 use Rattle.stm_history.specs.declared.revisions.TheConstants.{HIGHEST_REVISION}
@@ -70,10 +70,9 @@ compares_writes Serializable = false
 compares_writes RepeatableReads = false
 compares_writes ReadCommitted = false
 
--- the revision of the first read, and the highest one where nothing was read
+-- the revision of the first read, wherever it stands: the least one that a read is of, and the highest one where nothing was read
 abbrev pub first_read : List CommittedRead → ℕ
-first_read [] = HIGHEST_REVISION
-first_read (a ∷ reads) = a.of_rev
+first_read reads = fold (λ least (a : CommittedRead). min least a.of_rev) HIGHEST_REVISION reads
 
 -- a written key was put above a revision
 abbrev pub is_put_above : History → ℕ → Change → Bool
@@ -83,7 +82,7 @@ abbrev pub of_write : History → ℕ → ℕ → Change → Finding
 of_write h number first w =
     record { commit = number; anomaly = BlindWrite; is_broken = true; key = key_of w; seen = first; held = mod_of (key_now h (key_of w)) }
 
--- the first written key that was put after the first read: a level that compares the keys written promises that there is none
+-- the first written key that was put above the revision of the first read: a level that compares the keys written promises that there is none
 abbrev pub overwritten_in : History → ℕ → Commit → Option Finding
 overwritten_in h number t =
     if compares_writes t.level then option_map (of_write h number (first_read t.reads)) (find (is_put_above h (first_read t.reads)) t.writes)

@@ -66,10 +66,10 @@ abbrev pub is_put : Change → Bool
 is_put (Put key value lease) = true
 is_put (Del key) = false
 
--- the revision before the first commit: the one below it, where it puts a key
+-- the revision before the first commit: the one below it, where the last write of a key puts it
 abbrev pub before_first : List Commit → ℕ
 before_first [] = 1
-before_first (t ∷ ts) = if list_any is_put t.writes then t.revision - 1 else t.revision
+before_first (t ∷ ts) = if list_any is_put (latest_writes t.writes) then t.revision - 1 else t.revision
 
 -- a store's revision is 1 at least
 abbrev pub opened : List Commit → ℕ

@@ -1,4 +1,4 @@
--- Which bytes spell which trace: the grammar, apart from reading.
+-- Which bytes spell which trace: the grammar, apart from reading, of which it has only the values that a beginning stands for (`stood`, `began`).
 use Rattle.std.specs.Prelude.{◌≡◌, ℕ, ◌≤◌, List, [], ◌∷◌, length, Option, Some, None, codes}
 use Rattle.serde_json.specs.Data.{Data, null, string, array, Items, item}
 use Rattle.serde_json.specs.View.{items_of}

@@ -9,8 +9,9 @@ use Rattle.stm_audit.specs.declared.finding.Finding.{Finding}
 use Rattle.stm_audit.specs.Anomalies.{compares_writes, first_read, found_in}
 use Rattle.stm_audit.specs.Reads.{is_so}
 
--- A commit is what its level promises, on the history that is before it: each read says what was so; at a level that compares the keys read, each of these
--- is as it was read; and at one that compares the keys written, none of these was put after the first read.
+-- A commit is what its level promises, on the history that is before it: each read says what was so, or may have been where that
+-- is not known; at a level that compares the keys read, each of these is as it was read; and at one that compares the keys written, none of these was put above the
+-- least revision that a read is of.
 pub record IsKept (h : History) (known : ℕ) (t : Commit) : Type 0 where
   pub so : All (λ (a : CommittedRead). is_so h known a ≡ true) t.reads
   pub unchanged : is_comparing t.level ≡ true → All (λ (a : CommittedRead). a.mod_rev ≡ mod_of (key_now h a.key)) t.reads

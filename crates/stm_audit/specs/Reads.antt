@@ -21,12 +21,17 @@ abbrev pub is_lost : ℕ → Option KeyState → Bool
 is_lost revision None = true
 is_lost revision (Some s) = nat_lt revision s.mod_rev
 
+-- a key that is absent has no value and the modification revision 0, and a key that is present has neither
+abbrev pub is_possible : Option (List ℕ) → ℕ → Bool
+is_possible None mod_rev = nat_eq mod_rev 0
+is_possible (Some v) mod_rev = nat_lt 0 mod_rev
+
 -- The read says what its key was at the revision that it is of, which the store had reached. What a key was is known from a revision on, and before that where
--- it has not changed since; elsewhere a read may say anything but that the key was put later.
+-- it has not changed since; elsewhere a read may say anything that a key can be, but that it was put later.
 abbrev pub is_so : History → ℕ → CommittedRead → Bool
 is_so h known a =
     if nat_lt (now h) a.of_rev then false
-    else (if nat_lt a.of_rev known && is_lost a.of_rev (key_at h a.key a.of_rev) then nat_le a.mod_rev a.of_rev
+    else (if nat_lt a.of_rev known && is_lost a.of_rev (key_at h a.key a.of_rev) then is_possible a.value a.mod_rev && nat_le a.mod_rev a.of_rev
     else (is_value a.value (key_at h a.key a.of_rev) && nat_eq a.mod_rev (mod_of (key_at h a.key a.of_rev))))
 
 abbrev pub is_untrue : History → ℕ → CommittedRead → Bool
@@ -36,7 +41,7 @@ is_untrue h known a = not (is_so h known a)
 abbrev pub is_stale : History → CommittedRead → Bool
 is_stale h a = not (nat_eq a.mod_rev (mod_of (key_now h a.key)))
 
--- the first revision after the read that changed its key
+-- the first revision after the read that is known to have changed its key: a change before the opening is not
 abbrev pub changed_at : History → CommittedRead → Option ℕ
 changed_at h a = next_change h a.key a.of_rev
 

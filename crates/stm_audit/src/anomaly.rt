@@ -20,7 +20,7 @@ pub enum Anomaly {
     WriteSkew,
     /// A key that was read had been changed before the commit, and none of the above came of it.
     StaleRead,
-    /// A key that was written had been changed after the transaction's first read.
+    /// A key that was written had been put after the transaction's first read, which is the one of the least revision.
     BlindWrite,
 }
 

@@ -2,6 +2,7 @@
 ghost use Rattle.std.specs.Prelude.{◌≡◌, ◌+◌, ◌≤◌, [], ◌++◌, true, false, map, nat_lt, min, max, option_map, IfOk, OnOk};
 ghost use Rattle.std.specs.List.{list_any};
 ghost use Rattle.stm_history.specs.History.{now};
+ghost use Rattle.stm_program.specs.Writes.{latest_writes};
 ghost use Rattle.stm_audit.specs.Anomalies.{found_in};
 ghost use Rattle.stm_audit.specs.Audit.{after, left_by, revision_of, is_reached, with_found, with_maker, is_put, before_first, opened};
 ghost use Rattle.stm_audit.specs.Audit.{restoring, beginning, known_from, audit_from, audited};
@@ -14,7 +15,7 @@ use crate::trace::Trace;
 use std::alloc::{AllocError, Global};
 use stm_events::Sequence;
 use stm_history::HIGHEST_REVISION;
-use stm_program::Write;
+use stm_program::{Write, latest_writes};
 use stm_txn::{Checkpoint, Store};
 
 /// What an audit comes to.
@@ -130,28 +131,45 @@ fn any_is_put(writes: &[Write]) -> bool
     writes.iter().any(|write| is_put(write))
 }
 
+/// Whether the last write of a key does.
+pub(crate) fn leaves_a_key(alloc: Global, writes: &[Write]) -> Result<bool, AllocError>
+    ensures { IfOk result (λ b. b ≡ list_any is_put (latest_writes writes.now)) }
+{
+    let latest = latest_writes(alloc, writes)?;
+    Ok(any_is_put(latest.as_slice()))
+}
+
 /// The revision before the first commit.
-fn before_first(commits: &[Commit]) -> u64
-    ensures { result ≡ before_first commits.now }
+fn before_first(alloc: Global, commits: &[Commit]) -> Result<u64, AllocError>
+    ensures { IfOk result (λ revision. revision ≡ before_first commits.now) }
 {
     match commits {
-        [] => 1,
+        [] => Ok(1),
         [first, ..] => {
-            if any_is_put(first.writes.as_slice()) {
-                first.revision.saturating_sub(1)
+            if leaves_a_key(alloc, first.writes.as_slice())? {
+                Ok(first.revision.saturating_sub(1))
             } else {
-                first.revision
+                Ok(first.revision)
             }
         }
     }
 }
 
-/// The revision at which the store opens.
-fn opened(commits: &[Commit]) -> u64
-    ensures value { result ≡ opened commits.now }
+/// A revision, where a store can open at it, else the nearest one at which it can.
+fn within_bounds(revision: u64) -> u64
+    ensures value { result ≡ min HIGHEST_REVISION (max 1 revision) }
     ensures range { (1 ≤ result) × (result ≤ HIGHEST_REVISION) }
 {
-    before_first(commits).max(1).min(HIGHEST_REVISION)
+    revision.max(1).min(HIGHEST_REVISION)
+}
+
+/// The revision at which the store opens.
+pub(crate) fn opened(alloc: Global, commits: &[Commit]) -> Result<u64, AllocError>
+    ensures value { IfOk result (λ revision. revision ≡ opened commits.now) }
+    ensures range { IfOk result (λ revision. (1 ≤ revision) × (revision ≤ HIGHEST_REVISION)) }
+{
+    let before = before_first(alloc, commits)?;
+    Ok(within_bounds(before))
 }
 
 /// The store that a trace says it begins with; none where no store can be so.
@@ -169,7 +187,8 @@ fn beginning(alloc: Global, trace: &Trace) -> Result<Option<Store>, AllocError>
 {
     match &trace.opening {
         None => {
-            let store = Store::with_revision(alloc, opened(trace.commits.as_slice()))?;
+            let revision = opened(alloc, trace.commits.as_slice())?;
+            let store = Store::with_revision(alloc, revision)?;
             Ok(Some(store))
         }
         Some(checkpoint) => {
@@ -192,7 +211,7 @@ fn known_from(opening: &Option<Checkpoint>) -> u64
 /// Audits a trace; none where no store can be as it says that its own was (`can_restore`): its keys do not ascend, or a revision is above the store's.
 ///
 /// A read has to say what its key was at the revision that it is of. At a level that compares the keys read, each of
-/// these has to be at the commit as it was read; at `SerializableSnapshot` no key that is written may have been put after the revision of the first read. What
+/// these has to be at the commit as it was read; at `SerializableSnapshot` no key that is written may have been put above the least revision that a read is of. What
 /// breaks one of these is a broken promise; a read whose key has been changed is a finding at ReadCommitted, too. Of a commit the first of these is found.
 ///
 /// It takes a step for each read and each write, and for each of these a search by halves in its key's revisions. It fails only where an allocation does.

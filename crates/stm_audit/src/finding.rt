@@ -13,7 +13,7 @@ pub struct Finding {
     pub is_broken: bool,
     /// The key.
     pub key: Text,
-    /// The modification revision that was read of the key, 0 where it was absent; of a blind write the revision of the transaction's first read.
+    /// The modification revision that was read of the key, 0 where it was absent; of a blind write the least revision that a read of the commit is of.
     pub seen: u64,
     /// The modification revision that the key had at the commit, 0 where it was absent.
     pub held: u64,

@@ -1,21 +1,11 @@
 //! What is said of a trace that knows keys from before it, and does not say with which it begins.
 
 use crate::anomaly::Anomaly;
-use crate::auditing::{Audited, audit};
+use crate::auditing::{Audited, audit, leaves_a_key, opened};
 use crate::commit::Commit;
 use crate::finding::Finding;
 use crate::reading::read_trace;
 use std::alloc::{AllocError, Global};
-use stm_program::Write;
-
-/// The revision of a store before a commit, where what that writes changes something.
-fn before(commit: &Commit) -> u64 {
-    if commit.writes.as_slice().is_empty() {
-        commit.revision
-    } else {
-        commit.revision.saturating_sub(1)
-    }
-}
 
 /// Whether a read that says what was not so shows its key as it was put by a revision.
 fn is_put_by(revision: u64, finding: &Finding) -> bool {
@@ -23,41 +13,70 @@ fn is_put_by(revision: u64, finding: &Finding) -> bool {
 }
 
 /// Whether a commit writes something, and only deletes.
-fn only_deletes(commit: &Commit) -> bool {
+fn only_deletes(alloc: Global, commit: &Commit) -> Result<bool, AllocError> {
     let writes = commit.writes.as_slice();
-    !writes.is_empty()
-        && writes
-            .iter()
-            .all(|write| matches!(write, Write::Del { .. }))
+    Ok(!writes.is_empty() && !leaves_a_key(alloc, writes)?)
 }
 
-/// The number of the commit whose revision is off, where it only deletes: it may have deleted keys from before the trace.
-fn off_by_deleting(commits: &[Commit], off: Option<u64>) -> Option<u64> {
-    let number = off?;
-    let commit = commits.get((number as usize).saturating_sub(1))?;
-    if only_deletes(commit) {
-        Some(number)
-    } else {
-        None
+/// The number of the commit whose revision is off, where it only deletes, and its revision is the next one: it may have deleted keys from before the trace.
+fn off_by_deleting(
+    alloc: Global,
+    commits: &[Commit],
+    off: Option<u64>,
+) -> Result<Option<u64>, AllocError> {
+    let Some(number) = off else {
+        return Ok(None);
+    };
+    let before = commits.get((number as usize).saturating_sub(2));
+    match (before, commits.get((number as usize).saturating_sub(1))) {
+        (Some(before), Some(commit)) => {
+            if commit.revision == before.revision.saturating_add(1)
+                && only_deletes(alloc, commit)?
+            {
+                Ok(Some(number))
+            } else {
+                Ok(None)
+            }
+        }
+        _ => Ok(None),
     }
 }
 
-/// The number of the first commit that read a key which was put by a revision, or that may have deleted one.
-fn first_older(commits: &[Commit], revision: u64, audited: &Audited) -> Option<u64> {
+/// The number of the first commit that seems to have read a key which was put by a revision, or to have deleted one.
+fn first_older(
+    alloc: Global,
+    commits: &[Commit],
+    revision: u64,
+    audited: &Audited,
+) -> Result<Option<u64>, AllocError> {
     for finding in audited.findings.as_slice() {
         if is_put_by(revision, finding) {
-            return Some(finding.commit);
+            return Ok(Some(finding.commit));
         }
     }
-    off_by_deleting(commits, audited.off)
+    off_by_deleting(alloc, commits, audited.off)
 }
 
-/// The line for people: that a commit met an older key, and what a trace begins with then.
-fn line_of(alloc: Global, number: u64, revision: u64) -> Result<String, AllocError> {
+/// The line for people: that a commit seems to have met an older key, and what a trace begins with then, with this at its end.
+fn line_of(alloc: Global, number: u64, revision: u64, end: &str) -> Result<String, AllocError> {
     let begin = format!(in alloc; "[\"begin\",{revision},[[KEY,VALUE,MOD],..]]")?;
     format!(in alloc;
-        "stmrun: commit {number} met a key that was there before: the trace of an older store begins with {begin}, the keys at that revision\n"
+        "stmrun: commit {number} seems to have met a key that was there before: the trace of an older store begins with {begin}, the keys at that revision{end}\n"
     )
+}
+
+/// The same by the first commit of the trace: where that only deletes, its revision is its own only if it deleted a key.
+fn line_by(
+    alloc: Global,
+    first: &Commit,
+    revision: u64,
+    number: u64,
+) -> Result<String, AllocError> {
+    if 1 < revision && only_deletes(alloc, first)? {
+        let end = format!(in alloc; ", or with {revision} where commit 1 deleted no key")?;
+        return line_of(alloc, number, revision.saturating_sub(1), end.as_str());
+    }
+    line_of(alloc, number, revision, "")
 }
 
 /// What is said of a trace that does not say what it begins with, by its audit.
@@ -65,9 +84,9 @@ fn said_of(alloc: Global, commits: &[Commit], audited: &Audited) -> Result<Strin
     let Some(first) = commits.first() else {
         return Ok(String::new(alloc));
     };
-    let revision = before(first);
-    match first_older(commits, revision, audited) {
-        Some(number) => line_of(alloc, number, revision),
+    let revision = opened(alloc, commits)?;
+    match first_older(alloc, commits, revision, audited)? {
+        Some(number) => line_by(alloc, first, revision, number),
         None => Ok(String::new(alloc)),
     }
 }

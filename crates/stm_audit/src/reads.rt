@@ -2,7 +2,7 @@
 ghost use Rattle.std.specs.Prelude.{◌≡◌, ◌↔◌, ◌≤◌, IsTrue, not, find, bytes_eq, option_copied, option_map};
 ghost use Rattle.std.specs.List.{list_any};
 ghost use Rattle.stm_history.specs.History.{key_now, mod_of, key_of};
-ghost use Rattle.stm_audit.specs.Reads.{is_value, is_lost, is_so, is_untrue, is_stale, changed_at, is_at_most, shows_from, is_among};
+ghost use Rattle.stm_audit.specs.Reads.{is_value, is_lost, is_possible, is_so, is_untrue, is_stale, changed_at, is_at_most, shows_from, is_among};
 
 use stm_events::{CommittedRead, KeyState, Text};
 use stm_history::found_mod_rev;
@@ -32,6 +32,16 @@ fn is_lost(revision: u64, state: Option<&KeyState>) -> bool
     }
 }
 
+/// Whether a key can be present with this value and modification revision, or absent with none and 0.
+fn is_possible(value: &Option<Text>, mod_rev: u64) -> bool
+    ensures { result ≡ is_possible value.now mod_rev }
+{
+    match value {
+        None => mod_rev == 0,
+        Some(_) => 0 < mod_rev,
+    }
+}
+
 /// Whether a read says what its key was, where that is known from a revision on.
 fn is_so(keys: &Keys, known: u64, read: &CommittedRead) -> bool
     ensures { result ≡ is_so keys.now.history known read.now }
@@ -41,7 +51,7 @@ fn is_so(keys: &Keys, known: u64, read: &CommittedRead) -> bool
     }
     let state = keys.look_back(read.key.as_str(), read.of_rev);
     if read.of_rev < known && is_lost(read.of_rev, state) {
-        read.mod_rev <= read.of_rev
+        is_possible(&read.value, read.mod_rev) && read.mod_rev <= read.of_rev
     } else {
         is_value(&read.value, state) && read.mod_rev == found_mod_rev(state)
     }
@@ -86,7 +96,7 @@ pub(crate) fn find_stale<'a>(keys: &Keys, reads: &'a [CommittedRead]) -> Option<
     reads.iter().find(|read| is_stale(keys, read))
 }
 
-/// The first revision after a read that changed its key.
+/// The first revision after a read that is known to have changed its key: a change before the opening is not.
 pub(crate) fn changed_at(keys: &Keys, read: &CommittedRead) -> Option<u64>
     ensures { result ≡ changed_at keys.now.history read.now }
 {

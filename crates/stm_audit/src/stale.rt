@@ -152,14 +152,15 @@ fn compares_writes(level: Level) -> bool
     }
 }
 
-/// The revision of the first of these reads, and the highest one where there is none.
+/// The least revision that one of these reads is of, and the highest one where there is none.
 fn first_read(reads: &[CommittedRead]) -> u64
     ensures { result ≡ first_read reads.now }
 {
-    match reads {
-        [] => HIGHEST_REVISION,
-        [first, ..] => first.of_rev,
+    let mut first = HIGHEST_REVISION;
+    for read in reads {
+        first = first.min(read.of_rev);
     }
+    first
 }
 
 /// Whether a written key was put above a revision.
@@ -200,7 +201,7 @@ fn of_write(
     })
 }
 
-/// The first key that a commit wrote and that was put after its first read, at a level that compares the keys written.
+/// The first key that a commit wrote and that was put above the revision of its first read, at a level that compares the keys written.
 fn overwritten_in(
     alloc: Global,
     keys: &Keys,

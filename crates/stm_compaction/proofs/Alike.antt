@@ -1,13 +1,13 @@
 -- A history without the revisions below a floor shows from there on what the whole one does.
 use mathlib.Core.Path.{fun_ext}
-use Rattle.std.proofs.Common.{◌≡◌, ℕ, ◌-◌, ◌≤◌, ◌<◌, zero, suc, List, [], ◌∷◌, Option, refl, sym, ◌∙◌, ap, arith, cond, inl, inr}
+use Rattle.std.proofs.Common.{◌≡◌, ℕ, ◌-◌, ◌≤◌, ◌<◌, List, [], ◌∷◌, Option, refl, sym, ◌∙◌, ap, arith, cond, inl, inr}
 use Rattle.std.specs.Prelude.{◌==◌, map}
-use Rattle.std.proofs.lemmas.Bool.{cases_lt, ne_eqb}
+use Rattle.std.proofs.lemmas.Bool.{cases_lt, ne_eqb, Decides.nat_tests}
 use Rattle.stm_history.specs.declared.change.Change.{Change}
 use Rattle.stm_history.specs.declared.key_state.KeyState.{KeyState}
 use Rattle.stm_history.specs.Opening.{Opening, opened_state}
 use Rattle.stm_history.specs.History.{History, number_of_last, now, key_now, key_at, key_after, revisions_up_to}
-use Rattle.stm_history.specs.Cut.{revisions_above, opening_of_cut, cut}
+use Rattle.stm_history.specs.Cut.{revisions_above, cut}
 use Rattle.stm_history.proofs.HistoryLaws.{last_is_above}
 use Rattle.stm_history.proofs.CutLaws.{taken_above, none_above, next_number, cut_key, cut_off, cut_at_the_opening, opened_by_cut}
 use Rattle.stm_history.proofs.CutLaws.{cut_keeps_now, cut_keeps_keys_now, cut_shows_the_same}
@@ -19,10 +19,7 @@ use Rattle.stm_keys.specs.Events.{event_of, events_above, events_numbered, event
 -- a history has no events above its last revision
 none_numbered : (opening : Opening) (n : ℕ) (revisions : List (List Change)) → number_of_last opening revisions < n → events_numbered opening n revisions ≡ []
 none_numbered opening n [] above = refl
-none_numbered opening n (changes ∷ older) above =
-    ap (λ b. cond b (events_above opening changes older) (events_numbered opening n older))
-    (ne_eqb (number_of_last opening (changes ∷ older)) n (λ (is : number_of_last opening (changes ∷ older) ≡ n). omega (arith, is, above)))
-    ∙ none_numbered opening n older (omega (arith, above))
+none_numbered opening n (changes ∷ older) above = grind (arith, nat_tests, ne_eqb, none_numbered opening n older (omega (arith, above)))
 
 -- what the keys were at one opening, on the way of these revisions, they are at another
 abbrev pub OpensThere : Opening → Opening → List (List Change) → Type 0
@@ -61,17 +58,6 @@ module _ (old new : Opening) (above : old.number ≤ new.number) where
             ∙ sym (none_numbered old n (changes ∷ older) (omega (arith, passed, later)))
       ]
 
--- a cut keeps the events of each revision above it
-events_of_cut : (h : History) (number n : ℕ) → number ≤ now h → number < n → events_of (cut number h) n ≡ events_of h n
-events_of_cut h number n reached later =
-    elim (cases_lt h.opening.number number) [
-      | inl less ↦
-          ap (λ (g : History). events_of g n) (cut_off number h less)
-          ∙ same_events h.opening (opening_of_cut number h) (omega (arith, less)) n h.revisions later reached
-          (λ key. opened_by_cut number h key (omega (arith, less)))
-      | inr more ↦ ap (λ (g : History). events_of g n) (cut_at_the_opening h number more)
-    ]
-
 -- ---- what a history shows
 
 -- One history shows what another does: the counter, the keys now, and from a floor on the keys at each revision, and its events.
@@ -82,13 +68,7 @@ pub record IsAlike (floor : ℕ) (g h : History) : Type 0 where
   pub events : (n : ℕ) → floor ≤ n → events_of g n ≡ events_of h n
 
 from_floor : (floor n : ℕ) (h : History) → floor ≤ now h → floor ≤ n → events_of (cut (floor - 1) h) n ≡ events_of h n
-from_floor zero n h reached later = ap (λ (g : History). events_of g n) (cut_at_the_opening h (0 - 1) (omega arith))
-from_floor (suc b) n h reached later = events_of_cut h (suc b - 1) n (omega (arith, reached)) (omega (arith, later))
+from_floor floor n h reached later = grind (arith, nat_tests, cut_at_the_opening, cases_lt, cut_off, same_events, opened_by_cut)
 
 pub cut_is_alike : (floor : ℕ) (h : History) → floor ≤ now h → IsAlike floor (cut (floor - 1) h) h
-cut_is_alike floor h reached = record {
-  counter = cut_keeps_now h (floor - 1) (omega (arith, reached));
-  keys_now = fun_ext (cut_keeps_keys_now h (floor - 1) (omega (arith, reached)));
-  keys_at = λ key r later. cut_shows_the_same h (floor - 1) (omega (arith, reached)) key r (omega (arith, later));
-  events = λ n later. from_floor floor n h reached later;
-}
+cut_is_alike floor h reached = grind (arith, nat_tests, cut_keeps_now, cut_keeps_keys_now, cut_shows_the_same, from_floor)

@@ -1,22 +1,20 @@
 -- A compaction of a store that has dropped revisions before comes to what one of the whole store comes to.
-use Rattle.std.proofs.Common.{◌≡◌, ℕ, ◌-◌, ◌≤◌, ◌<◌, Bool, true, false, cond, List, [], ◌∷◌, Option, Some, None, option_map, refl, ◌∙◌, ap, arith}
+use Rattle.std.proofs.Common.{◌≡◌, ℕ, ◌-◌, ◌≤◌, ◌<◌, Bool, false, cond, List, [], ◌∷◌, Option, Some, None, option_map, refl, ◌∙◌, ap, arith}
 use Rattle.std.specs.Prelude.{nat_le, nat_lt, ◌||◌, max, IfSome, Result, Ok}
-use Rattle.std.proofs.lemmas.Bool.{leb-false, ltb-false}
+use Rattle.std.proofs.lemmas.Bool.{leb-false, ltb-false, Decides.nat_tests}
 use Rattle.stm_history.specs.History.{History, now}
 use Rattle.stm_history.specs.Cut.{cut}
 use Rattle.stm_history.proofs.CutLaws.{cut_twice}
-use Rattle.stm_watch.specs.declared.pending_revision.PendingRevision.{PendingRevision}
 use Rattle.stm_watch.specs.Watching.{Watching}
 use Rattle.stm_watch.specs.Places.{is_lost}
-use Rattle.stm_watch.specs.Pending.{number_of_first, first_pending}
+use Rattle.stm_watch.specs.Pending.{first_pending}
 use Rattle.stm_watch.specs.Calls.{compacted_one, compacted as compacted_watchers}
 use Rattle.stm_outcome.specs.declared.refusal.Refusal.{Refusal}
 use Rattle.stm_outcome.specs.declared.refusal.Refusal.TheVariants.{FutureRevision, Compacted}
-use Rattle.stm_txn.specs.Standing.{Standing, Step, kept, compaction_refusal, with_floor, floor_step, raised, compacted, IsKeptFor, AreKeptFor, HasKept}
+use Rattle.stm_txn.specs.Standing.{Standing, Step, kept, with_floor, floor_step, raised, compacted, IsKeptFor, AreKeptFor, HasKept}
 use Rattle.stm_compaction.specs.Kept.{kept_step}
 use Rattle.stm_compaction.proofs.Alike.{cut_is_alike}
 use Rattle.stm_compaction.proofs.Watching.{pending_kept}
-use Rattle.stm_compaction.proofs.Calls.{HasReached}
 
 -- ---- watchers
 
@@ -27,8 +25,7 @@ lost_by revision w lost first = record w { lost = lost || is_lost revision first
 one_by : (floor revision : ℕ) (h : History) (w : Watching) → floor ≤ now h → (lost : Bool) →
     (lost ≡ false → IfSome (first_pending h w) (λ n. floor ≤ n)) →
     lost_by revision w lost (first_pending (cut (floor - 1) h) w) ≡ lost_by revision w lost (first_pending h w)
-one_by floor revision h w reached true waits = refl
-one_by floor revision h w reached false waits = ap (λ (ts : List PendingRevision). lost_by revision w false (number_of_first ts)) (pending_kept floor h w reached (waits refl))
+one_by floor revision h w reached lost waits = grind (arith, nat_tests, pending_kept)
 
 each_kept : (floor revision : ℕ) (h : History) (o : Option Watching) → floor ≤ now h → IsKeptFor h floor o →
     option_map (compacted_one (cut (floor - 1) h) revision) o ≡ option_map (compacted_one h revision) o
@@ -43,11 +40,6 @@ watchers_kept floor revision h (w ∷ ws) reached are =
     ∙ ap (λ (l : List (Option Watching)). option_map (compacted_one h revision) w ∷ l) (watchers_kept floor revision h ws reached are.1)
 
 -- ---- a compaction
-
-refusal_kept : (s : Standing) → HasReached s → (revision : ℕ) → compaction_refusal (kept s) revision ≡ compaction_refusal s revision
-refusal_kept s reached revision =
-    ap (λ (n : ℕ). cond (nat_le revision s.floor) (Some Compacted) (cond (nat_lt n revision) (Some FutureRevision) None))
-    (cut_is_alike s.floor s.history reached).counter
 
 -- a store with this history, this floor and these watchers
 abbrev stood : Standing → ℕ → History → List (Option Watching) → Standing
@@ -69,13 +61,7 @@ done_with next = Ok record { answer = tt; next = next }
 taken_by : (s : Standing) → HasKept s → (revision : ℕ) (low high : Bool) → nat_le revision s.floor ≡ low → nat_lt (now s.history) revision ≡ high →
     floor_step (cond low (Some Compacted) (cond high (Some FutureRevision) None)) (kept (with_floor (kept s) revision))
     ≡ kept_step (floor_step (cond low (Some Compacted) (cond high (Some FutureRevision) None)) (with_floor s revision))
-taken_by s has revision true high is_low is_high = refl
-taken_by s has revision false true is_low is_high = refl
-taken_by s has revision false false is_low is_high =
-    ap done_with
-    (floor_kept s has revision (leb-false revision s.floor is_low) (ltb-false (now s.history) revision is_high))
+taken_by s has revision low high is_low is_high = grind (arith, nat_tests, floor_kept, leb-false, ltb-false)
 
 pub compacted_kept : (s : Standing) → HasKept s → (revision : ℕ) → compacted (kept s) revision ≡ kept_step (raised s revision)
-compacted_kept s has revision =
-    ap (λ (o : Option Refusal). floor_step o (kept (with_floor (kept s) revision))) (refusal_kept s has.reached revision)
-    ∙ taken_by s has revision (nat_le revision s.floor) (nat_lt (now s.history) revision) refl refl
+compacted_kept s has revision = grind (arith, nat_tests, taken_by, cut_is_alike)

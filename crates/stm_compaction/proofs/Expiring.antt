@@ -3,7 +3,7 @@ use Rattle.std.proofs.Common.{◌≡◌, inl, inr, ℕ, ◌≤◌, ◌<◌, zero
 use Rattle.std.proofs.Common.{ap, subst, arith, length-append, ◌+◌}
 use Rattle.std.specs.Prelude.{nat_lt, IsOk, Result, Ok, Err}
 use Rattle.std.specs.FinMap as finmap
-use Rattle.std.proofs.lemmas.Bool.{cases_lt, lt-ltb, le-ltb}
+use Rattle.std.proofs.lemmas.Bool.{cases_lt, lt-ltb, le-ltb, Decides.nat_tests}
 use Rattle.stm_leases.specs.DueFirst.{first_due}
 use Rattle.stm_outcome.specs.declared.advance.Expired.{Expired}
 use Rattle.stm_outcome.specs.declared.refusal.Refusal.{Refusal}
@@ -61,15 +61,11 @@ advanced_kept s reached moment = by_test (nat_lt moment s.moment)
 
 reach_ends : (more id : ℕ) (s : Standing) → HasReached s → (o : Result Standing Refusal) → first_due s.live s.moment ≡ Some id → ended s id ≡ o →
     ((next : Standing) → HasReached next → HasReached (expire_up_to more next).leaves) → HasReached (expire_up_to (suc more) s).leaves
-reach_ends more id s reached (Err cause) due is rest =
-    subst (λ (a : Advance). HasReached a.leaves) (sym (one_ended more id s (Err cause) due is)) reached
-reach_ends more id s reached (Ok next) due is rest =
-    subst (λ (a : Advance). HasReached a.leaves) (sym (one_ended more id s (Ok next) due is)) (rest next (ended_reaches s next id reached is))
+reach_ends more id s reached o due is rest = grind (arith, nat_tests, HasReached, one_ended, ended_reaches)
 
 reach_due : (more : ℕ) (s : Standing) → HasReached s → (due : Option ℕ) → first_due s.live s.moment ≡ due →
     ((next : Standing) → HasReached next → HasReached (expire_up_to more next).leaves) → HasReached (expire_up_to (suc more) s).leaves
-reach_due more s reached None is rest = subst (λ (a : Advance). HasReached a.leaves) (sym (none_due (suc more) s is)) reached
-reach_due more s reached (Some id) is rest = reach_ends more id s reached (ended s id) is refl rest
+reach_due more s reached due is rest = grind (arith, nat_tests, HasReached, none_due, reach_ends)
 
 expiries_reach : (many : ℕ) (s : Standing) → HasReached s → HasReached (expire_up_to many s).leaves
 expiries_reach zero s reached = reached
@@ -96,28 +92,10 @@ came_to s reached expired left come =
       come = λ i. record { expired = expiries i; leaves = a.leaves; cause = cause i };
     }
 
--- what is left after all that expired is what is left after as many
-front_ends : (more id : ℕ) (s : Standing) (o : Result Standing Refusal) → first_due s.live s.moment ≡ Some id → ended s id ≡ o →
-    ((next : Standing) → (expire_up_to (length (expire_up_to more next).expired) next).leaves ≡ (expire_up_to more next).leaves) →
-    (expire_up_to (length (expire_up_to (suc more) s).expired) s).leaves ≡ (expire_up_to (suc more) s).leaves
-front_ends more id s (Err cause) due is rest =
-    let whole : expire_up_to (suc more) s ≡ come_to [] s (Some cause) = one_ended more id s (Err cause) due is in
-    ap (λ (a : Advance). (expire_up_to (length a.expired) s).leaves) whole ∙ sym (ap (λ (a : Advance). a.leaves) whole)
-front_ends more id s (Ok next) due is rest =
-    let later : Advance = expire_up_to more next in
-    let whole : expire_up_to (suc more) s ≡ after (expired_in id next ∷ []) later = one_ended more id s (Ok next) due is in
-    ap (λ (a : Advance). (expire_up_to (length a.expired) s).leaves) whole
-    ∙ ap (λ (a : Advance). a.leaves) (one_ended (length later.expired) id s (Ok next) due is)
-    ∙ rest next
-    ∙ sym (ap (λ (a : Advance). a.leaves) whole)
-
 front_due : (more : ℕ) (s : Standing) (due : Option ℕ) → first_due s.live s.moment ≡ due →
     ((next : Standing) → (expire_up_to (length (expire_up_to more next).expired) next).leaves ≡ (expire_up_to more next).leaves) →
     (expire_up_to (length (expire_up_to (suc more) s).expired) s).leaves ≡ (expire_up_to (suc more) s).leaves
-front_due more s None is rest =
-    let whole : expire_up_to (suc more) s ≡ come_to [] s None = none_due (suc more) s is in
-    ap (λ (a : Advance). (expire_up_to (length a.expired) s).leaves) whole ∙ sym (ap (λ (a : Advance). a.leaves) whole)
-front_due more s (Some id) is rest = front_ends more id s (ended s id) is refl rest
+front_due more s due is rest = grind (arith, nat_tests, none_due, one_ended)
 
 front_leaves : (many : ℕ) (s : Standing) → (expire_up_to (length (expire_up_to many s).expired) s).leaves ≡ (expire_up_to many s).leaves
 front_leaves zero s = refl
@@ -133,8 +111,7 @@ rest_follows s whole (e ∷ es) come =
     ∙ ap (λ (x : Expired). after (x ∷ es) (expire_all whole)) one.named
 
 can_end_too : (o : Result Standing Refusal) → IsOk (kept_end o) → IsOk o
-can_end_too (Ok next) is = refl
-can_end_too (Err cause) is = absurd (cc)
+can_end_too o is = grind (arith, nat_tests)
 
 forward : (s : Standing) (moment : ℕ) → s.moment ≤ moment → advanced s moment ≡ expire_all (at_moment s moment)
 forward s moment on = ap (λ b. cond b (come_to [] s (Some TimeGoesBack)) (expire_all (at_moment s moment))) (le-ltb moment s.moment on)
@@ -146,15 +123,7 @@ module _ (s : Standing) (reached : HasReached s) (moment : ℕ) (expired : List 
   -- where all that expired left the kept store so, as much of the whole one's left that store
   whole_leaves : (c : CameTo (at_moment s moment) expired left) (cause : Option Refusal) →
       kept_advance (expire_all (at_moment s moment)) ≡ come_to expired left cause → expire_all (at_moment s moment) ≡ come_to expired c.whole cause
-  whole_leaves c cause same =
-      let a : Advance = expire_all (at_moment s moment) in
-      let expiries : a.expired ≡ expired = ap (λ (x : Advance). x.expired) same in
-      let reported : a.cause ≡ cause = ap (λ (x : Advance). x.cause) same in
-      let leaves : a.leaves ≡ c.whole =
-      sym (front_leaves (finmap.len s.live) (at_moment s moment))
-      ∙ ap (λ (es : List Expired). (expire_up_to (length es) (at_moment s moment)).leaves) expiries
-      ∙ ap (λ (x : Advance). x.leaves) c.come in
-      λ i. record { expired = expiries i; leaves = leaves i; cause = reported i }
+  whole_leaves c cause same = grind (arith, nat_tests, front_leaves)
 
   whole_stopped : (c : CameTo (at_moment s moment) expired left) (whole : Advance) → IsStopped whole expired left →
       IsStopped (expire_all (at_moment s moment)) expired c.whole
@@ -191,10 +160,7 @@ module _ (s : Standing) (reached : HasReached s) (moment : ℕ) (expired : List 
 
   went_back : (cause : Refusal) → moment < s.moment → IsCutShort (advanced (kept s) moment) expired cause left →
       come_to [] (kept s) (Some TimeGoesBack) ≡ come_to expired left (Some cause)
-  went_back cause back (inl is) = sym (backward (kept s) moment back) ∙ is
-  went_back cause back (inr stopped) =
-      absurd (never_stopped (ended left stopped.1.id) stopped.1.id stopped.1.is_next refl stopped.1.can_end
-      (sym (backward (kept s) moment back) ∙ stopped.1.so_far))
+  went_back cause back h3 = grind (arith, nat_tests, backward, never_stopped)
 
   pub cut_short_too : (cause : Refusal) → (s.moment ≤ moment → HasCome (at_moment (kept s) moment) expired left) →
       IsCutShort (advanced (kept s) moment) expired cause left → IsCutShortToo s moment expired cause left

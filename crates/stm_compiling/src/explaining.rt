@@ -13,7 +13,7 @@ use crate::habits::{
 };
 use crate::misfits::said_of_start;
 use crate::more_faults::{MOST_MORE, Rest};
-use crate::naming::{is_called, said_of_call, said_of_function, said_of_place};
+use crate::naming::{ANY_FUNCTION, is_called, said_of_call, said_of_function, said_of_place};
 use crate::other_kinds::{is_number, said_of_value};
 use crate::signs::{
     CHOICE, CONDITION, OTHER_TEXT, said_anywhere, said_in_program, said_of_colon, said_of_setting,
@@ -21,8 +21,8 @@ use crate::signs::{
 use crate::spots::{Event, Place, Spot, name_in, spot_at};
 use crate::titles::{let_below, near_name, said_of_names};
 use crate::wanted::{
-    EVENT_NOUN, EVENTS, OPTION_NOUN, STATEMENT, Wanted, allowed, is_behind_condition_word, nearest,
-    numbers_at, wanted_at,
+    EVENT_NOUN, EVENTS, FUNCTIONS, OPTION_NOUN, STATEMENT, Wanted, allowed,
+    is_behind_condition_word, nearest, numbers_at, wanted_at,
 };
 use serde_json::Value as Json;
 use std::alloc::{AllocError, Global};
@@ -406,7 +406,19 @@ fn said_of_name(source: &[u8], spot: Spot<'_>) -> &'static str {
     }
 }
 
-/// Where below a name is given that is none yet, or which one given above is nearest to it, in words; nothing where neither is.
+/// Which function is nearest to a name in the place of one, in words; nothing where none is, or the name is known from elsewhere.
+fn near_function(alloc: Global, source: &[u8], spot: Spot<'_>) -> Said {
+    let mut near = "";
+    if is_called(spot) && said_of_name(source, spot) == ANY_FUNCTION {
+        near = nearest(alloc, &FUNCTIONS, name_in(spot))?;
+    }
+    if near.is_empty() {
+        return Ok(String::new(alloc));
+    }
+    format!(in alloc; "; the nearest is {near}")
+}
+
+/// Where below a name is given that is none yet, or which one given above, or which function, is nearest to it, in words; nothing where neither is.
 fn near_words(alloc: Global, source: &[u8], spot: Spot<'_>) -> Said {
     if let Some(at) = let_below(alloc, name_in(spot), spot)? {
         let line = position_in(source, at).line;
@@ -414,7 +426,7 @@ fn near_words(alloc: Global, source: &[u8], spot: Spot<'_>) -> Said {
     }
     let near = near_name(alloc, name_in(spot), spot)?;
     if near.is_empty() {
-        return Ok(String::new(alloc));
+        return near_function(alloc, source, spot);
     }
     format!(in alloc; "; the nearest above is {near}")
 }

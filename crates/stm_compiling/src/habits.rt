@@ -13,6 +13,7 @@ pub(crate) fn said_of_word(word: &str) -> &'static str {
         "func" | "fn" | "def" => "a program is program NAME(PARAMETER, ..) { .. }",
         "switch" | "case" | "match" => "choices are if, else if and else",
         "elif" | "elsif" | "elseif" => "another choice is else if CONDITION { .. }",
+        "els" | "esle" => "the other choice of an if is else { .. }",
         "and" | "or" => "conditions are joined by && and ||",
         "not" => "a condition is turned round by !( .. )",
         "while" | "loop" | "range" =>
@@ -79,6 +80,7 @@ fn said_of_name(spot: Spot<'_>, name: &str) -> &'static str {
             "a runner that waits for a commit has after RUNNER committed"
         }
         (_, Some(Event::Start)) if is_level(name) => "a level stands behind at",
+        ("Snapshot" | "snapshot", _) => "the level is SerializableSnapshot",
         _ => "",
     }
 }
@@ -90,6 +92,9 @@ fn said_of_symbol(spot: Spot<'_>, symbol: Symbol) -> &'static str {
         Symbol::RightBrace | Symbol::RightParenthesis => "no bracket is open before it",
         Symbol::Arithmetic(Operator::Div) => "a comment begins with //",
         Symbol::Arithmetic(Operator::Sub) => "a name has letters, digits and _ alone",
+        Symbol::Comma if spot.is_behind(1, "grant") => {
+            "a time to live stands behind ttl: grant ID ttl SECONDS"
+        }
         Symbol::Comma if spot.event() == Some(Event::Step) => {
             "runners stand one behind another, without it"
         }

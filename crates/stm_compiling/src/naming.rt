@@ -7,6 +7,10 @@ use crate::wanted::is_behind_number_name;
 use stm_program::Operator;
 use stm_tokens::{Symbol, Token, TokenKind, Word};
 
+/// What is said of a function that is none.
+pub(crate) const ANY_FUNCTION: &str =
+    "the functions are get(KEY), rev(KEY), num_of(TEXT) and text_of(NUMBER)";
+
 /// What is said of a function that people know from elsewhere, by its name; nothing of others.
 fn said_of_known(name: &str) -> &'static str {
     match name {
@@ -55,7 +59,7 @@ fn said_of_known(name: &str) -> &'static str {
 pub(crate) fn said_of_function(name: &str) -> &'static str {
     let said = said_of_known(name);
     if said.is_empty() {
-        return "the functions are get(KEY), rev(KEY), num_of(TEXT) and text_of(NUMBER)";
+        return ANY_FUNCTION;
     }
     said
 }
@@ -125,6 +129,9 @@ fn said_in_event(spot: Spot<'_>) -> &'static str {
     }
     if is_of_a_program(spot) {
         return "cannot be given here: another one has this name, or it is one of v0 to v15";
+    }
+    if spot.is_behind(0, "watch") {
+        return "is no constant above: a watched key is a text in quotes, watch \"KEY\", or the name of one";
     }
     if spot.event() == Some(Event::Step) || is_awaited(spot) {
         return "is no runner above: a runner has the name that its start gives it by as NAME, or its number";

@@ -3,7 +3,7 @@
 use crate::calls::{is_listed, is_parameter};
 use crate::explaining::is_comparison;
 use crate::forms::form_in;
-use crate::spots::{Event, Place, Spot};
+use crate::spots::{Event, Place, Spot, name_in};
 use crate::wanted::is_behind_operator;
 use stm_tokens::{Operator, Symbol, TokenKind, Word};
 
@@ -51,13 +51,24 @@ fn is_in_get(spot: Spot<'_>) -> bool {
     }
 }
 
+/// What is said of a comparison in the parentheses of such a word.
+fn said_of_comparison(spot: Spot<'_>) -> &'static str {
+    if spot.is_before_a_block() {
+        "the ) before it is missing, as in get(KEY) == TEXT"
+    } else {
+        CONDITION
+    }
+}
+
 /// What is said of a symbol in parentheses; nothing of others.
 fn said_in_parentheses(spot: Spot<'_>) -> &'static str {
     if spot.place() != Place::Parentheses || spot.event() == Some(Event::Transaction) {
         return "";
     }
     match spot.kind() {
-        Some(TokenKind::Symbol(symbol)) if is_comparison(*symbol) && is_in_call(spot) => CONDITION,
+        Some(TokenKind::Symbol(symbol)) if is_comparison(*symbol) && is_in_call(spot) => {
+            said_of_comparison(spot)
+        }
         Some(TokenKind::Symbol(Symbol::Comma)) if is_in_get(spot) => {
             "a get has one key, and behind it may stand what the value \"\" counts as: get(KEY) else TEXT"
         }
@@ -126,8 +137,17 @@ fn is_behind_let(spot: Spot<'_>) -> bool {
         && spot.is_behind_word(3, Word::Let)
 }
 
+/// Whether a name stands behind a `let` that gives it and has no value.
+fn is_behind_its_let(spot: Spot<'_>) -> bool {
+    let name = name_in(spot);
+    !name.is_empty() && spot.is_behind(0, name) && spot.is_behind_word(1, Word::Let)
+}
+
 /// What is said of a symbol, a word or a name in a program, outside of parentheses; nothing of others.
 pub(crate) fn said_in_program(spot: Spot<'_>) -> &'static str {
+    if is_behind_its_let(spot) {
+        return "the let before it has no value: let NAME = VALUE";
+    }
     if is_behind_let(spot) && is_before_let(spot) {
         return "each variable has a let of its own";
     }

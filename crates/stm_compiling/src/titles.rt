@@ -193,6 +193,7 @@ pub fn unknown_in(alloc: Global, source: &[u8], name: &str) -> Result<Option<Str
 /// Whether a place is that of a runner.
 fn is_of_a_runner(spot: Spot<'_>) -> bool {
     match spot.place() {
+        Place::Events if spot.is_behind(0, "watch") => false,
         Place::Events => spot.event() == Some(Event::Step) || is_awaited(spot),
         _ => is_asked(spot),
     }

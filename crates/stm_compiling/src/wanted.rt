@@ -8,7 +8,7 @@ use std::alloc::{AllocError, Global};
 use stm_explain::Said;
 use stm_program::Operator;
 use stm_tokens::{Symbol, TokenKind, Word};
-use strsim::levenshtein;
+use strsim::osa_distance;
 
 /// A word of more bytes than this has no near miss.
 const MOST_NEAR: usize = 60;
@@ -37,6 +37,9 @@ pub(crate) const OPTION_NOUN: &str = "event, and nothing of a start";
 pub(crate) const STATEMENT: &str = "statement";
 
 const STATEMENTS: [&str; 8] = ["put", "del", "emit", "abort", "let", "if", "for", "return"];
+
+/// The words behind which the parentheses of a value stand.
+pub(crate) const FUNCTIONS: [&str; 4] = ["get", "rev", "num_of", "text_of"];
 
 const OPERATIONS: [&str; 3] = ["put", "get", "del"];
 
@@ -403,7 +406,7 @@ pub(crate) fn numbers_at(spot: Spot<'_>) -> &'static str {
     }
 }
 
-/// The word of these that is nearest to one, by edits of characters: an empty one, where each is further than half of the word.
+/// The word of these that is nearest to one, by edits of characters and exchanges of two neighbours: an empty one, where each is further than half of the word.
 pub(crate) fn nearest<'a>(
     alloc: Global,
     words: &[&'a str],
@@ -415,7 +418,7 @@ pub(crate) fn nearest<'a>(
     }
     let mut least = word.chars().count() / 2 + 1;
     for known in words {
-        let distance = levenshtein(alloc, word, known)?;
+        let distance = osa_distance(alloc, word, known)?;
         if distance < least {
             least = distance;
             found = *known;

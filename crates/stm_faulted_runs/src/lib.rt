@@ -9,6 +9,7 @@ mod events;
 mod following;
 mod jobs;
 pub mod laws;
+mod leases;
 mod lines;
 mod places;
 mod reads;
@@ -19,6 +20,7 @@ mod said;
 mod scripts;
 
 pub use jobs::{FaultedJob, jobs_explained};
+pub use leases::leases_explained;
 pub use rules::{fault_on, rule_explained, rule_reason};
 pub use said::said_of;
 pub use scripts::{Named, faults_explained};

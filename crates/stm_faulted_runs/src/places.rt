@@ -37,7 +37,7 @@ fn push_step(alloc: Global, text: &mut String, index: usize) -> Result<(), Alloc
 }
 
 /// The JSON Pointer of these indices.
-fn pointer_of(alloc: Global, steps: &[usize]) -> Said
+pub(crate) fn pointer_of(alloc: Global, steps: &[usize]) -> Said
     ensures { IfOk result (λ p. string_bytes p ≡ pointer steps.now) }
 {
     let mut text = String::new(alloc);

@@ -25,10 +25,14 @@ known_words most h key mod_rev revision =
     if nat_eq mod_rev 0 then codes "absent"
     else (if nat_lt revision h.opening.number then joined (codes "@" ∷ decimal mod_rev ∷ []) else state_words most (state_by h key revision))
 
+-- the lease that a key is on, where it is on one
+abbrev pub lease_words : ℕ → List ℕ
+lease_words lease = if nat_eq lease 0 then [] else joined (codes " on lease " ∷ decimal lease ∷ [])
+
 -- ---- what a revision changed
 
 abbrev pub change_words : Cuts → Event → List ℕ
-change_words cuts (Put key state) = joined (key_words cuts key ∷ codes " = \"" ∷ shown cuts.value state.value ∷ codes "\"" ∷ [])
+change_words cuts (Put key state) = joined (key_words cuts key ∷ codes " = \"" ∷ shown cuts.value state.value ∷ codes "\"" ∷ lease_words state.lease ∷ [])
 change_words cuts (Delete key revision) = joined (key_words cuts key ∷ codes " deleted" ∷ [])
 
 -- what stands before a change after that many

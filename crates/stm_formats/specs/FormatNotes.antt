@@ -12,13 +12,15 @@ use Rattle.stm_formats.specs.declared.format_notes.TheConstants.{MOST_KEY_NOTES}
 use Rattle.stm_formats.specs.declared.format_label.RunnerLabel.{RunnerLabel}
 use Rattle.stm_formats.specs.FormatShown.{plain, shown}
 use Rattle.stm_formats.specs.FormatPieces.{joined}
+use Rattle.stm_formats.specs.FormatChanges.{lease_words}
 use Rattle.stm_formats.specs.FormatLabels.{runner_words}
 
 -- ---- the keys that are present
 
--- a key with its value, and the revision of its last change
+-- a key with its value, the revision of its last change, and the lease that it is on
 abbrev pub key_note : ℕ → List ℕ → KeyState → List ℕ
-key_note most key state = joined (codes "key " ∷ plain key ∷ codes " = \"" ∷ shown most state.value ∷ codes "\" @" ∷ decimal state.mod_rev ∷ [])
+key_note most key state =
+    joined (codes "key " ∷ plain key ∷ codes " = \"" ∷ shown most state.value ∷ codes "\" @" ∷ decimal state.mod_rev ∷ lease_words state.lease ∷ [])
 
 -- where it changed above a revision
 abbrev pub notes_of_key : ℕ → ℕ → List ℕ → Option KeyState → List (List ℕ)

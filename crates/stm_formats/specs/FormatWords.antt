@@ -1,8 +1,9 @@
 -- What a row says of an event and its reply. A revision comes after `@`, 0 where the key is absent.
-use Rattle.std.specs.Prelude.{ℕ, suc, List, [], ◌∷◌, ◌++◌, length, nat_eq, nat_lt, Bool, if◌then◌else◌, Option, None, Some, Result, Ok, Err, codes, decimal}
+use Rattle.std.specs.Prelude.{ℕ, suc, List, [], ◌∷◌, ◌++◌, length, nat_eq, nat_lt, nat_le, Bool, if◌then◌else◌, Option, None, Some, Result, Ok, Err, codes, decimal}
 use Rattle.stm_history.specs.History.{History}
 use Rattle.stm_program.specs.Syntax.{ProgramTree}
 use Rattle.stm_meaning.specs.Faults.{fault_name}
+use Rattle.stm_outcome.specs.declared.advance.Expired.{Expired}
 use Rattle.stm_events.specs.declared.event.WorldEvent.{WorldEvent}
 use Rattle.stm_events.specs.declared.event.WorldEvent.TheVariants as event
 use Rattle.stm_events.specs.declared.reply.Reply.{Reply}
@@ -23,6 +24,7 @@ use Rattle.stm_formats.specs.FormatKeys.{key_words}
 use Rattle.stm_formats.specs.FormatPieces.{joined}
 use Rattle.stm_formats.specs.FormatLabels.{program_of}
 use Rattle.stm_formats.specs.FormatSource.{source_words, program_words, compare_words}
+use Rattle.stm_formats.specs.FormatOutput.{emitted_words}
 use Rattle.stm_formats.specs.FormatChanges.{known_words, between, changes_after, changed_since}
 
 -- a word and the number or the text that it is about
@@ -84,8 +86,12 @@ listed_words cuts h revision reads = joined (codes "read the list" ∷ reads_aft
 abbrev pub attempt_words : ℕ → List ℕ
 attempt_words attempts = if nat_eq attempts 1 then [] else joined (codes ", attempt " ∷ decimal attempts ∷ [])
 
-abbrev pub commit_words : ℕ → ℕ → List ℕ
-commit_words revision attempts = joined (codes "COMMIT @" ∷ decimal revision ∷ attempt_words attempts ∷ [])
+-- Where the store's revision after a commit is not above that before it, the commit changed no key.
+abbrev pub commit_word : ℕ → ℕ → List ℕ
+commit_word before revision = if nat_le revision before then codes "COMMIT, no change, at @" else codes "COMMIT @"
+
+abbrev pub commit_words : ℕ → ℕ → ℕ → List ℕ
+commit_words before revision attempts = joined (commit_word before revision ∷ decimal revision ∷ attempt_words attempts ∷ [])
 
 -- what a failed compare was about: the key, what was seen of it, and what it is now
 abbrev pub compared_words : Cuts → History → List ℕ → List ℕ → ℕ → ℕ → List ℕ
@@ -111,8 +117,42 @@ txn_words most event succeeded revision = joined (codes "txn " ∷ failed_word s
 abbrev pub revoked_words : ℕ → ℕ → List ℕ
 revoked_words id revision = joined (codes "revoke " ∷ decimal id ∷ codes " @" ∷ decimal revision ∷ [])
 
-abbrev pub advanced_words : ℕ → ℕ → List ℕ
-advanced_words now expired = joined (codes "advance to " ∷ decimal now ∷ codes ", " ∷ decimal expired ∷ codes " expired" ∷ [])
+-- a grant of a lease for that many seconds, as a source has it
+abbrev pub grant_words : ℕ → ℕ → List ℕ
+grant_words id ttl = joined (codes "grant " ∷ decimal id ∷ codes " ttl " ∷ decimal ttl ∷ [])
+
+-- what was asked for
+abbrev pub asked_words : WorldEvent → List ℕ
+asked_words (event.Start program level limit) = codes "start"
+asked_words (event.Step runner) = codes "step"
+asked_words (event.Txn txn) = codes "txn"
+asked_words (event.Grant id ttl) = grant_words id ttl
+asked_words (event.Keep id) = named_words (codes "keep") id
+asked_words (event.Revoke id) = named_words (codes "revoke") id
+asked_words (event.Advance now) = named_words (codes "advance to") now
+asked_words (event.Compact revision) = changed_words (codes "compact") revision
+asked_words (event.WatchKey key from) = codes "watch"
+asked_words (event.WatchRange first end from) = codes "watch"
+asked_words (event.Poll watcher most) = named_words (codes "poll") watcher
+asked_words (event.Cancel watcher) = named_words (codes "cancel") watcher
+
+-- what stands before a lease that ended after that many
+abbrev pub lease_after : ℕ → List ℕ
+lease_after count = if nat_eq count 0 then codes ": lease " else codes ", lease "
+
+-- a lease that ended after that many, and the revision after it: of more than are shown only that there are more
+abbrev pub counted_end : ℕ → Expired → List ℕ
+counted_end count lease =
+    if nat_lt count MOST_CHANGES then joined (lease_after count ∷ decimal lease.id ∷ codes " ended @" ∷ decimal lease.revision ∷ [])
+    else (if nat_eq count MOST_CHANGES then codes ", .." else [])
+
+-- the leases that ended after that many
+abbrev pub ends_after : ℕ → List Expired → List ℕ
+ends_after count [] = []
+ends_after count (lease ∷ expired) = counted_end count lease ++ ends_after (suc count) expired
+
+abbrev pub advanced_words : ℕ → List Expired → List ℕ
+advanced_words now expired = joined (codes "advance to " ∷ decimal now ∷ ends_after 0 expired ∷ [])
 
 -- from which revision on is watched, where that is said
 abbrev pub from_words : ℕ → List ℕ
@@ -140,49 +180,36 @@ batch_words cuts watcher upto events =
 abbrev pub lost_words : ℕ → ℕ → List ℕ
 lost_words watcher floor = joined (codes "LOST watcher " ∷ decimal watcher ∷ codes ": kept from @" ∷ decimal floor ∷ [])
 
-abbrev pub reply_words : Cuts → List RunnerLabel → History → WorldEvent → Reply → List ℕ
-reply_words cuts labels h event (Started runner) = start_words cuts.value labels runner event
-reply_words cuts labels h event (Prefetched runner revision reads) = listed_words cuts h revision reads
-reply_words cuts labels h event (Fetched runner key mod_rev of_rev revision) = fetched_words cuts h key mod_rev of_rev revision
-reply_words cuts labels h event (Committed runner revision attempts output trace answers) = commit_words revision attempts
-reply_words cuts labels h event (Conflict runner key seen now) = compared_words cuts h (codes "CONFLICT") key seen now
-reply_words cuts labels h event (GaveUp runner attempts key seen now) = compared_words cuts h (codes "GAVE UP") key seen now
-reply_words cuts labels h event (Aborted runner text) = reported_words cuts.value (codes "ABORT") text
-reply_words cuts labels h event (Faulted runner fault) = reported_words cuts.value (codes "FAULT") (fault_name fault)
-reply_words cuts labels h event (Ended runner cause) = reported_words cuts.value (codes "ENDED") (refusal_name cause)
-reply_words cuts labels h event (Txn succeeded revision answers) = txn_words cuts.value event succeeded revision
-reply_words cuts labels h event (Granted id) = named_words (codes "grant") id
-reply_words cuts labels h event (Kept id) = named_words (codes "keep") id
-reply_words cuts labels h event (Revoked id revision) = revoked_words id revision
-reply_words cuts labels h event (Advanced now expired) = advanced_words now (length expired)
-reply_words cuts labels h event (Compacted revision) = changed_words (codes "compact") revision
-reply_words cuts labels h event (Watching watcher) = watch_words cuts watcher event
-reply_words cuts labels h event (Batch watcher upto events) = batch_words cuts watcher upto events
-reply_words cuts labels h event (Lost watcher floor) = lost_words watcher floor
-reply_words cuts labels h event (Cancelled watcher) = named_words (codes "cancel") watcher
-
--- what was asked for
-abbrev pub asked_word : WorldEvent → List ℕ
-asked_word (event.Start program level limit) = codes "start"
-asked_word (event.Step runner) = codes "step"
-asked_word (event.Txn txn) = codes "txn"
-asked_word (event.Grant id ttl) = codes "grant"
-asked_word (event.Keep id) = codes "keep"
-asked_word (event.Revoke id) = codes "revoke"
-asked_word (event.Advance now) = codes "advance"
-asked_word (event.Compact revision) = codes "compact"
-asked_word (event.WatchKey key from) = codes "watch"
-asked_word (event.WatchRange first end from) = codes "watch"
-asked_word (event.Poll watcher most) = codes "poll"
-asked_word (event.Cancel watcher) = codes "cancel"
+-- the words of an event that was taken, before which the store was at a revision
+abbrev pub reply_words : Cuts → List RunnerLabel → History → ℕ → WorldEvent → Reply → List ℕ
+reply_words cuts labels h before event (Started runner) = start_words cuts.value labels runner event
+reply_words cuts labels h before event (Prefetched runner revision reads) = listed_words cuts h revision reads
+reply_words cuts labels h before event (Fetched runner key mod_rev of_rev revision) = fetched_words cuts h key mod_rev of_rev revision
+reply_words cuts labels h before event (Committed runner revision attempts output trace answers) = commit_words before revision attempts
+reply_words cuts labels h before event (Conflict runner key seen now) = compared_words cuts h (codes "CONFLICT") key seen now
+reply_words cuts labels h before event (GaveUp runner attempts key seen now) = compared_words cuts h (codes "GAVE UP") key seen now
+reply_words cuts labels h before event (Aborted runner text) = reported_words cuts.value (codes "ABORT") text
+reply_words cuts labels h before event (Faulted runner fault) = reported_words cuts.value (codes "FAULT") (fault_name fault)
+reply_words cuts labels h before event (Ended runner cause) = reported_words cuts.value (codes "ENDED") (refusal_name cause)
+reply_words cuts labels h before event (Txn succeeded revision answers) = txn_words cuts.value event succeeded revision
+reply_words cuts labels h before event (Granted id) = asked_words event
+reply_words cuts labels h before event (Kept id) = named_words (codes "keep") id
+reply_words cuts labels h before event (Revoked id revision) = revoked_words id revision
+reply_words cuts labels h before event (Advanced now expired) = advanced_words now expired
+reply_words cuts labels h before event (Compacted revision) = changed_words (codes "compact") revision
+reply_words cuts labels h before event (Watching watcher) = watch_words cuts watcher event
+reply_words cuts labels h before event (Batch watcher upto events) = batch_words cuts watcher upto events
+reply_words cuts labels h before event (Lost watcher floor) = lost_words watcher floor
+reply_words cuts labels h before event (Cancelled watcher) = named_words (codes "cancel") watcher
 
 abbrev pub refused_words : ℕ → WorldEvent → EventRefusal → List ℕ
-refused_words most event cause = joined (codes "REFUSED " ∷ asked_word event ∷ codes ": " ∷ shown most (refusal_name cause) ∷ [])
+refused_words most event cause = joined (codes "REFUSED " ∷ asked_words event ∷ codes ": " ∷ shown most (refusal_name cause) ∷ [])
 
-abbrev pub told_words : Cuts → List RunnerLabel → History → WorldEvent → Result Reply Denied → List ℕ
-told_words cuts labels h event (Ok reply) = reply_words cuts labels h event reply
-told_words cuts labels h event (Err denied) = refused_words cuts.value event denied.cause
+abbrev pub told_words : Cuts → List RunnerLabel → History → ℕ → WorldEvent → Result Reply Denied → List ℕ
+told_words cuts labels h before event (Ok reply) = reply_words cuts labels h before event reply
+told_words cuts labels h before event (Err denied) = refused_words cuts.value event denied.cause
 
--- what a row says of an event before which the store was at a revision: of its reply, and what it changed
+-- what a row says of an event before which the store was at a revision: of its reply, what it changed, and what was emitted
 abbrev pub words_of : Cuts → List RunnerLabel → History → ℕ → WorldEvent → Result Reply Denied → List ℕ
-words_of cuts labels h before event reply = joined (told_words cuts labels h event reply ∷ changed_since cuts h before (counter_after before reply) ∷ [])
+words_of cuts labels h before event reply =
+    joined (told_words cuts labels h before event reply ∷ changed_since cuts h before (counter_after before reply) ∷ emitted_words cuts.value reply ∷ [])

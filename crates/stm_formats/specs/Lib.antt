@@ -6,6 +6,7 @@ pub mod FormatSource
 pub mod FormatKeys
 pub mod FormatChanges
 pub mod FormatReasons
+pub mod FormatOutput
 pub mod FormatWords
 pub mod FormatRows
 pub mod FormatColumns

@@ -1,6 +1,6 @@
 //! What a key is, and what a revision changed, as words.
 ghost use Rattle.std.specs.Prelude.{◌≡◌, ◌++◌, [], nat_eq, codes, if◌then◌else◌, option_copied, IfOk, OnOk};
-ghost use Rattle.stm_formats.specs.FormatChanges.{state_words, known_words, change_words, between, counted_change, changes_after, revision_words, changed_since};
+ghost use Rattle.stm_formats.specs.FormatChanges.{state_words, known_words, lease_words, change_words, between, counted_change, changes_after, revision_words, changed_since};
 
 use crate::format_keys::{Cuts, key_words};
 use crate::format_pieces::{Piece, push_pieces, said};
@@ -10,7 +10,7 @@ use stm_history::{KeyState, Sequence};
 use stm_keys::Keys;
 use stm_reasons::state_by;
 
-/// So many changes of a revision, or keys of a list, are shown.
+/// So many changes of a revision, keys of a list, or leases that ended are shown.
 pub(crate) const MOST_CHANGES: u64 = 3;
 
 /// The words of a key that was looked up.
@@ -55,6 +55,16 @@ pub(crate) fn known_words(
     state_words(alloc, most, state_by(keys, key, revision))
 }
 
+/// The words for the lease that a key is on, where it is on one.
+pub(crate) fn lease_words(alloc: Global, lease: u64) -> Result<Sequence<u8>, AllocError>
+    ensures { IfOk result (λ words. words ≡ lease_words lease) }
+{
+    if lease == 0 {
+        return Ok(Sequence::new(alloc));
+    }
+    said(alloc, &[Piece::Say(" on lease "), Piece::Number(lease)])
+}
+
 /// The words of a change.
 fn change_words(alloc: Global, cuts: &Cuts, event: &Event) -> Result<Sequence<u8>, AllocError>
     ensures { IfOk result (λ words. words ≡ change_words cuts.now event.now) }
@@ -62,10 +72,12 @@ fn change_words(alloc: Global, cuts: &Cuts, event: &Event) -> Result<Sequence<u8
     match event {
         Event::Put { key, state } => {
             let mut words = key_words(alloc, cuts, key.as_str())?.into_vec();
+            let lease = lease_words(alloc, state.lease)?;
             let pieces = [
                 Piece::Say(" = \""),
                 Piece::Shown(cuts.value, state.value.as_str()),
                 Piece::Say("\""),
+                Piece::Raw(lease.as_slice()),
             ];
             push_pieces(&mut words, &pieces)?;
             Ok(Sequence::of(words))

@@ -4,6 +4,7 @@ ghost use Rattle.stm_history.specs.History.{key_now};
 ghost use Rattle.stm_formats.specs.FormatNotes.{key_note, notes_of_key, key_notes, is_start, set_up, noted_above, left_out_note, left_out_notes, noted_keys_above, noted_keys, ended_by, ended_after, unfinished_notes};
 ghost use Rattle.stm_formats.specs.FormatNotes.{end_note, notes_of};
 
+use crate::format_changes::lease_words;
 use crate::format_label::{RunnerLabel, runner_words};
 use crate::format_pieces::{Piece, said};
 use std::alloc::{AllocError, Global};
@@ -24,6 +25,7 @@ fn key_note<'a>(
 ) -> Result<Sequence<u8>, AllocError>
     ensures { IfOk result (λ note. note ≡ key_note most key.now state.now) }
 {
+    let lease = lease_words(alloc, state.lease)?;
     let pieces = [
         Piece::Say("key "),
         Piece::Key(key),
@@ -31,6 +33,7 @@ fn key_note<'a>(
         Piece::Shown(most, state.value.as_str()),
         Piece::Say("\" @"),
         Piece::Number(state.mod_rev),
+        Piece::Raw(lease.as_slice()),
     ];
     said(alloc, &pieces)
 }

@@ -2,18 +2,19 @@
 ghost use Rattle.std.specs.Prelude.{◌≡◌, ◌++◌, [], ◌∷◌, codes, option_map, IfOk, OnOk};
 ghost use Rattle.stm_texts.specs.Grammar.{level_text};
 ghost use Rattle.stm_formats.specs.FormatWords.{named_words, reported_words, changed_words, called_words, start_words, link, seen_words, as_of, fetched_words, counted_read};
-ghost use Rattle.stm_formats.specs.FormatWords.{reads_after, listed_words, attempt_words, commit_words, compared_words, compared_by, failed_word, at_words, txn_words, revoked_words};
+ghost use Rattle.stm_formats.specs.FormatWords.{reads_after, listed_words, attempt_words, commit_word, commit_words, compared_words, compared_by, failed_word, at_words, txn_words, revoked_words};
 ghost use Rattle.stm_formats.specs.FormatKeys.{key_words};
 ghost use Rattle.stm_formats.specs.FormatPieces.{joined};
-ghost use Rattle.stm_formats.specs.FormatWords.{advanced_words, from_words, watched_words, watch_words, events_word, batch_words, lost_words, reply_words, asked_word, refused_words, told_words, words_of};
+ghost use Rattle.stm_formats.specs.FormatWords.{lease_after, counted_end, ends_after, advanced_words, from_words, watched_words, watch_words, events_word, batch_words, lost_words, reply_words, grant_words, asked_words, refused_words, told_words, words_of};
 
 use crate::format_changes::{MOST_CHANGES, between, changed_since, changes_words, known_words};
 use crate::format_keys::{Cuts, key_words};
 use crate::format_label::{RunnerLabel, program_of};
+use crate::format_output::emitted_words;
 use crate::format_pieces::{Piece, push_pieces, said};
 use crate::format_source::{compare_words, program_words, source_words};
 use std::alloc::{AllocError, Global};
-use stm_events::{Event, EventRefusal, KeyRead};
+use stm_events::{Event, EventRefusal, Expired, KeyRead};
 use stm_history::Sequence;
 use stm_keys::Keys;
 use stm_program::{Level, Program};
@@ -243,13 +244,29 @@ fn attempt_words(alloc: Global, attempts: u64) -> Result<Sequence<u8>, AllocErro
     said(alloc, &[Piece::Say(", attempt "), Piece::Number(attempts)])
 }
 
-/// The words of a commit.
-fn committed(alloc: Global, revision: u64, attempts: u64) -> Result<Sequence<u8>, AllocError>
-    ensures { IfOk result (λ words. words ≡ commit_words revision attempts) }
+/// What stands before the revision after a commit: that it changed nothing, where the store was at that revision before it.
+fn commit_word(before: u64, revision: u64) -> &'static str
+    ensures { result.now ≡ commit_word before revision }
+{
+    if revision <= before {
+        "COMMIT, no change, at @"
+    } else {
+        "COMMIT @"
+    }
+}
+
+/// The words of a commit, before which the store was at a revision.
+fn committed(
+    alloc: Global,
+    before: u64,
+    revision: u64,
+    attempts: u64,
+) -> Result<Sequence<u8>, AllocError>
+    ensures { IfOk result (λ words. words ≡ commit_words before revision attempts) }
 {
     let attempt = attempt_words(alloc, attempts)?;
     let pieces = [
-        Piece::Say("COMMIT @"),
+        Piece::Say(commit_word(before, revision)),
         Piece::Number(revision),
         Piece::Raw(attempt.as_slice()),
     ];
@@ -341,16 +358,85 @@ fn revoked(alloc: Global, id: u64, revision: u64) -> Result<Sequence<u8>, AllocE
     said(alloc, &pieces)
 }
 
-/// The words of an advance.
-fn advanced(alloc: Global, now: u64, expired: u64) -> Result<Sequence<u8>, AllocError>
-    ensures { IfOk result (λ words. words ≡ advanced_words now expired) }
+/// The words of a grant of a lease, as a source has it.
+fn grant_words(alloc: Global, id: u64, ttl: u64) -> Result<Sequence<u8>, AllocError>
+    ensures { IfOk result (λ words. words ≡ grant_words id ttl) }
 {
+    let pieces = [
+        Piece::Say("grant "),
+        Piece::Number(id),
+        Piece::Say(" ttl "),
+        Piece::Number(ttl),
+    ];
+    said(alloc, &pieces)
+}
+
+/// What an event asked for.
+fn asked_words(alloc: Global, event: &WorldEvent) -> Result<Sequence<u8>, AllocError>
+    ensures { IfOk result (λ words. words ≡ asked_words event.now) }
+{
+    match event {
+        WorldEvent::Start { .. } => said(alloc, &[Piece::Say("start")]),
+        WorldEvent::Step { .. } => said(alloc, &[Piece::Say("step")]),
+        WorldEvent::Txn { .. } => said(alloc, &[Piece::Say("txn")]),
+        WorldEvent::Grant { id, ttl } => grant_words(alloc, *id, *ttl),
+        WorldEvent::Keep { id } => named(alloc, "keep", *id),
+        WorldEvent::Revoke { id } => named(alloc, "revoke", *id),
+        WorldEvent::Advance { now } => named(alloc, "advance to", *now),
+        WorldEvent::Compact { revision } => changed(alloc, "compact", *revision),
+        WorldEvent::WatchKey { .. } => said(alloc, &[Piece::Say("watch")]),
+        WorldEvent::WatchRange { .. } => said(alloc, &[Piece::Say("watch")]),
+        WorldEvent::Poll { watcher, .. } => named(alloc, "poll", *watcher),
+        WorldEvent::Cancel { watcher } => named(alloc, "cancel", *watcher),
+    }
+}
+
+/// What stands before a lease that ended after so many.
+fn lease_after(count: u64) -> &'static str
+    ensures { result.now ≡ lease_after count }
+{
+    if count == 0 { ": lease " } else { ", lease " }
+}
+
+/// Adds a lease that ended after so many.
+fn push_end(out: &mut Vec<u8>, count: u64, lease: Expired) -> Result<(), AllocError>
+    ensures { OnOk result (out.new.items ≡ out.old.items ++ counted_end count lease) }
+{
+    if count < MOST_CHANGES {
+        let pieces = [
+            Piece::Say(lease_after(count)),
+            Piece::Number(lease.id),
+            Piece::Say(" ended @"),
+            Piece::Number(lease.revision),
+        ];
+        return push_pieces(out, &pieces);
+    }
+    if count == MOST_CHANGES {
+        return out.extend_from_slice(b", ..");
+    }
+    Ok(())
+}
+
+/// The words of leases that ended.
+fn ends_words(alloc: Global, expired: &[Expired]) -> Result<Vec<u8>, AllocError>
+    ensures { IfOk result (λ words. words.items ≡ ends_after 0 expired.now) }
+{
+    let mut out = Vec::new(alloc);
+    for (count, lease) in expired.iter().enumerate() {
+        push_end(&mut out, count as u64, *lease)?;
+    }
+    Ok(out)
+}
+
+/// The words of an advance.
+fn advanced(alloc: Global, now: u64, expired: &[Expired]) -> Result<Sequence<u8>, AllocError>
+    ensures { IfOk result (λ words. words ≡ advanced_words now expired.now) }
+{
+    let ended = ends_words(alloc, expired)?;
     let pieces = [
         Piece::Say("advance to "),
         Piece::Number(now),
-        Piece::Say(", "),
-        Piece::Number(expired),
-        Piece::Say(" expired"),
+        Piece::Raw(ended.as_slice()),
     ];
     said(alloc, &pieces)
 }
@@ -484,16 +570,17 @@ fn lost(alloc: Global, watcher: u64, floor: u64) -> Result<Sequence<u8>, AllocEr
     said(alloc, &pieces)
 }
 
-/// The words of an event that was taken.
+/// The words of an event that was taken, before which the store was at a revision.
 fn taken_words(
     alloc: Global,
     cuts: &Cuts,
     labels: &[RunnerLabel],
     keys: &Keys,
+    before: u64,
     event: &WorldEvent,
     reply: &Reply,
 ) -> Result<Sequence<u8>, AllocError>
-    ensures { IfOk result (λ words. words ≡ reply_words cuts.now labels.now keys.now.history event.now reply.now) }
+    ensures { IfOk result (λ words. words ≡ reply_words cuts.now labels.now keys.now.history before event.now reply.now) }
 {
     match reply {
         Reply::Started { runner } => started(alloc, cuts.value, labels, *runner, event),
@@ -521,7 +608,7 @@ fn taken_words(
             revision,
             attempts,
             ..
-        } => committed(alloc, *revision, *attempts),
+        } => committed(alloc, before, *revision, *attempts),
         Reply::Conflict { key, seen, now, .. } => {
             compared(alloc, cuts, keys, "CONFLICT", key.as_str(), *seen, *now)
         }
@@ -536,10 +623,10 @@ fn taken_words(
             revision,
             ..
         } => transacted(alloc, cuts.value, event, *succeeded, *revision),
-        Reply::Granted { id } => named(alloc, "grant", *id),
+        Reply::Granted { .. } => asked_words(alloc, event),
         Reply::Kept { id } => named(alloc, "keep", *id),
         Reply::Revoked { id, revision } => revoked(alloc, *id, *revision),
-        Reply::Advanced { now, expired } => advanced(alloc, *now, expired.len() as u64),
+        Reply::Advanced { now, expired } => advanced(alloc, *now, expired.as_slice()),
         Reply::Compacted { revision } => changed(alloc, "compact", *revision),
         Reply::Watching { watcher } => watching(alloc, cuts, *watcher, event),
         Reply::Batch {
@@ -552,26 +639,6 @@ fn taken_words(
     }
 }
 
-/// What an event asked for.
-fn asked_word(event: &WorldEvent) -> &'static str
-    ensures { result.now ≡ asked_word event.now }
-{
-    match event {
-        WorldEvent::Start { .. } => "start",
-        WorldEvent::Step { .. } => "step",
-        WorldEvent::Txn { .. } => "txn",
-        WorldEvent::Grant { .. } => "grant",
-        WorldEvent::Keep { .. } => "keep",
-        WorldEvent::Revoke { .. } => "revoke",
-        WorldEvent::Advance { .. } => "advance",
-        WorldEvent::Compact { .. } => "compact",
-        WorldEvent::WatchKey { .. } => "watch",
-        WorldEvent::WatchRange { .. } => "watch",
-        WorldEvent::Poll { .. } => "poll",
-        WorldEvent::Cancel { .. } => "cancel",
-    }
-}
-
 /// The words of an event that was refused.
 fn refused(
     alloc: Global,
@@ -581,9 +648,10 @@ fn refused(
 ) -> Result<Sequence<u8>, AllocError>
     ensures { IfOk result (λ words. words ≡ refused_words most event.now cause) }
 {
+    let asked = asked_words(alloc, event)?;
     let pieces = [
         Piece::Say("REFUSED "),
-        Piece::Say(asked_word(event)),
+        Piece::Raw(asked.as_slice()),
         Piece::Say(": "),
         Piece::Shown(most, cause.name()),
     ];
@@ -596,19 +664,20 @@ fn told_words(
     cuts: &Cuts,
     labels: &[RunnerLabel],
     keys: &Keys,
+    before: u64,
     event: &WorldEvent,
     reply: &Result<Reply, Denied>,
 ) -> Result<Sequence<u8>, AllocError>
-    ensures { IfOk result (λ words. words ≡ told_words cuts.now labels.now keys.now.history event.now reply.now) }
+    ensures { IfOk result (λ words. words ≡ told_words cuts.now labels.now keys.now.history before event.now reply.now) }
 {
     match reply {
-        Ok(reply) => taken_words(alloc, cuts, labels, keys, event, reply),
+        Ok(reply) => taken_words(alloc, cuts, labels, keys, before, event, reply),
         Err(denied) => refused(alloc, cuts.value, event, denied.cause),
     }
 }
 
-/// What a row says of an event before which the store was at a revision: of its reply, and what it changed. The keys are those of the store since. It fails
-/// where a growth was refused.
+/// What a row says of an event before which the store was at a revision: of its reply, what it changed, and what was emitted. The keys are those of the
+/// store since. It fails where a growth was refused.
 pub(crate) fn words_of(
     alloc: Global,
     cuts: &Cuts,
@@ -620,10 +689,13 @@ pub(crate) fn words_of(
 ) -> Result<Sequence<u8>, AllocError>
     ensures { IfOk result (λ words. words ≡ words_of cuts.now labels.now keys.now.history before event.now reply.now) }
 {
-    let told = told_words(alloc, cuts, labels, keys, event, reply)?;
+    let told = told_words(alloc, cuts, labels, keys, before, event, reply)?;
     let changed = changed_since(alloc, cuts, keys, before, counter_after(before, reply))?;
-    said(
-        alloc,
-        &[Piece::Raw(told.as_slice()), Piece::Raw(changed.as_slice())],
-    )
+    let emitted = emitted_words(alloc, cuts.value, reply)?;
+    let pieces = [
+        Piece::Raw(told.as_slice()),
+        Piece::Raw(changed.as_slice()),
+        Piece::Raw(emitted.as_slice()),
+    ];
+    said(alloc, &pieces)
 }

@@ -11,6 +11,7 @@ mod format_html;
 mod format_keys;
 mod format_label;
 mod format_notes;
+mod format_output;
 mod format_page;
 mod format_pieces;
 mod format_reasons;

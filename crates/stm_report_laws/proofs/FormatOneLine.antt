@@ -1,9 +1,9 @@
 -- The words of a row have no line feed, and so each row is one line.
-use Rattle.std.proofs.Common.{◌≡◌, ℕ, zero, suc, pred, ◌+◌, ◌-◌, ◌/◌, ◌%◌, Bool, true, false, cond, ◌&&◌, ◌||◌, ◌==◌, List, [], ◌∷◌, ◌++◌, length}
+use Rattle.std.proofs.Common.{◌≡◌, ℕ, ℤ, pos, negsuc, zero, suc, pred, ◌+◌, ◌-◌, ◌/◌, ◌%◌, Bool, true, false, cond, ◌&&◌, ◌||◌, ◌==◌, List, [], ◌∷◌, ◌++◌, length}
 use Rattle.std.proofs.Common.{replicate, true≢false, sym}
 use Rattle.std.proofs.Common.{nat_eq, nat_lt, nat_le, Option, Some, None, codes, decimal, Result, Ok, Err, refl, ap, ◌∙◌, arith}
 use Rattle.std.proofs.lemmas.Bool.Decides.{nat_tests}
-use Rattle.std.specs.Fmt.{digits, digits_onto, digit_glyph}
+use Rattle.std.specs.Fmt.{digits, digits_onto, digit_glyph, signed_decimal}
 use Rattle.std.proofs.lemmas.Bool.{cond-false, or_from, or_parts}
 use Rattle.stm_program.specs.declared.level.Level.{Level}
 use Rattle.stm_program.specs.declared.level.Level.TheVariants.{SerializableSnapshot}
@@ -13,6 +13,7 @@ use Rattle.stm_history.specs.History.{History, now}
 use Rattle.stm_keys.specs.declared.event.Event.{Event}
 use Rattle.stm_keys.specs.declared.event.Event.TheVariants as change
 use Rattle.stm_keys.specs.Events.{events_of}
+use Rattle.stm_outcome.specs.declared.advance.Expired.{Expired}
 use Rattle.stm_events.specs.declared.event.WorldEvent.{WorldEvent}
 use Rattle.stm_events.specs.declared.event.WorldEvent.TheVariants as event
 use Rattle.stm_events.specs.declared.reply.Reply.{Reply}
@@ -23,6 +24,8 @@ use Rattle.stm_events.specs.declared.refusal.EventRefusal.{EventRefusal}
 use Rattle.stm_events.specs.Names.{refusal_name}
 use Rattle.stm_meaning.specs.Faults.{fault_name}
 use Rattle.stm_program.specs.Syntax.{ProgramTree}
+use Rattle.stm_steps.specs.declared.value.Value.{Value}
+use Rattle.stm_steps.specs.declared.value.Value.TheVariants.{Text, Number}
 use Rattle.stm_formats.specs.declared.format_keys.Cuts.{Cuts}
 use Rattle.stm_formats.specs.declared.format_label.RunnerLabel.{RunnerLabel}
 use Rattle.stm_formats.specs.FormatLabels.{program_of}
@@ -37,10 +40,11 @@ use Rattle.stm_formats.specs.FormatSource.{line_after, source_words}
 use Rattle.stm_events.specs.declared.reply.KeyRead.{KeyRead}
 use Rattle.stm_reasons.specs.Counters.{counter_after}
 use Rattle.stm_reasons.specs.Causes.{state_by}
-use Rattle.stm_formats.specs.FormatChanges.{state_words, known_words, change_words, between, counted_change, changes_after, revision_words, changed_since}
+use Rattle.stm_formats.specs.FormatChanges.{state_words, known_words, lease_words, change_words, between, counted_change, changes_after, revision_words, changed_since}
 use Rattle.stm_formats.specs.FormatWords.{named_words, reported_words, called_words, start_words, link, seen_words, as_of, fetched_words, counted_read, reads_after, listed_words}
-use Rattle.stm_formats.specs.FormatWords.{attempt_words, commit_words, compared_words, compared_by, failed_word, at_words, txn_words, revoked_words, changed_words, advanced_words, from_words, watched_words, watch_words, events_word, batch_words}
-use Rattle.stm_formats.specs.FormatWords.{lost_words, asked_word, refused_words, reply_words, told_words, words_of}
+use Rattle.stm_formats.specs.FormatWords.{attempt_words, commit_word, commit_words, compared_words, compared_by, failed_word, at_words, txn_words, revoked_words, changed_words, ends_after, counted_end, lease_after, advanced_words, from_words, watched_words, watch_words, events_word, batch_words}
+use Rattle.stm_formats.specs.FormatWords.{lost_words, grant_words, asked_words, refused_words, reply_words, told_words, words_of}
+use Rattle.stm_formats.specs.FormatOutput.{value_words, value_after, counted_value, output_after, emitted_words}
 use Rattle.stm_formats.specs.FormatRows.{lane_of, row_of, rows_of}
 use Rattle.stm_formats.specs.FormatColumns.{column, place}
 use Rattle.stm_formats.specs.FormatText.{spaces, row_text, rows_text}
@@ -155,10 +159,6 @@ start_without most labels runner (event.Start program level limit) =
     (refl, (level_without level, (called_without most (program_of labels runner) program, tt)))
 start_without most labels runner _ = refl
 
-asked_without : (e : WorldEvent) → has 10 (asked_word e) ≡ false
-asked_without (event.Start program level limit) = refl
-asked_without _ = refl
-
 compared_by_without : (most : ℕ) (e : WorldEvent) → has 10 (compared_by most e) ≡ false
 compared_by_without most (event.Txn txn) = joined_without (source_shown most (shown_compares txn.compares) ∷ []) (source_without most (shown_compares txn.compares), tt)
 compared_by_without most _ = refl
@@ -203,26 +203,31 @@ known_without most h key mod_rev revision =
     (either_without (nat_lt revision h.opening.number) number kept (joined_without (codes "@" ∷ decimal mod_rev ∷ []) (refl, (decimal_without mod_rev, tt)))
     (state_without most (state_by h key revision)))
 
+lease_without : (lease : ℕ) → has 10 (lease_words lease) ≡ false
+lease_without lease =
+    either_without (nat_eq lease 0) [] (joined (codes " on lease " ∷ decimal lease ∷ [])) refl
+    (joined_without (codes " on lease " ∷ decimal lease ∷ []) (refl, (decimal_without lease, tt)))
+
 change_without : (cuts : Cuts) (e : Event) → has 10 (change_words cuts e) ≡ false
 change_without cuts (change.Put key state) =
-    joined_without (key_words cuts key ∷ codes " = \"" ∷ shown cuts.value state.value ∷ codes "\"" ∷ [])
-    (key_without cuts key, (refl, (shown_without cuts.value state.value, (refl, tt))))
+    joined_without (key_words cuts key ∷ codes " = \"" ∷ shown cuts.value state.value ∷ codes "\"" ∷ lease_words state.lease ∷ [])
+    (key_without cuts key, (refl, (shown_without cuts.value state.value, (refl, (lease_without state.lease, tt)))))
 change_without cuts (change.Delete key revision) = joined_without (key_words cuts key ∷ codes " deleted" ∷ []) (key_without cuts key, (refl, tt))
 
 between_without : (count : ℕ) → has 10 (between count) ≡ false
 between_without count = either_without (nat_eq count 0) (codes "  ") (codes ", ") refl refl
 
 -- one of the first few, or that there are more
-few_without : (few last : Bool) (count : ℕ) (words : List ℕ) → has 10 words ≡ false
-    → has 10 (cond few (joined (between count ∷ words ∷ [])) (cond last (codes ", ..") [])) ≡ false
-few_without few last count words none =
-    either_without few (joined (between count ∷ words ∷ [])) (cond last (codes ", ..") [])
-    (joined_without (between count ∷ words ∷ []) (between_without count, (none, tt))) (either_without last (codes ", ..") [] refl refl)
+few_without : (few last : Bool) (words : List ℕ) → has 10 words ≡ false → has 10 (cond few words (cond last (codes ", ..") [])) ≡ false
+few_without few last words none = either_without few words (cond last (codes ", ..") []) none (either_without last (codes ", ..") [] refl refl)
+
+behind_without : (count : ℕ) (words : List ℕ) → has 10 words ≡ false → has 10 (joined (between count ∷ words ∷ [])) ≡ false
+behind_without count words none = joined_without (between count ∷ words ∷ []) (between_without count, (none, tt))
 
 changes_without : (cuts : Cuts) (count : ℕ) (events : List Event) → has 10 (changes_after cuts count events) ≡ false
 changes_without cuts count [] = refl
 changes_without cuts count (e ∷ es) =
-    has-append 10 (counted_change cuts count e) (changes_after cuts (suc count) es) (few_without _ _ count (change_words cuts e) (change_without cuts e)) (changes_without cuts (suc count) es)
+    has-append 10 (counted_change cuts count e) (changes_after cuts (suc count) es) (few_without _ _ (joined (between count ∷ change_words cuts e ∷ [])) (behind_without count (change_words cuts e) (change_without cuts e))) (changes_without cuts (suc count) es)
 
 revision_without : (cuts : Cuts) (h : History) (revision : ℕ) → has 10 (revision_words cuts h revision) ≡ false
 revision_without cuts h revision =
@@ -262,17 +267,18 @@ reads_without : (cuts : Cuts) (h : History) (revision count : ℕ) (reads : List
 reads_without cuts h revision count [] = refl
 reads_without cuts h revision count (r ∷ rs) =
     has-append 10 (counted_read cuts h revision count r) (reads_after cuts h revision (suc count) rs)
-    (few_without _ _ count (seen_words cuts h r.key r.mod_rev revision) (seen_without cuts h r.key r.mod_rev revision)) (reads_without cuts h revision (suc count) rs)
+    (few_without _ _ (joined (between count ∷ seen_words cuts h r.key r.mod_rev revision ∷ []))
+    (behind_without count (seen_words cuts h r.key r.mod_rev revision) (seen_without cuts h r.key r.mod_rev revision))) (reads_without cuts h revision (suc count) rs)
 
 listed_without : (cuts : Cuts) (h : History) (revision : ℕ) (reads : List KeyRead) → has 10 (listed_words cuts h revision reads) ≡ false
 listed_without cuts h revision reads =
     joined_without (codes "read the list" ∷ reads_after cuts h revision 0 reads ∷ []) (refl, (reads_without cuts h revision 0 reads, tt))
 
-commit_without : (revision attempts : ℕ) → has 10 (commit_words revision attempts) ≡ false
-commit_without revision attempts =
+commit_without : (before revision attempts : ℕ) → has 10 (commit_words before revision attempts) ≡ false
+commit_without before revision attempts =
     let attempt : List ℕ = joined (codes ", attempt " ∷ decimal attempts ∷ []) in
-    joined_without (codes "COMMIT @" ∷ decimal revision ∷ attempt_words attempts ∷ []) (
-      refl,
+    joined_without (commit_word before revision ∷ decimal revision ∷ attempt_words attempts ∷ []) (
+      either_without (nat_le revision before) (codes "COMMIT, no change, at @") (codes "COMMIT @") refl refl,
       (
         decimal_without revision,
         (
@@ -294,10 +300,34 @@ revoked_without : (id revision : ℕ) → has 10 (revoked_words id revision) ≡
 revoked_without id revision =
     joined_without (codes "revoke " ∷ decimal id ∷ codes " @" ∷ decimal revision ∷ []) (refl, (decimal_without id, (refl, (decimal_without revision, tt))))
 
-advanced_without : (now expired : ℕ) → has 10 (advanced_words now expired) ≡ false
+grant_without : (id ttl : ℕ) → has 10 (grant_words id ttl) ≡ false
+grant_without id ttl =
+    joined_without (codes "grant " ∷ decimal id ∷ codes " ttl " ∷ decimal ttl ∷ []) (refl, (decimal_without id, (refl, (decimal_without ttl, tt))))
+
+asked_without : (e : WorldEvent) → has 10 (asked_words e) ≡ false
+asked_without (event.Grant id ttl) = grant_without id ttl
+asked_without (event.Keep id) = named_without (codes "keep") id refl
+asked_without (event.Revoke id) = named_without (codes "revoke") id refl
+asked_without (event.Advance now) = named_without (codes "advance to") now refl
+asked_without (event.Compact revision) = compacted_without revision
+asked_without (event.Poll watcher most) = named_without (codes "poll") watcher refl
+asked_without (event.Cancel watcher) = named_without (codes "cancel") watcher refl
+asked_without _ = refl
+
+end_without : (count : ℕ) (lease : Expired) → has 10 (counted_end count lease) ≡ false
+end_without count lease =
+    let word : has 10 (lease_after count) ≡ false = either_without (nat_eq count 0) (codes ": lease ") (codes ", lease ") refl refl in
+    few_without _ _ (joined (lease_after count ∷ decimal lease.id ∷ codes " ended @" ∷ decimal lease.revision ∷ []))
+    (joined_without (lease_after count ∷ decimal lease.id ∷ codes " ended @" ∷ decimal lease.revision ∷ [])
+    (word, (decimal_without lease.id, (refl, (decimal_without lease.revision, tt)))))
+
+ends_without : (count : ℕ) (expired : List Expired) → has 10 (ends_after count expired) ≡ false
+ends_without count [] = refl
+ends_without count (lease ∷ expired) = has-append 10 (counted_end count lease) (ends_after (suc count) expired) (end_without count lease) (ends_without (suc count) expired)
+
+advanced_without : (now : ℕ) (expired : List Expired) → has 10 (advanced_words now expired) ≡ false
 advanced_without now expired =
-    joined_without (codes "advance to " ∷ decimal now ∷ codes ", " ∷ decimal expired ∷ codes " expired" ∷ [])
-    (refl, (decimal_without now, (refl, (decimal_without expired, (refl, tt)))))
+    joined_without (codes "advance to " ∷ decimal now ∷ ends_after 0 expired ∷ []) (refl, (decimal_without now, (ends_without 0 expired, tt)))
 
 from_without : (from : ℕ) → has 10 (from_words from) ≡ false
 from_without from =
@@ -327,38 +357,59 @@ lost_without watcher floor =
 
 refused_without : (most : ℕ) (e : WorldEvent) (cause : EventRefusal) → has 10 (refused_words most e cause) ≡ false
 refused_without most e cause =
-    joined_without (codes "REFUSED " ∷ asked_word e ∷ codes ": " ∷ shown most (refusal_name cause) ∷ [])
+    joined_without (codes "REFUSED " ∷ asked_words e ∷ codes ": " ∷ shown most (refusal_name cause) ∷ [])
     (refl, (asked_without e, (refl, (shown_without most (refusal_name cause), tt))))
 
-reply_without : (cuts : Cuts) (labels : List RunnerLabel) (h : History) (e : WorldEvent) (reply : Reply) → has 10 (reply_words cuts labels h e reply) ≡ false
-reply_without cuts labels h e (Started runner) = start_without cuts.value labels runner e
-reply_without cuts labels h e (Prefetched runner revision reads) = listed_without cuts h revision reads
-reply_without cuts labels h e (Fetched runner key mod_rev of_rev revision) = fetched_without cuts h key mod_rev of_rev revision
-reply_without cuts labels h e (Committed runner revision attempts output trace answers) = commit_without revision attempts
-reply_without cuts labels h e (Conflict runner key seen now) = compared_without cuts h (codes "CONFLICT") key seen now refl
-reply_without cuts labels h e (GaveUp runner attempts key seen now) = compared_without cuts h (codes "GAVE UP") key seen now refl
-reply_without cuts labels h e (Aborted runner text) = reported_without cuts.value (codes "ABORT") text refl
-reply_without cuts labels h e (Faulted runner fault) = reported_without cuts.value (codes "FAULT") (fault_name fault) refl
-reply_without cuts labels h e (Ended runner cause) = reported_without cuts.value (codes "ENDED") (refusal_name cause) refl
-reply_without cuts labels h e (Txn succeeded revision answers) = txn_without cuts.value e succeeded revision
-reply_without cuts labels h e (Granted id) = named_without (codes "grant") id refl
-reply_without cuts labels h e (Kept id) = named_without (codes "keep") id refl
-reply_without cuts labels h e (Revoked id revision) = revoked_without id revision
-reply_without cuts labels h e (Advanced now expired) = advanced_without now (length expired)
-reply_without cuts labels h e (Compacted revision) = compacted_without revision
-reply_without cuts labels h e (Watching watcher) = watch_without cuts watcher e
-reply_without cuts labels h e (Batch watcher upto events) = batch_without cuts watcher upto events
-reply_without cuts labels h e (Lost watcher floor) = lost_without watcher floor
-reply_without cuts labels h e (Cancelled watcher) = named_without (codes "cancel") watcher refl
+reply_without : (cuts : Cuts) (labels : List RunnerLabel) (h : History) (before : ℕ) (e : WorldEvent) (reply : Reply) → has 10 (reply_words cuts labels h before e reply) ≡ false
+reply_without cuts labels h before e (Started runner) = start_without cuts.value labels runner e
+reply_without cuts labels h before e (Prefetched runner revision reads) = listed_without cuts h revision reads
+reply_without cuts labels h before e (Fetched runner key mod_rev of_rev revision) = fetched_without cuts h key mod_rev of_rev revision
+reply_without cuts labels h before e (Committed runner revision attempts output trace answers) = commit_without before revision attempts
+reply_without cuts labels h before e (Conflict runner key seen now) = compared_without cuts h (codes "CONFLICT") key seen now refl
+reply_without cuts labels h before e (GaveUp runner attempts key seen now) = compared_without cuts h (codes "GAVE UP") key seen now refl
+reply_without cuts labels h before e (Aborted runner text) = reported_without cuts.value (codes "ABORT") text refl
+reply_without cuts labels h before e (Faulted runner fault) = reported_without cuts.value (codes "FAULT") (fault_name fault) refl
+reply_without cuts labels h before e (Ended runner cause) = reported_without cuts.value (codes "ENDED") (refusal_name cause) refl
+reply_without cuts labels h before e (Txn succeeded revision answers) = txn_without cuts.value e succeeded revision
+reply_without cuts labels h before e (Granted id) = asked_without e
+reply_without cuts labels h before e (Kept id) = named_without (codes "keep") id refl
+reply_without cuts labels h before e (Revoked id revision) = revoked_without id revision
+reply_without cuts labels h before e (Advanced now expired) = advanced_without now expired
+reply_without cuts labels h before e (Compacted revision) = compacted_without revision
+reply_without cuts labels h before e (Watching watcher) = watch_without cuts watcher e
+reply_without cuts labels h before e (Batch watcher upto events) = batch_without cuts watcher upto events
+reply_without cuts labels h before e (Lost watcher floor) = lost_without watcher floor
+reply_without cuts labels h before e (Cancelled watcher) = named_without (codes "cancel") watcher refl
 
-told_without : (cuts : Cuts) (labels : List RunnerLabel) (h : History) (e : WorldEvent) (reply : Result Reply Denied) → has 10 (told_words cuts labels h e reply) ≡ false
-told_without cuts labels h e (Ok reply) = reply_without cuts labels h e reply
-told_without cuts labels h e (Err denied) = refused_without cuts.value e denied.cause
+told_without : (cuts : Cuts) (labels : List RunnerLabel) (h : History) (before : ℕ) (e : WorldEvent) (reply : Result Reply Denied) → has 10 (told_words cuts labels h before e reply) ≡ false
+told_without cuts labels h before e (Ok reply) = reply_without cuts labels h before e reply
+told_without cuts labels h before e (Err denied) = refused_without cuts.value e denied.cause
+
+signed_without : (z : ℤ) → has 10 (signed_decimal z) ≡ false
+signed_without (pos n) = decimal_without n
+signed_without (negsuc n) = or_from (nat_eq 45 10) (has 10 (decimal (suc n))) refl (decimal_without (suc n))
+
+value_without : (most : ℕ) (value : Value) → has 10 (value_words most value) ≡ false
+value_without most (Text text) = joined_without (codes "\"" ∷ shown most text ∷ codes "\"" ∷ []) (refl, (shown_without most text, (refl, tt)))
+value_without most (Number number) = signed_without number
+
+output_without : (most count : ℕ) (output : List Value) → has 10 (output_after most count output) ≡ false
+output_without most count [] = refl
+output_without most count (v ∷ vs) =
+    let word : has 10 (value_after count) ≡ false = either_without (nat_eq count 0) (codes "  emits ") (codes ", ") refl refl in
+    has-append 10 (counted_value most count v) (output_after most (suc count) vs)
+    (few_without _ _ (joined (value_after count ∷ value_words most v ∷ []))
+    (joined_without (value_after count ∷ value_words most v ∷ []) (word, (value_without most v, tt)))) (output_without most (suc count) vs)
+
+emitted_without : (most : ℕ) (reply : Result Reply Denied) → has 10 (emitted_words most reply) ≡ false
+emitted_without most (Ok (Committed runner revision attempts output trace answers)) = output_without most 0 output
+emitted_without most (Ok _) = refl
+emitted_without most (Err denied) = refl
 
 words_without : (cuts : Cuts) (labels : List RunnerLabel) (h : History) (before : ℕ) (e : WorldEvent) (reply : Result Reply Denied) → has 10 (words_of cuts labels h before e reply) ≡ false
 words_without cuts labels h before e reply =
-    joined_without (told_words cuts labels h e reply ∷ changed_since cuts h before (counter_after before reply) ∷ [])
-    (told_without cuts labels h e reply, (changed_without cuts h before (counter_after before reply), tt))
+    joined_without (told_words cuts labels h before e reply ∷ changed_since cuts h before (counter_after before reply) ∷ emitted_words cuts.value reply ∷ [])
+    (told_without cuts labels h before e reply, (changed_without cuts h before (counter_after before reply), (emitted_without cuts.value reply, tt)))
 
 -- ---- a row
 

@@ -1,5 +1,6 @@
 -- Arrays of a word and parts, and of a number, a word and parts: what they spell, and what their spelling says of them. Their elements.
-use Rattle.std.proofs.Common.{◌≡◌, ℕ, suc, List, [], ◌∷◌, length, None, Ok, refl, ap}
+use Rattle.std.proofs.Common.{◌≡◌, ℕ, suc, List, [], ◌∷◌, length, None, Ok, refl, ap, arith}
+use Rattle.std.proofs.lemmas.Bool.Decides.{nat_tests}
 use Rattle.serde_json.specs.Data.{Data, string, array, Items, item}
 use Rattle.serde_json.specs.Events.{items_len}
 use Rattle.serde_json.specs.Find.{as_str}
@@ -30,8 +31,7 @@ numbered_array n w ds = array (item n (item (string w) ds))
 
 pub numbered_spells : (n : Data) (ds : Items) (x : ℕ) (w : List ℕ) (parts : List Data) → Spells n (whole x) → SpellsItems ds (items_of parts)
     → Spells (numbered_array n w ds) (numbered x w parts)
-numbered_spells n ds x w parts of_number more =
-    (item n (item (string w) ds), refl, (n, item (string w) ds, refl, of_number, (string w, ds, refl, refl, more)))
+numbered_spells n ds x w parts of_number more = grind (arith, nat_tests)
 
 pub numbered_shape : (d : Data) (x : ℕ) (w : List ℕ) (parts : List Data) → Spells d (numbered x w parts)
     → (n : Data) × (ds : Items) × (d ≡ numbered_array n w ds) × (number_of n ≡ Ok x) × (as_str n ≡ None) × SpellsItems ds (items_of parts)

@@ -1,9 +1,10 @@
 -- Cutting bytes at their first line feed, and the parts that all line feeds cut them into.
-use Rattle.std.proofs.Common.{◌≡◌, ℕ, ◌+◌, ◌<◌, List, [], ◌∷◌, length, take, drop, get_or, Bool, true, false, refl, ap, subst, ◌∙◌, arith}
+use Rattle.std.proofs.Common.{◌≡◌, ℕ, ◌+◌, ◌<◌, List, [], ◌∷◌, length, take, drop, get_or, Bool, true, false, refl, ap, ◌∙◌, arith}
 use Rattle.std.proofs.lemmas.List.{get_or_default}
 use Rattle.std.proofs.lemmas.List.Splits.{slice_split-cons_yes, slice_split-cons_no, slice_split_none, slice_split_first}
 use Rattle.std.proofs.lemmas.List.Sums.{position_or_len_is}
-use Rattle.std.specs.List.{onto_first, position_or_len}
+use Rattle.std.specs.List.{onto_first}
+use Rattle.std.proofs.lemmas.Bool.Decides.{nat_tests}
 use Rattle.memchr.specs.Find.{NoneBefore, Nowhere, Passes, is_byte}
 use Rattle.stm_report_lines.specs.Bytes.{is_line_feed, parts_of}
 
@@ -22,12 +23,8 @@ parts_start (b ∷ bs) = start_by b bs (is_line_feed b) refl (parts_start bs)
 
 -- ---- the first line feed
 
-fails : (b : Bool) → (b ≡ true → ⊥) → b ≡ false
-fails true h = absurd (h refl)
-fails false h = refl
-
 other_at : (bs : List ℕ) (k : ℕ) (d : ℕ) → k < length bs → (Passes (is_byte 10) bs k → ⊥) → is_line_feed (get_or bs k d) ≡ false
-other_at bs k d within other = ap is_line_feed (get_or_default bs k d 0 within) ∙ fails (is_line_feed (get_or bs k 0)) other
+other_at bs k d within other = grind (arith, nat_tests, get_or_default)
 
 -- there is none
 pub no_feed : (bs : List ℕ) → Nowhere (Passes (is_byte 10) bs) 0 (length bs) → parts_of bs ≡ bs ∷ []
@@ -36,7 +33,4 @@ no_feed bs none = slice_split_none is_line_feed bs (λ k d within. other_at bs k
 -- it stands there
 pub first_feed : (bs : List ℕ) (k : ℕ) → NoneBefore (Passes (is_byte 10) bs) 0 (length bs) k → Passes (is_byte 10) bs k
     → parts_of bs ≡ take k bs ∷ parts_of (drop (k + 1) bs)
-first_feed bs k before here =
-    let at : position_or_len is_line_feed bs ≡ k =
-    position_or_len_is is_line_feed bs k 0 (omega (arith, before.high)) (λ j h. other_at bs j 0 (omega (arith, h, before.high)) (before.before j (omega arith) h)) (λ h. here) in
-    subst (λ (i : ℕ). parts_of bs ≡ take i bs ∷ parts_of (drop (i + 1) bs)) at (slice_split_first is_line_feed bs 0 (omega (arith, at, before.high)))
+first_feed bs k before here = grind (arith, nat_tests, position_or_len_is, other_at, slice_split_first)

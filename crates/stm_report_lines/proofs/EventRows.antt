@@ -1,6 +1,7 @@
 -- The lines of events: the parts after each word, and what is made of them. Their faults are those that reading answers, what was read is
 -- spelled, and what is spelled is read.
-use Rattle.std.proofs.Common.{◌≡◌, ℕ, ◌+◌, List, [], ◌∷◌, map, Bool, cond, length, Option, Some, None, Ok, Err, refl, sym, subst, ap, ◌∙◌, codes}
+use Rattle.std.proofs.Common.{◌≡◌, ℕ, ◌+◌, List, [], ◌∷◌, map, Bool, cond, length, Option, Some, None, Ok, Err, refl, sym, subst, ap, ◌∙◌, codes, arith}
+use Rattle.std.proofs.lemmas.Bool.Decides.{nat_tests}
 use Rattle.serde_json.specs.Data.{Data, boolean, string, Items, item}
 use Rattle.serde_json.specs.View.{items_of}
 use Rattle.stm_json.specs.declared.cause.Cause.TheVariants.{Shape}
@@ -30,7 +31,7 @@ use Rattle.stm_report_lines.specs.Grammar.{Spells, SpellsItems, SpellsLine, Coun
 use Rattle.stm_report_lines.specs.LineData.{list, whole, word, numbered, value_data, trace_data, answer_data, op_data, read_data, expired_data, event_data}
 use Rattle.stm_report_lines.specs.LineData.{line_data}
 use Rattle.stm_events.specs.Names.{refusal_name}
-use Rattle.stm_report_lines.specs.Parts.{exactly, listed, number_of, flag_of, fault_of as fault_part_of, cause_of, value_of, trace_of, answer_of, op_of}
+use Rattle.stm_report_lines.specs.Parts.{listed, number_of, flag_of, fault_of as fault_part_of, cause_of, value_of, trace_of, answer_of, op_of}
 use Rattle.stm_report_lines.specs.Parts.{key_read_of, expired_of, watched_of}
 use Rattle.stm_report_lines.specs.Reading.{EventReply, denied_with, event_reply_of, event_line_of, event_named}
 use Rattle.stm_report_lines.specs.Words.{named, event_words}
@@ -195,10 +196,7 @@ numbered_is w n t ds =
 
 named_is : (n : Data) (t : List ℕ) (r : EventWord × ℕ) (ds : Items) → r.1 ≡ 2 + length (event_sorts r.0)
     → event_named (Some r) (numbered_array n t ds) ≡ cond (is_count (event_sorts r.0) ds) (numbered_read r.0 n t ds) (bad Shape)
-named_is n t r ds many =
-    ap (λ (k : ℕ). exactly k (numbered_array n t ds) >>= λ u. event_line_of r.0 (numbered_array n t ds)) many
-    ∙ exactly_is (string t ∷ n ∷ []) (event_sorts r.0) ds (event_line_of r.0 (numbered_array n t ds))
-    ∙ ap (λ (o : Outcome ReportLine). cond (is_count (event_sorts r.0) ds) o (bad Shape)) (numbered_is r.0 n t ds)
+named_is n t r ds many = grind (arith, nat_tests, numbered_array, exactly_is, numbered_is)
 
 -- ---- the three laws, of a row of the words
 

@@ -1,7 +1,8 @@
 -- What is made of rows of parts: of an array of them alone, and of one that begins with a word. That the faults are those that reading answers,
 -- that what was read is spelled, and that what is spelled is read, is proved once, whatever the parts are.
-use Rattle.std.proofs.Common.{◌≡◌, ℕ, ◌+◌, List, [], ◌∷◌, length, Bool, true, false, cond, Option, Some, None, Ok, Err, refl, sym, ap, subst, ◌∙◌}
+use Rattle.std.proofs.Common.{◌≡◌, ℕ, ◌+◌, List, [], ◌∷◌, length, Bool, true, false, cond, Option, Some, None, Ok, refl, sym, ap, subst, ◌∙◌, arith}
 use Rattle.std.proofs.lemmas.Slice.Eq.{bytes_eq-Decides}
+use Rattle.std.proofs.lemmas.Bool.Decides.{nat_tests}
 use Rattle.serde_json.specs.Data.{Data, null, boolean, number, string, array, object, Items, item}
 use Rattle.serde_json.specs.View.{items_of}
 use Rattle.stm_json.specs.declared.cause.Cause.TheVariants.{Shape}
@@ -32,8 +33,7 @@ form i row make read same = record { row = row; make = make; read = read; same =
 
 pub exactly_maps : {Y Z : Type 0} (o : Outcome (Unit {0})) (y : Outcome Y) (z : Outcome Z) (g : Y → Z) → (y >>= λ x. Ok (g x)) ≡ z
     → ((o >>= λ u. y) >>= λ x. Ok (g x)) ≡ (o >>= λ u. z)
-exactly_maps (Ok u) y z g same = same
-exactly_maps (Err e) y z g same = refl
+exactly_maps o y z g same = grind (arith, nat_tests)
 
 -- the same, and something made of it
 abbrev pub also_made : {X Y Z : Type 0} (i : ℕ) → Form X Y i → (Y → Z) → Form X Z i
@@ -52,20 +52,13 @@ module _ {X Y : Type 0} (before : List Data) (F : Form X Y (length before)) (ds 
 
   pub form_reported : (p : List ℕ) → first_of (cond (is_count F.row.sorts ds) (parts_faults p (length before) F.row.sorts ds) (wrong p Shape))
       ≡ fault_of p (F.read (array (onto before ds)))
-  form_reported p =
-      counted_reported p (is_count F.row.sorts ds) (parts_faults p (length before) F.row.sorts ds)
-      (F.row.read Y (length before) F.make (array (onto before ds))) (λ h. F.row.reported Y p before F.make ds h)
-      ∙ ap (λ (o : Outcome Y). fault_of p o) (sym form_is)
+  form_reported p = grind (arith, nat_tests, counted_reported, onto, fault_of, form_is)
 
   pub form_means : (y : Y) → F.read (array (onto before ds)) ≡ Ok y → (x : X) × (F.make x ≡ y) × SpellsItems ds (items_of (F.row.spell x)) × F.row.Fits x
-  form_means y h =
-      let k = counted_ok (is_count F.row.sorts ds) (F.row.read Y (length before) F.make (array (onto before ds))) y (sym form_is ∙ h) in
-      F.row.means Y before F.make ds y k.0 k.1
+  form_means y h = grind (arith, nat_tests, counted_ok, onto, form_is)
 
   pub form_reads : (x : X) → SpellsItems ds (items_of (F.row.spell x)) → F.row.Fits x → F.read (array (onto before ds)) ≡ Ok (F.make x)
-  form_reads x s fits =
-      let r = F.row.reads Y before F.make ds x s fits in
-      form_is ∙ ap (λ (b : Bool). cond b (F.row.read Y (length before) F.make (array (onto before ds))) (bad Shape)) r.0 ∙ r.1
+  form_reads x s fits = grind (arith, nat_tests, form_is, onto)
 
 -- ---- an array of such parts alone
 
@@ -168,8 +161,7 @@ module _ {X Y : Type 0} (spell : Y → Data) (Fits : Y → Type 0) (word_here : 
 module _ {Y : Type 0} (spell : Y → Data) (Fits : Y → Type 0) (W : Words Y spell Fits) (table : Table)
     (is : (w : List ℕ) → sorts_of table w ≡ W.sorts w) where
   words_reported : (p : List ℕ) (d : Data) → first_of (worded_faults table p d) ≡ fault_of p (or_shape (word_at 0 d) >>= λ w. W.read w d)
-  words_reported p (array (item (string w) ds)) = ap (λ (o : Option (List Sort)). first_of (sorted_faults p o ds)) (is w) ∙ W.reported p w ds
-  words_reported p _ = wrong_is {A = Y} p Shape (bad Shape) refl
+  words_reported p d = grind (arith, nat_tests, wrong_is)
 
   words_means : (d : Data) (y : Y) → (or_shape (word_at 0 d) >>= λ w. W.read w d) ≡ Ok y → Spells d (spell y) × Fits y
   words_means (array (item (string w) ds)) y h = W.means w ds y h

@@ -1,24 +1,19 @@
 -- Bytes of a line that are JSON, and bytes that are not.
-use Rattle.std.proofs.Common.{◌≡◌, ℕ, List, Bool, true, false, Some, None, refl, IsUtf8}
-use Rattle.std.specs.Str.{is_utf8}
+use Rattle.std.proofs.Common.{◌≡◌, ℕ, List, Some, None, refl, IsUtf8, arith}
 use Rattle.std.proofs.lemmas.Str.{IsUtf8-from_is_utf8, is_utf8-from_IsUtf8}
+use Rattle.std.proofs.lemmas.Bool.Decides.{nat_tests}
 use Rattle.serde_json.specs.Data.{Data}
 use Rattle.serde_json.specs.Read.{read}
 use Rattle.stm_json.specs.declared.cause.Cause.TheVariants.{NotJson}
 use Rattle.stm_json.specs.Outcome.{bad}
-use Rattle.stm_json.specs.Bytes.{data_of}
-use Rattle.stm_report_lines.specs.Reading.{line_of, line_read, line_in}
+use Rattle.stm_report_lines.specs.Reading.{line_of, line_in}
 
 -- text that is the JSON of data
 pub line_in-json : (bytes : List ℕ) (d : Data) → IsUtf8 bytes → read bytes ≡ Some d → line_in bytes ≡ line_of d
 unfolding line_in
 line_in-json bytes d utf8 is = rw (is_utf8-from_IsUtf8 bytes utf8, is) refl
 
-refused : (bytes : List ℕ) (utf8 : Bool) → is_utf8 bytes ≡ utf8 → (IsUtf8 bytes → read bytes ≡ None) → line_read (data_of bytes) ≡ bad NotJson
-refused bytes true is none = rw (is, none (IsUtf8-from_is_utf8 bytes is)) refl
-refused bytes false is none = rw is refl
-
 -- anything else
 pub line_in-other : (bytes : List ℕ) → (IsUtf8 bytes → read bytes ≡ None) → line_in bytes ≡ bad NotJson
 unfolding line_in
-line_in-other bytes none = refused bytes (is_utf8 bytes) refl none
+line_in-other bytes none = grind (arith, nat_tests, IsUtf8-from_is_utf8)

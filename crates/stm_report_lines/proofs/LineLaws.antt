@@ -1,5 +1,6 @@
 -- Lines: the first fault is that which reading answers, what was read is spelled, and what is spelled is read.
-use Rattle.std.proofs.Common.{◌≡◌, ℕ, ◌+◌, List, length, Option, Some, None, Ok, Err, option_map, refl, sym, ap, subst, ◌∙◌, codes}
+use Rattle.std.proofs.Common.{◌≡◌, ℕ, ◌+◌, List, length, Option, Some, None, Ok, Err, option_map, refl, sym, ap, subst, ◌∙◌, codes, arith}
+use Rattle.std.proofs.lemmas.Bool.Decides.{nat_tests}
 use Rattle.serde_json.specs.Data.{Data, null, boolean, number, string, array, object, Items, item}
 use Rattle.serde_json.specs.Find.{as_str}
 use Rattle.stm_json.specs.declared.cause.Cause.TheVariants.{Shape}
@@ -51,8 +52,7 @@ standing =
 event_reported : (p : List ℕ) (n : Data) (t : List ℕ) (o : Option (EventWord × ℕ)) (ds : Items)
     → ((r : EventWord × ℕ) → o ≡ Some r → r.1 ≡ 2 + length (event_sorts r.0))
     → first_of (numbered_faults p n (option_map (λ r. event_sorts r.0) o) ds) ≡ fault_of p (event_named o (numbered_array n t ds))
-event_reported p n t None ds many = wrong_is {A = ReportLine} p Shape (bad Shape) refl
-event_reported p n t (Some r) ds many = event_line_reported n t r ds (many r refl) p
+event_reported p n t o ds many = grind (arith, nat_tests, wrong_is, event_line_reported)
 
 event_word-reported : (p : List ℕ) (n : Data) (w : List ℕ) (ds : Items)
     → first_of (numbered_faults p n (sorts_of event_table w) ds) ≡ fault_of p (event_named (named event_words w) (numbered_array n w ds))

@@ -1,7 +1,8 @@
 -- The parts of lines: their faults are those that reading answers, what was read is spelled, and what is spelled is read.
-use Rattle.std.proofs.Common.{◌≡◌, ℕ, ◌^◌, ◌<◌, ◌≤◌, ℤ, pos, negsuc, List, [], Bool, true, false, cond, Option, Some, None, Ok}
+use Rattle.std.proofs.Common.{◌≡◌, ℕ, ◌^◌, ◌<◌, ◌≤◌, ℤ, pos, List, [], Bool, true, cond, Option, Some, None, Ok}
 use Rattle.std.proofs.Common.{refl, sym, ap, subst, ◌∙◌, arith, ltb, ltb-true, lt-ltb}
-use Rattle.serde_json.specs.Data.{unsigned, negative, float, Data, null, boolean, number, string}
+use Rattle.std.proofs.lemmas.Bool.Decides.{nat_tests}
+use Rattle.serde_json.specs.Data.{Data, null, boolean, string}
 use Rattle.serde_json.specs.Find.{as_str, as_integer, of_integer}
 use Rattle.stm_history.specs.declared.revisions.TheConstants.{HIGHEST_NUMBER}
 use Rattle.stm_json.specs.declared.cause.Cause.TheVariants.{Shape, Range}
@@ -30,18 +31,13 @@ use Rattle.stm_report_lines.proofs.WordLaws.{name_reported, fault_named-is, faul
 -- ---- numbers
 
 spelled_number : (d : Data) (n : ℕ) → Spells d (whole n) → SpellsNumber d (pos n) × (n < 2 ^ 63)
-spelled_number d n (z, s, is, fits) =
-    let found : Some (pos n) ≡ Some z = is in
-    let e : z ≡ pos n = cc in
-    (subst (λ (y : ℤ). SpellsNumber d y) e s, ltb-true n (2 ^ 63) (subst (λ (y : ℤ). is_64_bit y ≡ true) e fits))
+spelled_number d n h3 = grind (arith, nat_tests, ltb-true)
 
 spells_number : (d : Data) (n : ℕ) → SpellsNumber d (pos n) → n < 2 ^ 63 → Spells d (whole n)
 spells_number d n s small = (pos n, s, refl, lt-ltb n (2 ^ 63) small)
 
 pub number_means : (d : Data) (n : ℕ) → number_of d ≡ Ok n → Spells d (whole n)
-number_means d n h =
-    let s = number_up_to-is HIGHEST_NUMBER d n h in
-    spells_number d n s.0 (omega (arith, s.1))
+number_means d n h = grind (arith, nat_tests, number_up_to-is, spells_number)
 
 pub number_reads : (d : Data) (n : ℕ) → Spells d (whole n) → number_of d ≡ Ok n
 number_reads d n m =
@@ -54,9 +50,7 @@ pub count_reported : (p : List ℕ) (d : Data) → first_of (faults_by (NumberIn
 count_reported p d = number_up_faulted p 1 d (omega arith)
 
 pub count_means : (d : Data) (n : ℕ) → number_up_to 1 d ≡ Ok n → Spells d (whole n) × (n ≤ 1)
-count_means d n h =
-    let s = number_up_to-is 1 d n h in
-    (spells_number d n s.0 (omega (arith, s.1)), s.1)
+count_means d n h = grind (arith, nat_tests, number_up_to-is, spells_number)
 
 pub count_reads : (d : Data) (n : ℕ) → Spells d (whole n) → n ≤ 1 → number_up_to 1 d ≡ Ok n
 count_reads d n m few = number_up_to-reads 1 d n (omega arith) (spelled_number d n m).0 few
@@ -69,8 +63,7 @@ number_no_text d n (z, (m, e, f), is, fits) = rw e refl
 
 pub flag_reported : (p : List ℕ) (d : Data) → first_of (faults_by (By flag_faults) p d) ≡ fault_of p (flag_of d)
 unfolding flag_of
-flag_reported p (boolean b) = refl
-flag_reported p _ = wrong_is {A = Bool} p Shape (bad Shape) refl
+flag_reported p d = grind (arith, nat_tests, wrong_is)
 
 pub flag_means : (d : Data) (b : Bool) → flag_of d ≡ Ok b → Spells d (boolean b)
 unfolding flag_of
@@ -83,8 +76,7 @@ unfolding flag_of
 flag_reads d b is = rw is refl
 
 there_is : {A : Type 0} (o : Option A) (x : A) → or_shape o ≡ Ok x → o ≡ Some x
-there_is (Some y) x h = ap Some cc
-there_is None x h = cc
+there_is o x h = grind (arith, nat_tests)
 
 pub fault_reported : (p : List ℕ) (d : Data) → first_of (faults_by (WordOf fault_names) p d) ≡ fault_of p (fault_part_of d)
 unfolding fault_part_of
@@ -92,9 +84,7 @@ fault_reported p d = name_reported p fault_words (as_str d)
 
 pub fault_means : (d : Data) (f : Fault) → fault_part_of d ≡ Ok f → Spells d (word (fault_name f))
 unfolding fault_part_of
-fault_means d f h =
-    let t = on_text-is (λ (w : List ℕ). or_shape (named fault_words w)) d f h in
-    t.1 ∙ ap string (fault_named-is t.0 f (there_is (named fault_words t.0) f t.2))
+fault_means d f h = grind (arith, nat_tests, on_text-is, fault_named-is, there_is)
 
 pub fault_reads : (d : Data) (f : Fault) → Spells d (word (fault_name f)) → fault_part_of d ≡ Ok f
 unfolding fault_part_of
@@ -117,8 +107,7 @@ cause_reads d c is = ap cause_of is ∙ ap (λ (o : Option EventRefusal). or_sha
 -- ---- values
 
 of_integer-is : (z : ℤ) → as_integer (of_integer z) ≡ Some z
-of_integer-is (pos n) = refl
-of_integer-is (negsuc n) = refl
+of_integer-is z = grind (arith, nat_tests)
 
 value_means_at : (d : Data) (o : Option (List ℕ)) (v : Value) → as_str d ≡ o → value_from d o ≡ Ok v → Spells d (value_data v)
 value_means_at d (Some s) v e h =
@@ -149,23 +138,13 @@ value_reads d (Number z) (y, (m, e, f), is, fits) =
     let small = is_64_bit-fits z (subst (λ (x : ℤ). is_64_bit x ≡ true) same fits) in
     integer_reads d z none (whole_number-reads d z spelled small)
 
-value_tested : (p : List ℕ) (b : Bool) (z : ℤ)
-    → first_of (cond b [] (wrong p Range)) ≡ fault_of p (cond b (Ok z) (bad Range) >>= λ y. Ok (Number y))
-value_tested p true z = refl
-value_tested p false z = wrong_is {A = Value} p Range (bad Range) refl
-
 unsigned_tested : (p : List ℕ) (b : Bool) (m : ℕ) → ltb m (2 ^ 63) ≡ b
     → first_of (cond b [] (wrong p Range)) ≡ fault_of p (in_64_bits (cond b (Some (pos m)) None) true >>= λ y. Ok (Number y))
-unsigned_tested p true m e = rw e refl
-unsigned_tested p false m e = wrong_is {A = Value} p Range (bad Range) refl
+unsigned_tested p b m e = grind (arith, nat_tests, wrong_is)
 
 value_reported : (p : List ℕ) (d : Data) → first_of (value_faults p d) ≡ fault_of p (value_of d)
 unfolding value_of whole_number
-value_reported p (string s) = refl
-value_reported p (number (unsigned m)) = unsigned_tested p (ltb m (2 ^ 63)) m refl
-value_reported p (number (negative z)) = value_tested p (is_64_bit z) z
-value_reported p (number (float x)) = wrong_is {A = Value} p Shape (bad Shape) refl
-value_reported p _ = wrong_is {A = Value} p Shape (bad Shape) refl
+value_reported p d = grind (arith, nat_tests, unsigned_tested, wrong_is)
 
 pub value_laws : Laws Value value_of value_data AnyFits value_faults
 value_laws = record { reported = value_reported; means = λ d v h. (value_means d v h, tt); reads = λ d v s fits. value_reads d v s }

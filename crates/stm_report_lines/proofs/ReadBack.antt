@@ -1,5 +1,6 @@
 -- Plain data spell themselves, so a line that is written is read back.
-use Rattle.std.proofs.Common.{◌≡◌, ℤ, pos, negsuc, Some, refl, ap, ◌∙◌}
+use Rattle.std.proofs.Common.{◌≡◌, ℤ, Some, refl, ap, ◌∙◌, arith}
+use Rattle.std.proofs.lemmas.Bool.Decides.{nat_tests}
 use Rattle.serde_json.specs.Data.{Data, null, boolean, number, string, array, object, Items, no_items, item}
 use Rattle.serde_json.specs.Find.{as_integer, of_integer}
 use Rattle.stm_report_lines.specs.Grammar.{Spells, SpellsItems}
@@ -8,8 +9,7 @@ use Rattle.stm_report_lines.specs.ReadBack.{IsPlain, ArePlain, LinesReadBack}
 use Rattle.stm_report_lines.proofs.LineLaws.{line_reads}
 
 as_whole : (z : ℤ) → as_integer (of_integer z) ≡ Some z
-as_whole (pos n) = refl
-as_whole (negsuc n) = refl
+as_whole z = grind (arith, nat_tests)
 
 mutual
   pub spells_itself : (d : Data) → IsPlain d → Spells d d

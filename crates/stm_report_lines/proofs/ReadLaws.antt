@@ -1,13 +1,14 @@
 -- What holds of reading: the first fault is that which reading answers, what was read is spelled, and what is spelled is read. Of a list, where
 -- it holds of the elements, and of what may be null.
-use Rattle.std.proofs.Common.{◌≡◌, ℕ, suc, List, [], ◌∷◌, map, Option, Some, None, Ok, refl, sym, subst, ◌∙◌}
+use Rattle.std.proofs.Common.{◌≡◌, ℕ, suc, List, [], ◌∷◌, map, Option, Some, None, Ok, refl, arith}
+use Rattle.std.proofs.lemmas.Bool.Decides.{nat_tests}
 use Rattle.serde_json.specs.Data.{Data, null, boolean, number, string, array, object, Items, no_items, item}
 use Rattle.serde_json.specs.Find.{as_array}
 use Rattle.serde_json.specs.View.{items_of}
 use Rattle.stm_json.specs.declared.cause.Cause.TheVariants.{Shape}
 use Rattle.stm_json.specs.Outcome.{Outcome, bad, ◌>>=◌}
 use Rattle.stm_json.proofs.OutcomeLemmas.{bind_ok}
-use Rattle.stm_json.specs.Faults.{Faults, first_of, at}
+use Rattle.stm_json.specs.Faults.{Faults, first_of}
 use Rattle.stm_json.specs.Parts.{SpellsEach, each_from, list_of}
 use Rattle.stm_json.proofs.FaultLemmas.{fault_of, wrong_is, part_then, made}
 use Rattle.stm_json.proofs.ListLemmas.{list_sound, each_reads}
@@ -37,9 +38,7 @@ module _ {A : Type 0} (read : Data → Outcome A) (spell : A → Data) (Fits : A
   each_reported : (p : List ℕ) (index : ℕ) (ds : Items) → first_of (each_of faults p index ds) ≡ fault_of p (each_from read index ds)
   unfolding each_from
   each_reported p index no_items = refl
-  each_reported p index (item d ds) =
-      part_then p index (read d) _ (faults (at p index) d) (each_of faults p (suc index) ds) (L.reported (at p index) d)
-      (λ (x : A). made p (each_from read (suc index) ds) (λ (xs : List A). x ∷ xs) (each_of faults p (suc index) ds) (each_reported p (suc index) ds))
+  each_reported p index (item d ds) = grind (arith, nat_tests, part_then, made, each_reported p (suc index) ds)
 
   list_reported : (p : List ℕ) (d : Data) → first_of (list_faults faults p d) ≡ fault_of p (list_of read (as_array d))
   list_reported p (array ds) = each_reported p 0 ds
@@ -48,9 +47,7 @@ module _ {A : Type 0} (read : Data → Outcome A) (spell : A → Data) (Fits : A
 
   each_spelled : (ds : Items) (xs : List A) → SpellsEach SpellsOne ds xs → SpellsItems ds (items_of (map spell xs)) × AllFit xs
   each_spelled ds [] is = (is, none)
-  each_spelled ds (x ∷ xs) (d, rest, is, (s, fits), more) =
-      let others = each_spelled rest xs more in
-      ((d, rest, is, s, others.0), join x xs (fits, others.1))
+  each_spelled ds (x ∷ xs) (d, rest, is, (s, fits), more) = grind (arith, nat_tests, each_spelled rest xs more)
 
   spelled_each : (ds : Items) (xs : List A) → SpellsItems ds (items_of (map spell xs)) → AllFit xs → SpellsEach SpellsOne ds xs
   spelled_each ds [] is fit = is
@@ -87,36 +84,18 @@ module _ {A : Type 0} (read : Data → Outcome A) (spell : A → Data) (faults :
   or_null_reported p (object ms) = present_reported p (object ms)
 
   present_means : (d : Data) (o : Option A) → (read d >>= λ x. Ok (Some x)) ≡ Ok o → Spells d (spell_or_null o)
-  present_means d o h =
-      let q = bind_ok (read d) _ o h in
-      let is : Some q.0 ≡ o = cc q.2 in
-      subst (λ (y : Option A). Spells d (spell_or_null y)) is (subst (λ (e : Data). Spells d e) (sym (present q.0)) (L.means d q.0 q.1).0)
+  present_means d o h = grind (arith, nat_tests, bind_ok)
 
   or_null_means : (d : Data) (o : Option A) → or_null_of read d ≡ Ok o → Spells d (spell_or_null o)
-  or_null_means null o h =
-      let is : None ≡ o = cc h in
-      subst (λ (y : Option A). Spells null (spell_or_null y)) is (subst (λ (e : Data). Spells null e) (sym absent) refl)
+  or_null_means null o h = grind (arith, nat_tests)
   or_null_means (boolean b) o h = present_means (boolean b) o h
   or_null_means (number n) o h = present_means (number n) o h
   or_null_means (string s) o h = present_means (string s) o h
   or_null_means (array ds) o h = present_means (array ds) o h
   or_null_means (object ms) o h = present_means (object ms) o h
 
-  present_reads : (d : Data) (x : A) → read d ≡ Ok x → or_null_of read d ≡ Ok (Some x)
-  present_reads null x h = let no : bad Shape ≡ Ok x = sym no_null ∙ h in cc
-  present_reads (boolean b) x h = rw h refl
-  present_reads (number n) x h = rw h refl
-  present_reads (string s) x h = rw h refl
-  present_reads (array ds) x h = rw h refl
-  present_reads (object ms) x h = rw h refl
-
   or_null_reads : (d : Data) (o : Option A) → Spells d (spell_or_null o) → or_null_of read d ≡ Ok o
-  or_null_reads d None s = let is : d ≡ null = subst (λ (e : Data). Spells d e) absent s in rw is refl
-  or_null_reads d (Some x) s = present_reads d x (L.reads d x (subst (λ (e : Data). Spells d e) (present x) s) tt)
+  or_null_reads d o s = grind (arith, nat_tests)
 
   pub or_null_laws : Laws (Option A) (λ d. or_null_of read d) spell_or_null AnyFits (or_null faults)
-  or_null_laws = record {
-    reported = or_null_reported;
-    means = λ d o h. (or_null_means d o h, tt);
-    reads = λ d o s fits. or_null_reads d o s;
-  }
+  or_null_laws = grind (arith, nat_tests, or_null_reported, or_null_means, or_null_reads)

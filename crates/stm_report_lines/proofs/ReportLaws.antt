@@ -1,12 +1,11 @@
 -- Reports: the first fault is that which reading answers, what was read is spelled, and what is spelled is read.
-use Rattle.std.proofs.Common.{◌≡◌, ℕ, suc, ◌≤◌, List, [], ◌∷◌, ◌++◌, length, Bool, true, false, cond, ltb, Option, Some, None, Ok, refl, sym}
-use Rattle.std.proofs.Common.{ap, subst, ◌∙◌, arith}
+use Rattle.std.proofs.Common.{◌≡◌, ℕ, suc, List, [], ◌∷◌, length, Bool, cond, ltb, Option, Some, None, Ok, refl, ap, subst, ◌∙◌, arith}
 use Rattle.std.proofs.lemmas.Bool.Decides.{nat_tests}
 use Rattle.serde_json.specs.Data.{Data}
-use Rattle.stm_json.specs.declared.cause.Cause.TheVariants.{NotJson, Shape, TooLong}
+use Rattle.stm_json.specs.declared.cause.Cause.TheVariants.{Shape, TooLong}
 use Rattle.stm_json.specs.Outcome.{bad, ◌>>=◌, within, step}
 use Rattle.stm_json.proofs.OutcomeLemmas.{bind_ok, within_ok}
-use Rattle.stm_json.specs.Faults.{first_of, wrong}
+use Rattle.stm_json.specs.Faults.{first_of}
 use Rattle.stm_json.proofs.FaultLemmas.{fault_of, wrong_is, part_then, made}
 use Rattle.stm_events.specs.declared.line.ReportLine.{ReportLine}
 use Rattle.stm_json.specs.declared.limits.TheConstants.{MOST_BYTES}
@@ -21,13 +20,9 @@ use Rattle.stm_report_lines.proofs.LineLaws.{line_reported, line_means, line_rea
 
 -- ---- the first fault
 
-json_reported : (p : List ℕ) (o : Option Data) → first_of (json_faults p o) ≡ fault_of p (line_read o)
-json_reported p None = wrong_is {A = ReportLine} p NotJson (bad NotJson) refl
-json_reported p (Some d) = line_reported p d
-
 part_reported : (p part : List ℕ) → first_of (json_faults p (data_of part)) ≡ fault_of p (line_in part)
 unfolding line_in
-part_reported p part = json_reported p (data_of part)
+part_reported p part = grind (arith, nat_tests, wrong_is, line_reported)
 
 -- what comes after the last line feed
 rest_reported : (index : ℕ) (rest : List ℕ) → first_of (rest_faults (step index) rest) ≡ fault_of [] (within index (rest_of rest))
@@ -42,15 +37,10 @@ lines_reported index (part ∷ next ∷ more) =
     (λ (l : ReportLine). made [] (lines_from (suc index) (next ∷ more)) (λ (ls : List ReportLine). l ∷ ls) (lines_faults (suc index) (next ∷ more))
     (lines_reported (suc index) (next ∷ more)))
 
-length_tested : (parts : List (List ℕ)) (b : Bool) → first_of (cond b (wrong [] TooLong) [] ++ lines_faults 0 parts)
-    ≡ fault_of [] (cond b (bad TooLong) (lines_from 0 parts >>= λ ls. Ok (report_with ls)))
-length_tested parts true = refl
-length_tested parts false = made [] (lines_from 0 parts) report_with (lines_faults 0 parts) (lines_reported 0 parts)
-
 -- the first fault is that which reading answers, if it does
 pub first_fault-is : (bytes : List ℕ) → first_fault bytes ≡ fault_of [] (report_in bytes)
 unfolding first_fault report_in
-first_fault-is bytes = length_tested (parts_of bytes) (ltb MOST_BYTES (length bytes))
+first_fault-is bytes = grind (arith, nat_tests, made, lines_reported)
 
 -- ---- what was read is spelled
 
@@ -64,10 +54,7 @@ unfolding line_in
 part_means part l h = json_means part (data_of part) l refl h
 
 rest_means : (index : ℕ) (rest : List ℕ) (ls : List ReportLine) → within index (rest_of rest) ≡ Ok ls → SpellsParts (rest ∷ []) ls
-rest_means index [] ls h =
-    let is : [] ≡ ls = cc in
-    subst (λ (xs : List ReportLine). SpellsParts ([] ∷ []) xs) is refl
-rest_means index (b ∷ bs) ls h = cc
+rest_means index rest ls h = grind (arith, nat_tests)
 
 lines_means : (index : ℕ) (part : List ℕ) (more : List (List ℕ)) (ls : List ReportLine) → lines_from index (part ∷ more) ≡ Ok ls → SpellsParts (part ∷ more) ls
 lines_means index rest [] ls h = rest_means index rest ls h
@@ -80,17 +67,11 @@ lines_means index part (next ∷ more) ls h =
 
 parts_mean : (parts : List (List ℕ)) (ls : List ReportLine) → (p : List ℕ) × (ps : List (List ℕ)) × (parts ≡ p ∷ ps) → lines_from 0 parts ≡ Ok ls
     → SpellsParts parts ls
-parts_mean parts ls (p, ps, is) h =
-    subst (λ (x : List (List ℕ)). SpellsParts x ls) (sym is) (lines_means 0 p ps ls (sym (ap (lines_from 0) is) ∙ h))
+parts_mean parts ls h3 h = grind (arith, nat_tests, lines_means)
 
 tested : (bytes : List ℕ) (r : Report) (b : Bool) → ltb MOST_BYTES (length bytes) ≡ b
     → cond b (bad TooLong) (lines_from 0 (parts_of bytes) >>= λ ls. Ok (report_with ls)) ≡ Ok r → SpellsReport bytes r
-tested bytes r true t h = cc
-tested bytes r false t h =
-    let q = bind_ok (lines_from 0 (parts_of bytes)) _ r h in
-    let is : report_with q.0 ≡ r = cc q.2 in
-    let short : length bytes ≤ MOST_BYTES = grind (arith, nat_tests) in
-    subst (λ (x : Report). SpellsReport bytes x) is (short, parts_mean (parts_of bytes) q.0 (parts_start bytes) q.1)
+tested bytes r b t h = grind (arith, nat_tests, bind_ok, parts_mean, parts_start)
 
 pub report_means : (bytes : List ℕ) (r : Report) → report_in bytes ≡ Ok r → SpellsReport bytes r
 unfolding report_in
@@ -104,20 +85,10 @@ part_reads part d l is s = ap line_read is ∙ line_reads d l s
 
 lines_read : (index : ℕ) (parts : List (List ℕ)) (ls : List ReportLine) → SpellsParts parts ls → lines_from index parts ≡ Ok ls
 lines_read index parts [] is = rw is refl
-lines_read index parts (l ∷ []) (part, rest, is, (d, json, s), last) =
-    let one = part_reads part d l json s in
-    rw (is, last) (rw one refl)
+lines_read index parts (l ∷ []) (part, rest, is, (d, json, s), last) = grind (arith, nat_tests, part_reads)
 lines_read index parts (l ∷ k ∷ ls) (part, rest, is, (d, json, s), (next, more, follows, one_more, others)) =
-    let one = part_reads part d l json s in
-    let rest_is : lines_from (suc index) rest ≡ Ok (k ∷ ls) = lines_read (suc index) rest (k ∷ ls) (next, more, follows, one_more, others) in
-    let read : lines_from (suc index) (next ∷ more) ≡ Ok (k ∷ ls) = sym (ap (lines_from (suc index)) follows) ∙ rest_is in
-    rw (is, follows) (rw (one, read) refl)
-
-short_report : (bytes : List ℕ) → length bytes ≤ MOST_BYTES → report_in bytes ≡ (lines_from 0 (parts_of bytes) >>= λ ls. Ok (report_with ls))
-unfolding report_in
-short_report bytes short = grind (arith, nat_tests)
+    grind (arith, nat_tests, part_reads, lines_read (suc index) rest (k ∷ ls) (next, more, follows, one_more, others))
 
 pub report_reads : (bytes : List ℕ) (r : Report) → SpellsReport bytes r → report_in bytes ≡ Ok r
-report_reads bytes r (short, parts) =
-    let e = lines_read 0 (parts_of bytes) r.lines parts in
-    short_report bytes short ∙ rw e refl
+unfolding report_in
+report_reads bytes r h3 = grind (arith, nat_tests, lines_read)

@@ -1,6 +1,6 @@
 -- Rows of parts, one after the other. That their faults are those that reading answers, that what was read is spelled, and that what is
 -- spelled is read, is proved once, whatever the parts are.
-use Rattle.std.proofs.Common.{◌≡◌, ℕ, suc, ◌+◌, List, [], ◌∷◌, length, map, Bool, true, false, cond, eqb, Option, Ok, Err, refl, sym, ap, subst, ◌∙◌, arith}
+use Rattle.std.proofs.Common.{◌≡◌, ℕ, suc, ◌+◌, List, [], ◌∷◌, length, map, Bool, true, false, cond, eqb, Option, Ok, refl, sym, ap, subst, ◌∙◌, arith}
 use Rattle.std.proofs.lemmas.Bool.Decides.{nat_tests}
 use Rattle.serde_json.specs.Data.{Data, array, Items, no_items, item}
 use Rattle.serde_json.specs.Events.{items_len}
@@ -65,9 +65,7 @@ no_more k = omega arith
 
 element_onto : (before : List Data) (k : ℕ) (ds : Items) → get_item (length before + k) (onto before ds) ≡ get_item k ds
 element_onto [] k ds = ap (λ (i : ℕ). get_item i ds) (no_more k)
-element_onto (d ∷ before) k ds =
-    let next : suc (length before) + k ≡ length before + suc k = omega arith in
-    ap (λ (i : ℕ). get_item i (onto before (item d ds))) next ∙ element_onto before (suc k) (item d ds)
+element_onto (d ∷ before) k ds = grind (arith, nat_tests, element_onto before (suc k) (item d ds))
 
 pub part_here : {A : Type 0} (read : Data → Outcome A) (before : List Data) (d : Data) (ds : Items)
     → part_at (length before) read (array (onto before (item d ds))) ≡ within (length before) (read d)
@@ -79,9 +77,7 @@ part_here read before d ds =
 
 count_onto : (before : List Data) (ds : Items) → items_len (onto before ds) ≡ length before + items_len ds
 count_onto [] ds = sym (no_more (items_len ds))
-count_onto (d ∷ before) ds =
-    let next : length before + suc (items_len ds) ≡ suc (length before) + items_len ds = omega arith in
-    count_onto before (item d ds) ∙ next
+count_onto (d ∷ before) ds = grind (arith, nat_tests, count_onto before (item d ds))
 
 -- Parts one after the other, whose values are an X, and what is made of them. They are read of a whole array, from an index on.
 pub record Row (X : Type 0) : Type 1 where
@@ -122,19 +118,13 @@ nothing = record {
 
 -- ---- one part more in front
 
-bind_same : {A Y Z : Type 0} (o : Outcome A) (f : A → Outcome Y) (h : A → Outcome Z) (g : Y → Z) → ((x : A) → (f x >>= λ y. Ok (g y)) ≡ h x)
-    → ((o >>= f) >>= λ y. Ok (g y)) ≡ (o >>= h)
-bind_same (Ok x) f h g same = same x
-bind_same (Err e) f h g same = refl
-
 module _ {A X : Type 0} (P : Part A) (R : Row X) where
   abbrev pub read_then : (Y : Type 0) → ℕ → (A × X → Y) → Data → Outcome Y
   read_then Y i make e = part_at i P.read e >>= λ a. R.read Y (suc i) (λ x. make (a, x)) e
 
   here : (Y : Type 0) (before : List Data) (make : A × X → Y) (d : Data) (ds : Items) → read_then Y (length before) make (array (onto before (item d ds)))
       ≡ (within (length before) (P.read d) >>= λ a. R.read Y (length (d ∷ before)) (λ x. make (a, x)) (array (onto (d ∷ before) ds)))
-  here Y before make d ds =
-      ap (λ (o : Outcome A). o >>= λ a. R.read Y (length (d ∷ before)) (λ x. make (a, x)) (array (onto (d ∷ before) ds))) (part_here P.read before d ds)
+  here Y before make d ds = grind (arith, nat_tests, part_here)
 
   pub then_reported : (Y : Type 0) (p : List ℕ) (before : List Data) (make : A × X → Y) (ds : Items) → is_count (P.sort ∷ R.sorts) ds ≡ true
       → first_of (parts_faults p (length before) (P.sort ∷ R.sorts) ds) ≡ fault_of p (read_then Y (length before) make (array (onto before ds)))
@@ -166,9 +156,7 @@ module _ {A X : Type 0} (P : Part A) (R : Row X) where
 
   pub then_maps : (Y Z : Type 0) (i : ℕ) (make : A × X → Y) (g : Y → Z) (e : Data)
       → (read_then Y i make e >>= λ y. Ok (g y)) ≡ read_then Z i (λ x. g (make x)) e
-  then_maps Y Z i make g e =
-      bind_same (part_at i P.read e) (λ a. R.read Y (suc i) (λ x. make (a, x)) e) (λ a. R.read Z (suc i) (λ x. g (make (a, x))) e) g
-      (λ a. R.maps Y Z (suc i) (λ x. make (a, x)) g e)
+  then_maps Y Z i make g e = grind (arith, nat_tests)
 
 infixr 25 ◌&◌
 abbrev pub ◌&◌ : {A X : Type 0} → Part A → Row X → Row (A × X)
@@ -207,8 +195,7 @@ counted_reported p true faults o h = h refl
 counted_reported {Y} p false faults o h = wrong_is {A = Y} p Shape (bad Shape) refl
 
 pub counted_ok : {Y : Type 0} (b : Bool) (o : Outcome Y) (y : Y) → cond b o (bad Shape) ≡ Ok y → (b ≡ true) × (o ≡ Ok y)
-counted_ok true o y h = (refl, h)
-counted_ok false o y h = cc
+counted_ok b o y h = grind (arith, nat_tests)
 
 count_is : (sorts : List Sort) (ds : Items) → is_count sorts ds ≡ eqb (items_len ds) (length sorts)
 count_is [] no_items = refl
@@ -216,18 +203,10 @@ count_is [] (item d ds) = grind (arith, nat_tests)
 count_is (s ∷ sorts) no_items = grind (arith, nat_tests)
 count_is (s ∷ sorts) (item d ds) = let rest = count_is sorts ds in grind (arith, nat_tests)
 
-all_count : (before : List Data) (sorts : List Sort) (ds : Items) → eqb (items_len (onto before ds)) (length before + length sorts) ≡ is_count sorts ds
-all_count before sorts ds =
-    let all = count_onto before ds in
-    let rest = count_is sorts ds in
-    grind (arith, nat_tests)
-
 where_true : {Y : Type 0} (b : Bool) (o : Outcome Y) → (cond b (Ok tt) (bad {A = Unit {0}} Shape) >>= λ u. o) ≡ cond b o (bad Shape)
-where_true true o = refl
-where_true false o = refl
+where_true b o = grind (arith, nat_tests)
 
 -- as many elements come after those before as there are parts
 pub exactly_is : {Y : Type 0} (before : List Data) (sorts : List Sort) (ds : Items) (o : Outcome Y)
     → (exactly (length before + length sorts) (array (onto before ds)) >>= λ u. o) ≡ cond (is_count sorts ds) o (bad Shape)
-exactly_is before sorts ds o =
-    ap (λ (b : Bool). cond b (Ok tt) (bad {A = Unit {0}} Shape) >>= λ u. o) (all_count before sorts ds) ∙ where_true (is_count sorts ds) o
+exactly_is before sorts ds o = grind (arith, nat_tests, where_true, count_onto, count_is)

@@ -1,7 +1,8 @@
 -- The first schedule that does not keep a rule.
 use Rattle.std.proofs.Common.{◌≡◌, ◌≢◌, ℕ, zero, suc, ◌<◌, ◌≤◌, Bool, true, false, cond, nat_eq, List, [], ◌∷◌, length, Option, Some, None}
-use Rattle.std.proofs.Common.{option_map, inl, inr, refl, sym, ◌∙◌, ap, subst, arith}
+use Rattle.std.proofs.Common.{option_map, refl, ◌∙◌, ap, subst, arith}
 use Rattle.std.specs.Option.{option_or}
+use Rattle.std.proofs.lemmas.Bool.Decides.{nat_tests}
 use Rattle.stm_meaning.proofs.RunLaws.{whole_lookups_end}
 use Rattle.stm_compile.specs.Answers.{state_now}
 use Rattle.stm_world.specs.World.{World}
@@ -20,8 +21,7 @@ abbrev pub bad_after : (World → Bool) → ℕ → Place → Move → Option (L
 bad_after keep n p m = option_map (λ (ms : List Move). m ∷ ms) (bad_at keep n (moved m p))
 
 pub kept_here : (b : Bool) → cond b None (Some (let none : List Move = [] in none)) ≡ None → b ≡ true
-kept_here true is = refl
-kept_here false is = absurd (cc)
+kept_here b is = grind (arith, nat_tests)
 
 pub none_bad : (keep : World → Bool) (n : ℕ) (p : Place) (schedule : List Move) → bad_at keep n p ≡ None → IsSchedule schedule p →
     length schedule ≡ n → KeepsAfter keep p schedule
@@ -29,9 +29,7 @@ none_bad keep zero p [] none s as_long = kept_here (keep p.world) none
 none_bad keep zero p (m ∷ ms) none s as_long = absurd (omega arith)
 none_bad keep (suc n) p [] none s as_long = absurd (omega arith)
 none_bad keep (suc n) p (m ∷ ms) none s as_long =
-    none_bad keep n (moved m p) ms
-    (map_none (λ (rest : List Move). m ∷ rest) (bad_at keep n (moved m p)) (none_found (bad_after keep n p) (moves p) m none (among m (moves p) s.0)))
-    s.1 (omega arith)
+    grind (arith, nat_tests, map_none, none_found, among, none_bad keep n (moved m p) ms (map_none (λ (rest : List Move). m ∷ rest) (bad_at keep n (moved m p)) (none_found (bad_after keep n p) (moves p) m none (among m (moves p) s.0))) s.1 (omega arith))
 
 -- a schedule of n moves that does not keep the rule, while those of n moves before it do
 pub record IsBadAt (keep : World → Bool) (n : ℕ) (p : Place) (schedule : List Move) : Type 0 where
@@ -46,15 +44,7 @@ none_before (m ∷ ms) before = before
 
 bad_here : (keep : World → Bool) (p : Place) (schedule : List Move) (b : Bool) → keep p.world ≡ b → cond b None (Some []) ≡ Some schedule →
     IsBadAt keep zero p schedule
-bad_here keep p schedule true is found = absurd (cc)
-bad_here keep p schedule false is found =
-    let nothing : [] ≡ schedule = cc in
-    subst (λ (ms : List Move). IsBadAt keep zero p ms) nothing (record {
-      is_schedule = tt;
-      is_bad = is;
-      as_long = refl;
-      before_keep = λ other s as_long before. absurd (none_before other before);
-    })
+bad_here keep p schedule b is found = grind (arith, nat_tests, none_before)
 
 -- a schedule from where a move leads, where the same move leads there
 from_same : (one same_one : Move) (ms : List Move) (p : Place) → one ≡ same_one → IsSchedule ms (moved one p) → IsSchedule ms (moved same_one p)
@@ -64,12 +54,7 @@ kept_before : (keep : World → Bool) (n : ℕ) (p : Place) (move : Move) (rest 
     bad_after keep n p o ≡ None) → IsBadAt keep n (moved move p) rest → (other : List Move) → IsSchedule other p → length other ≡ suc n →
     AreBefore other (move ∷ rest) → KeepsAfter keep p other
 kept_before keep n p move rest none bad [] s as_long before = absurd before
-kept_before keep n p move rest none bad (o ∷ os) s as_long before = elim before [
-  | inl first ↦ none_bad keep n (moved o p) os
-      (map_none (λ (ms : List Move). o ∷ ms) (bad_at keep n (moved o p)) (none o (among o (moves p) s.0) first)) s.1 (omega arith)
-  | inr same ↦ subst (λ (m : Move). KeepsAfter keep (moved m p) os) (sym same.0)
-      (bad.before_keep os (from_same o move os p same.0 s.1) (omega arith) same.1)
-]
+kept_before keep n p move rest none bad (o ∷ os) s as_long before = grind (arith, nat_tests, none_bad, map_none, among, from_same)
 
 bad_further : (keep : World → Bool) (n : ℕ) (p : Place) (move : Move) (rest : List Move) → IsAmong move (moves p) →
     ((o : Move) → IsAmong o (moves p) → IsBefore o move → bad_after keep n p o ≡ None) → IsBadAt keep n (moved move p) rest →
@@ -108,17 +93,7 @@ record IsFirst (keep : World → Bool) (n : ℕ) (p : Place) (schedule : List Mo
 -- one of n moves that is bad, where none of fewer is
 first_at : (keep : World → Bool) (n : ℕ) (p : Place) (schedule : List Move) → IsBadAt keep n p schedule →
     ((other : List Move) → IsSchedule other p → length other < n → KeepsAfter keep p other) → IsFirst keep n p schedule
-first_at keep n p schedule bad shorter = record {
-  bad = record {
-    is_schedule = bad.is_schedule;
-    is_bad = bad.is_bad;
-    earlier_keep = λ other s earlier. elim earlier [
-      | inl less ↦ shorter other s (let as_long : length schedule ≡ n = bad.as_long in omega arith)
-      | inr as_long ↦ bad.before_keep other s (as_long.0 ∙ bad.as_long) as_long.1
-    ];
-  };
-  within = let as_long : length schedule ≡ n = bad.as_long in omega arith;
-}
+first_at keep n p schedule bad shorter = grind (arith, nat_tests)
 
 found_before : (keep : World → Bool) (n : ℕ) (p : Place) (schedule : List Move) → IsFirst keep n p schedule → IsFirst keep (suc n) p schedule
 found_before keep n p schedule first = record { bad = first.bad; within = let within : length schedule ≤ n = first.within in omega arith }
@@ -138,9 +113,7 @@ is_first keep (suc n) p schedule found =
 
 found_by : (keep : World → Bool) (n : ℕ) (p : Place) (schedule : List Move) (o : Option (List Move)) → first_bad keep n p ≡ o →
     IsSchedule schedule p → length schedule ≤ n → keep (place_after schedule p).world ≡ false → (first : List Move) × (first_bad keep n p ≡ Some first)
-found_by keep n p schedule None is s within bad =
-    let kept : keep (place_after schedule p).world ≡ true = none_bad_up_to keep n p is schedule s within in absurd (cc)
-found_by keep n p schedule (Some first) is s within bad = (first, is)
+found_by keep n p schedule o is s within bad = grind (arith, nat_tests, none_bad_up_to)
 
 pub first_bad_is_first : FirstBadIsFirst
 first_bad_is_first = record {

@@ -1,15 +1,13 @@
 -- What whole schedules come to.
-use Rattle.std.proofs.Common.{◌≡◌, ◌≢◌, ℕ, zero, suc, ◌≤◌, true, false, nat_eq, List, [], ◌∷◌, ◌++◌, length, Result}
-use Rattle.std.proofs.Common.{inl, inr, refl, sym, ◌∙◌, ap, subst, arith}
+use Rattle.std.proofs.Common.{◌≡◌, ◌≢◌, ℕ, zero, suc, ◌≤◌, true, false, nat_eq, List, [], ◌∷◌, ◌++◌, length, Result, inl, inr, refl, sym, ◌∙◌, ap, subst, arith}
+use Rattle.std.proofs.lemmas.Bool.Decides.{nat_tests}
 use Rattle.stm_events.specs.declared.reply.Reply.{Reply}
 use Rattle.stm_events.specs.declared.refusal.Denied.{Denied}
-use Rattle.stm_world.specs.World.{replies_to}
-use Rattle.stm_world.proofs.Joined.{runs_go_on}
 use Rattle.stm_world.proofs.Slots.{equal_numbers, differ}
 use Rattle.stm_schedules.specs.declared.moves.Move.{Move}
 use Rattle.stm_schedules.specs.declared.outcome.Outcome.{Outcome}
-use Rattle.stm_schedules.specs.Places.{Place, moves, event_of, left_after, moved}
-use Rattle.stm_schedules.specs.Schedules.{place_after, events_along}
+use Rattle.stm_schedules.specs.Places.{Place, moves, moved}
+use Rattle.stm_schedules.specs.Schedules.{place_after}
 use Rattle.stm_schedules.specs.Outcomes.{Ends, after_reported, after_replies, ends_moved, ends_after, shown, outcome_after, Comes, IsOutcomeWithin}
 use Rattle.stm_schedules.specs.Outcomes.{outcome_if_whole, outcomes_at, outcomes_up_to, OutcomesAreThose}
 use Rattle.stm_schedules.proofs.Members.{IsAmong, among, contained, in_first, in_second, in_either, gathered_from, is_gathered}
@@ -22,10 +20,7 @@ replies_joined (reported ∷ first) second ends = replies_joined first second (a
 
 pub ends_go_along : (m : Move) (schedule : List Move) (p : Place) (ends : Ends) →
     ends_after (m ∷ schedule) p ends ≡ ends_after schedule (moved m p) (ends_moved m p ends)
-ends_go_along m schedule p ends =
-    let rest = events_along schedule (left_after m p.others) in
-    ap (λ (reported : List (Result Reply Denied)). after_replies reported ends) (runs_go_on.replies (event_of m p.others) rest p.world)
-    ∙ replies_joined (replies_to (event_of m p.others) p.world) (replies_to rest (moved m p).world) ends
+ends_go_along m schedule p ends = grind (arith, nat_tests, replies_joined)
 
 pub goes_along : (m : Move) (schedule : List Move) (p : Place) (ends : Ends) →
     outcome_after (m ∷ schedule) p ends ≡ outcome_after schedule (moved m p) (ends_moved m p ends)
@@ -37,11 +32,7 @@ abbrev pub ComesAt : ℕ → Place → Ends → Outcome → Type 0
 ComesAt n p ends it = (schedule : List Move) × Comes schedule p ends it × (length schedule ≡ n)
 
 pub whole_here : (p : Place) (ends : Ends) (it : Outcome) (ms : List Move) → moves p ≡ ms → IsAmong it (outcome_if_whole ms p.world ends) → ComesAt zero p ends it
-whole_here p ends it [] none a = elim a [
-  | inl here ↦ ([], record { is_whole = (tt, none); to = here }, refl)
-  | inr nothing ↦ absurd nothing
-]
-whole_here p ends it (m ∷ ms) some a = absurd a
+whole_here p ends it ms none a = grind (arith, nat_tests)
 
 pub comes_further : (n : ℕ) (p : Place) (ends : Ends) (it : Outcome) (m : Move) → IsAmong m (moves p) → ComesAt n (moved m p) (ends_moved m p ends) it →
     ComesAt (suc n) p ends it
@@ -61,8 +52,7 @@ comes_at (suc n) p ends it a =
     comes_further n p ends it from.0 from.1 (comes_at n (moved from.0 p) (ends_moved from.0 p ends) it from.2)
 
 pub is_whole_here : (p : Place) (ends : Ends) → moves p ≡ [] → IsAmong (shown p.world ends) (outcome_if_whole (moves p) p.world ends)
-is_whole_here p ends none =
-    subst (λ (ms : List Move). IsAmong (shown p.world ends) (outcome_if_whole ms p.world ends)) (sym none) (inl refl)
+is_whole_here p ends none = grind (arith, nat_tests, IsAmong)
 
 pub has_outcome : (n : ℕ) (p : Place) (ends : Ends) (it : Outcome) (schedule : List Move) → Comes schedule p ends it → length schedule ≡ n →
     IsAmong it (outcomes_at n p ends)

@@ -1,16 +1,14 @@
 -- The ends of exactly those runners are known that have ended.
-use Rattle.std.proofs.Common.{◌≡◌, ℕ, zero, suc, ◌+◌, ◌-◌, Bool, true, false, cond, nat_eq, List, [], ◌∷◌, ◌++◌, length, Option, Some, None, Result, Ok}
-use Rattle.std.proofs.Common.{inl, inr, refl, sym, ◌∙◌, ap, subst, arith}
+use Rattle.std.proofs.Common.{◌≡◌, ℕ, zero, suc, ◌+◌, ◌-◌, List, [], ◌∷◌, ◌++◌, length, Option, Some, None, Result, Ok, inl, inr, refl, sym, ap, subst, arith}
 use Rattle.std.specs.Prelude.{slice_get, slice_set}
-use Rattle.stm_txn.specs.Standing.{Standing, Setup}
+use Rattle.std.proofs.lemmas.Bool.Decides.{nat_tests}
+use Rattle.stm_txn.specs.Standing.{Standing}
 use Rattle.stm_events.specs.declared.event.WorldEvent.{WorldEvent}
 use Rattle.stm_events.specs.declared.reply.Reply.{Reply}
-use Rattle.stm_events.specs.declared.reply.Reply.TheVariants.{Started, Committed, GaveUp, Aborted, Faulted, Ended}
+use Rattle.stm_events.specs.declared.reply.Reply.TheVariants.{Started}
 use Rattle.stm_events.specs.declared.refusal.Denied.{Denied}
-use Rattle.stm_events.specs.declared.refusal.EventRefusal.TheVariants.{BadLimit}
-use Rattle.stm_events.specs.Replies.{runner_named}
-use Rattle.stm_events.specs.Called.{Call, Asked, Starts, Steps, Calls, asked, called}
-use Rattle.stm_world.specs.World.{World, Runner, Slot, Over, Live, Stepped, live_in, runner_at, with_slot, refused, begin, start_runner, step_runner, step_asked, step, world_after, replies_to, opened}
+use Rattle.stm_events.specs.Called.{Call, called}
+use Rattle.stm_world.specs.World.{World, Runner, Slot, Over, Live, Stepped, live_in, runner_at, with_slot, begin, start_runner, step_runner, step, world_after, replies_to}
 use Rattle.stm_world.specs.Task.{Task}
 use Rattle.stm_world.proofs.Slots.{other_number}
 use Rattle.stm_events.proofs.CallReplies.{call_replies}
@@ -19,9 +17,7 @@ use Rattle.stm_schedules.specs.declared.moves.Move.{Move}
 use Rattle.stm_schedules.specs.declared.moves.Move.TheVariants.{Step as StepOf}
 use Rattle.stm_schedules.specs.declared.outcome.RunnerEnd.{RunnerEnd}
 use Rattle.stm_schedules.specs.Places.{Place, moves}
-use Rattle.stm_schedules.specs.Schedules.{place_after, events_along}
-use Rattle.stm_schedules.specs.Scenarios.{up_to_last_start, begun}
-use Rattle.stm_schedules.specs.Outcomes.{Ends, after_reply, after_reported, after_replies, ends_begun, ends_after, known_ends, IsKnown, AreKnown, EndsAreKnown}
+use Rattle.stm_schedules.specs.Outcomes.{Ends, after_reported, after_replies, known_ends, IsKnown, AreKnown, EndsAreKnown}
 use Rattle.stm_schedules.proofs.Members.{IsAmong}
 use Rattle.stm_schedules.proofs.MoveLemmas.{step_is_move}
 use Rattle.stm_schedules.proofs.Runs.{world_along}
@@ -55,19 +51,9 @@ still_live (Live r ∷ ss) (None ∷ es) zero was now is known = (tt, known.1)
 still_live (Live r ∷ ss) (Some end ∷ es) zero was now is known = absurd known.0
 still_live (s ∷ ss) (e ∷ es) (suc i) was now is known = (known.0, still_live ss es i was now is known.1)
 
-live_at : (b : Bool) (o : Option Runner) (r : Runner) → cond b None o ≡ Some r → o ≡ Some r
-live_at true o r is = absurd (cc)
-live_at false o r is = is
-
 known_put : (id : ℕ) (slots : List Slot) (ends : Ends) (r : Runner) (slot : Option Slot) (end : Option RunnerEnd) → runner_at id slots ≡ Some r →
     IsKnownChange slot end → AreKnown slots ends → AreKnown (put id slot slots) (put_end id end ends)
-known_put id slots ends r None None runs fits known = known
-known_put id slots ends r None (Some end) runs fits known = absurd fits
-known_put id slots ends r (Some Over) None runs fits known = absurd fits
-known_put id slots ends r (Some Over) (Some end) runs fits known = known_set slots ends (id - 1) Over (Some end) tt known
-known_put id slots ends r (Some (Live now)) None runs fits known =
-    still_live slots ends (id - 1) r now (live_at (nat_eq id 0) (live_in (slice_get slots (id - 1))) r runs) known
-known_put id slots ends r (Some (Live now)) (Some end) runs fits known = absurd fits
+known_put id slots ends r slot end runs fits known = grind (arith, nat_tests, known_set, still_live)
 
 -- ---- events
 
@@ -101,48 +87,20 @@ started task w = record {
   next = record { standing = w.standing; runners = w.runners ++ Live (begin task) ∷ []; entries = w.entries };
 }
 
-known_start_by : (b : Bool) (task : Task) (w : World) (ends : Ends) → AreKnown w.runners ends → StaysKnown ends (cond b (refused BadLimit w) (started task w))
-known_start_by true task w ends known = known
-known_start_by false task w ends known = known_more w.runners ends (Live (begin task)) None tt known
-
 known_start : (task : Task) (w : World) (ends : Ends) → AreKnown w.runners ends → StaysKnown ends (start_runner task w)
 unfolding start_runner
-known_start task w ends known = known_start_by (nat_eq task.limit 0) task w ends known
-
--- a call of the store says nothing of runners
-nothing_ends : (ends : Ends) (reply : Reply) → runner_named reply ≡ None → after_reply reply ends ≡ ends
-nothing_ends ends (Started runner) none = absurd (cc)
-nothing_ends ends (Committed runner revision attempts output trace answers) none = absurd (cc)
-nothing_ends ends (GaveUp runner attempts key seen now) none = absurd (cc)
-nothing_ends ends (Aborted runner text) none = absurd (cc)
-nothing_ends ends (Faulted runner fault) none = absurd (cc)
-nothing_ends ends (Ended runner cause) none = absurd (cc)
-nothing_ends ends reply none = refl
+known_start task w ends known = grind (arith, nat_tests, known_more)
 
 call_ends_none : (ends : Ends) (s : Standing) (c : Call) → after_reported (called s c).reply ends ≡ ends
-call_ends_none ends =
-    call_replies (λ (r : Result Reply Denied). after_reported r ends ≡ ends) (record { told = nothing_ends ends; refused = λ cause expired. refl })
-
-known_asked : (a : Asked) (w : World) (ends : Ends) → AreKnown w.runners ends → StaysKnown ends (step_asked a w)
-known_asked (Starts program level limit) w ends known = known_start (record { program = program; level = level; limit = limit }) w ends known
-known_asked (Steps id) w ends known = known_step id (runner_at id w.runners) w ends refl known
-known_asked (Calls c) w ends known =
-    subst (StaysKnown ends) (sym (call_adds c w)) (subst (λ (es : Ends). AreKnown w.runners es) (sym (call_ends_none ends w.standing c)) known)
+call_ends_none ends = grind (arith, nat_tests, call_replies)
 
 known_event : (e : WorldEvent) (w : World) (ends : Ends) → AreKnown w.runners ends → StaysKnown ends (step e w)
-known_event e w ends known = known_asked (asked e) w ends known
+known_event e w ends known = grind (arith, nat_tests, known_start, known_step, call_adds, call_ends_none)
 
 known_run : (events : List WorldEvent) (w : World) (ends : Ends) → AreKnown w.runners ends →
     AreKnown (world_after events w).runners (after_replies (replies_to events w) ends)
 known_run [] w ends known = known
 known_run (e ∷ es) w ends known = known_run es (step e w).next (after_reported (step e w).reply ends) (known_event e w ends known)
-
-along : (start : Setup) (events : List WorldEvent) (schedule : List Move) →
-    AreKnown (place_after schedule (begun start events)).world.runners (ends_after schedule (begun start events) (ends_begun start events))
-along start events schedule =
-    let p : Place = begun start events in
-    subst (λ (w : World). AreKnown w.runners (ends_after schedule p (ends_begun start events))) (sym (world_along schedule p))
-    (known_run (events_along schedule p.others) p.world (ends_begun start events) (known_run (up_to_last_start events) (opened start) [] tt))
 
 -- ---- whole schedules
 
@@ -150,10 +108,7 @@ none_runs : (p : Place) (id : ℕ) (r : Runner) → moves p ≡ [] → runner_at
 none_runs p id r none runs = subst (λ (ms : List Move). IsAmong (StepOf id) ms) none (step_is_move p id r runs)
 
 runs_at : (slots : List Slot) (i : ℕ) (r : Runner) → live_in (slice_get slots i) ≡ Some r → runner_at (suc i) slots ≡ Some r
-runs_at slots i r is =
-    let same : suc i - 1 ≡ i = omega arith in
-    ap (λ b. cond b None (live_in (slice_get slots (suc i - 1)))) (other_number (suc i) 0 (omega arith))
-    ∙ ap (λ (k : ℕ). live_in (slice_get slots k)) same ∙ is
+runs_at slots i r is = grind (arith, nat_tests, other_number)
 
 all_over : (slots : List Slot) (ends : Ends) → ((i : ℕ) (r : Runner) → live_in (slice_get slots i) ≡ Some r → ⊥) → AreKnown slots ends →
     length (known_ends ends) ≡ length slots
@@ -165,10 +120,4 @@ all_over (Over ∷ ss) (None ∷ es) none known = absurd known.0
 all_over (Over ∷ ss) (Some end ∷ es) none known = ap suc (all_over ss es (λ i r is. none (suc i) r is) known.1)
 
 pub ends_are_known : EndsAreKnown
-ends_are_known = record {
-  along = along;
-  whole = λ start events schedule whole.
-      all_over (place_after schedule (begun start events)).world.runners (ends_after schedule (begun start events) (ends_begun start events))
-      (λ i r is. none_runs (place_after schedule (begun start events)) (suc i) r whole.1
-      (runs_at (place_after schedule (begun start events)).world.runners i r is)) (along start events schedule);
-}
+ends_are_known = grind (arith, nat_tests, all_over, none_runs, runs_at, world_along, known_run)

@@ -1,5 +1,6 @@
 -- How long schedules are.
 use Rattle.std.proofs.Common.{◌≡◌, ℕ, zero, suc, ◌≤◌, true, false, List, [], ◌∷◌, length, refl, ap, arith}
+use Rattle.std.proofs.lemmas.Bool.Decides.{nat_tests}
 use Rattle.stm_schedules.specs.declared.moves.Move.{Move}
 use Rattle.stm_schedules.specs.Places.{Place, moves, moved}
 use Rattle.stm_schedules.specs.Schedules.{IsSchedule}
@@ -32,8 +33,4 @@ none_longer (suc n) p (m ∷ ms) ends s =
     omega arith
 
 pub longest_is_all : LongestIsAll
-longest_is_all = record {
-  some_as_long = λ n p. (as_long n p, λ found. does_go_on n p found.0 found.1 found.2);
-  longest = λ n p reached ends. record { none_longer = λ schedule s. none_longer n p schedule ends s; one_as_long = as_long n p reached };
-  all = λ keep n p longest kept schedule s. kept schedule s (longest.none_longer schedule s);
-}
+longest_is_all = grind (arith, nat_tests, as_long, does_go_on, none_longer)

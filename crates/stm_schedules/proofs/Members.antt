@@ -3,6 +3,7 @@ use Rattle.std.proofs.Common.{◌≡◌, ◌⊎◌, ℕ, zero, suc, ◌<◌, Boo
 use Rattle.std.proofs.Common.{option_map, flat_map, inl, inr, refl, sym, ◌∙◌, ap, subst, arith}
 use Rattle.std.specs.List.{list_any}
 use Rattle.std.specs.Option.{option_or}
+use Rattle.std.proofs.lemmas.Bool.Decides.{nat_tests}
 use Rattle.stm_schedules.specs.Keeping.{first_of}
 
 abbrev pub IsAmong : {A : Type 0} → A → List A → Type 0
@@ -64,12 +65,10 @@ is_gathered {A} {B} f (z ∷ xs) x y a b = elim a [
 -- ---- some of them pass a test
 
 either_true : (a b : Bool) → (a || b) ≡ true → (a ≡ true) ⊎ (b ≡ true)
-either_true true b is = inl refl
-either_true false b is = inr is
+either_true a b is = grind (arith, nat_tests)
 
 pub both_false : (a b : Bool) → (a || b) ≡ false → (a ≡ false) × (b ≡ false)
-both_false true b is = absurd (cc)
-both_false false b is = (refl, is)
+both_false a b is = grind (arith, nat_tests)
 
 pub some_pass : {A : Type 0} (test : A → Bool) (xs : List A) → list_any test xs ≡ true → (x : A) × IsAmong x xs × (test x ≡ true)
 some_pass test [] is = absurd (cc)
@@ -79,12 +78,10 @@ some_pass test (x ∷ xs) is = elim (either_true (test x) (list_any test xs) is)
 ]
 
 true_left : (a b : Bool) → a ≡ true → (a || b) ≡ true
-true_left true b is = refl
-true_left false b is = absurd (cc)
+true_left a b is = grind (arith, nat_tests)
 
 true_right : (a b : Bool) → b ≡ true → (a || b) ≡ true
-true_right true b is = refl
-true_right false b is = is
+true_right a b is = grind (arith, nat_tests)
 
 pub one_passes : {A : Type 0} (test : A → Bool) (xs : List A) (x : A) → IsAmong x xs → test x ≡ true → list_any test xs ≡ true
 one_passes test [] x a is = absurd a
@@ -105,16 +102,13 @@ none_passes test (y ∷ ys) x a is =
 -- ---- what is found at them
 
 pub or_none : {A : Type 0} (o p : Option A) → option_or o p ≡ None → (o ≡ None) × (p ≡ None)
-or_none None p is = (refl, is)
-or_none (Some x) p is = absurd (cc)
+or_none o p is = grind (arith, nat_tests)
 
 pub map_none : {A B : Type 0} (f : A → B) (o : Option A) → option_map f o ≡ None → o ≡ None
-map_none f None is = refl
-map_none f (Some x) is = absurd (cc)
+map_none f o is = grind (arith, nat_tests)
 
 pub map_some : {A B : Type 0} (f : A → B) (o : Option A) (y : B) → option_map f o ≡ Some y → (x : A) × (o ≡ Some x) × (f x ≡ y)
-map_some f None y is = absurd (cc)
-map_some f (Some x) y is = (x, refl, cc)
+map_some f o y is = grind (arith, nat_tests)
 
 pub none_found : {A B : Type 0} (f : A → Option B) (xs : List A) (x : A) → first_of f xs ≡ None → IsAmong x xs → f x ≡ None
 none_found f [] x is a = absurd a

@@ -1,8 +1,9 @@
 -- Runners' steps among the others' events, as schedules.
-use Rattle.std.proofs.Common.{◌≡◌, ℕ, ◌≤◌, List, [], ◌∷◌, length, Option, Some, None, inl, inr, refl, sym, ◌∙◌, ap, subst, arith}
+use Rattle.std.proofs.Common.{◌≡◌, ℕ, ◌≤◌, List, [], ◌∷◌, length, Option, Some, None, inl, inr, refl, sym, ap, subst, arith}
+use Rattle.std.proofs.lemmas.Bool.Decides.{nat_tests}
 use Rattle.stm_events.specs.declared.event.WorldEvent.{WorldEvent}
 use Rattle.stm_events.specs.declared.event.WorldEvent.TheVariants.{Step}
-use Rattle.stm_world.specs.World.{World, Runner, runner_at, step_runner, step, world_after}
+use Rattle.stm_world.specs.World.{World, Runner, runner_at, step_runner, step}
 use Rattle.stm_schedules.specs.declared.moves.Move.{Move}
 use Rattle.stm_schedules.specs.declared.moves.Move.TheVariants.{Step as StepOf, Other}
 use Rattle.stm_schedules.specs.Places.{Place, moves}
@@ -23,14 +24,7 @@ nothing w others = record { schedule = []; is_schedule = tt; no_longer = omega a
 -- a step that is no move
 with_ended : (id : ℕ) (es : List WorldEvent) (w : World) (others : List WorldEvent) → runner_at id w.runners ≡ None → Matched es (place w others) →
     Matched (Step id ∷ es) (place w others)
-with_ended id es w others none rest =
-    let short : length rest.schedule ≤ length es = rest.no_longer in
-    record {
-      schedule = rest.schedule;
-      is_schedule = rest.is_schedule;
-      no_longer = omega arith;
-      same = rest.same ∙ ap (world_after es) (sym (ended_stays id w none));
-    }
+with_ended id es w others none rest = grind (arith, nat_tests, ended_stays)
 
 -- a step that is a move
 with_step : (id : ℕ) (es : List WorldEvent) (w : World) (others : List WorldEvent) (r : Runner) → runner_at id w.runners ≡ Some r →
@@ -58,8 +52,7 @@ with_other e es w others rest =
 
 step_by : (id : ℕ) (es : List WorldEvent) (w : World) (others : List WorldEvent) (o : Option Runner) → runner_at id w.runners ≡ o →
     ((v : World) → Matched es (place v others)) → Matched (Step id ∷ es) (place w others)
-step_by id es w others None is rest = with_ended id es w others is (rest w)
-step_by id es w others (Some r) is rest = with_step id es w others r is (rest (step (Step id) w).next)
+step_by id es w others o is rest = grind (arith, nat_tests, with_ended, with_step)
 
 matched : (events : List WorldEvent) (w : World) (others : List WorldEvent) → IsMerge events others → Matched events (place w others)
 matched [] w others merge = nothing w others
@@ -80,14 +73,4 @@ merge_of (Other ∷ ms) [] = merge_of ms []
 merge_of (Other ∷ ms) (e ∷ es) = inr (es, refl, merge_of ms es)
 
 pub merges_keep : MergesKeep
-merges_keep = record {
-  ended = ended_stays;
-  schedules = schedule_of;
-  merges = λ ms p. merge_of ms p.others;
-  kept = λ keep n p events all merge within.
-      let one : Matched events p = schedule_of events p merge in
-      let short : length one.schedule ≤ length events = one.no_longer in
-      sym (ap keep one.same) ∙ all one.schedule one.is_schedule (omega arith);
-  always = λ keep p events all merge.
-      let one : Matched events p = schedule_of events p merge in sym (ap keep one.same) ∙ all one.schedule one.is_schedule;
-}
+merges_keep = grind (arith, nat_tests, ended_stays, schedule_of, merge_of)

@@ -2,6 +2,7 @@
 use Rattle.std.proofs.Common.{◌≡◌, ◌≢◌, ℕ, zero, suc, ◌<◌, ◌≤◌, true, false, nat_eq, List, [], ◌∷◌, ◌++◌, length, Option, Some, None}
 use Rattle.std.proofs.Common.{inl, inr, refl, sym, ◌∙◌, ap, subst, arith}
 use Rattle.std.specs.Option.{option_or}
+use Rattle.std.proofs.lemmas.Bool.Decides.{nat_tests}
 use Rattle.stm_events.specs.declared.event.WorldEvent.{WorldEvent}
 use Rattle.stm_world.specs.World.{Runner, Slot, runner_at}
 use Rattle.stm_world.proofs.Slots.{equal_numbers, differ, runner_there}
@@ -24,11 +25,7 @@ record IsStepWithin (n : ℕ) (slots : List Slot) (m : Move) : Type 0 where
 
 step_here : (id : ℕ) (o : Option Runner) (slots : List Slot) (m : Move) → runner_at id slots ≡ o → IsAmong m (step_if_running id o) →
     IsStepWithin id slots m
-step_here id None slots m is a = absurd a
-step_here id (Some r) slots m is a = elim a [
-  | inl here ↦ record { id = id; is = sym here; within = omega arith; runner = r; runs = is }
-  | inr none ↦ absurd none
-]
+step_here id o slots m is a = grind (arith, nat_tests)
 
 wider : (n : ℕ) (slots : List Slot) (m : Move) → IsStepWithin n slots m → IsStepWithin (suc n) slots m
 wider n slots m s = let within : s.id ≤ n = s.within in record { id = s.id; is = s.is; within = omega arith; runner = s.runner; runs = s.runs }
@@ -41,8 +38,7 @@ is_step (suc n) slots m a = elim (in_either m (steps_up_to n slots) (step_if_run
 ]
 
 step_of_running : (id : ℕ) (o : Option Runner) (r : Runner) → o ≡ Some r → IsAmong (StepOf id) (step_if_running id o)
-step_of_running id None r is = absurd (cc)
-step_of_running id (Some s) r is = inl refl
+step_of_running id o r is = grind (arith, nat_tests)
 
 has_step : (n id : ℕ) (slots : List Slot) (r : Runner) → runner_at id slots ≡ Some r → 0 < id → id ≤ n → IsAmong (StepOf id) (steps_up_to n slots)
 has_step zero id slots r runs some within = absurd (omega arith)
@@ -58,26 +54,16 @@ has_step (suc n) id slots r runs some within =
 -- ---- moves
 
 pub step_is_move : (p : Place) (id : ℕ) (r : Runner) → runner_at id p.world.runners ≡ Some r → IsAmong (StepOf id) (moves p)
-step_is_move p id r runs =
-    let there = runner_there id p.world.runners r runs in
-    in_first (StepOf id) (steps_up_to (length p.world.runners) p.world.runners) (next_other p.others)
-    (has_step (length p.world.runners) id p.world.runners r runs there.0 there.1)
+step_is_move p id r runs = grind (arith, nat_tests, runner_there, in_first, has_step)
 
 is_other : (others : List WorldEvent) (m : Move) → IsAmong m (next_other others) → m ≡ Other
-is_other [] m a = absurd a
-is_other (e ∷ es) m a = elim a [
-  | inl here ↦ sym here
-  | inr none ↦ absurd none
-]
+is_other others m a = grind (arith, nat_tests)
 
 some_other : (others : List WorldEvent) (m : Move) → IsAmong m (next_other others) → (e : WorldEvent) × (es : List WorldEvent) × (others ≡ e ∷ es)
-some_other [] m a = absurd a
-some_other (e ∷ es) m a = (e, es, refl)
+some_other others m a = grind (arith, nat_tests)
 
 pub other_is_move : (p : Place) (e : WorldEvent) (es : List WorldEvent) → p.others ≡ e ∷ es → IsAmong Other (moves p)
-other_is_move p e es is =
-    in_second Other (steps_up_to (length p.world.runners) p.world.runners) (next_other p.others)
-    (subst (λ (others : List WorldEvent). IsAmong Other (next_other others)) (sym is) (inl refl))
+other_is_move p e es is = grind (arith, nat_tests, in_second, IsAmong)
 
 step_is_no_other : (id : ℕ) → StepOf id ≡ Other → ⊥
 step_is_no_other id is = cc
@@ -99,16 +85,7 @@ other_left p a = elim (in_either Other (steps_up_to (length p.world.runners) p.w
 ]
 
 pub moves_are_those : MovesAreThose
-moves_are_those = record {
-  steps = λ p id. (
-    λ c. step_runs p id (among (StepOf id) (moves p) c),
-    λ some. contained (StepOf id) (moves p) (step_is_move p id some.0 some.1),
-  );
-  others = λ p. (
-    λ c. other_left p (among Other (moves p) c),
-    λ some. contained Other (moves p) (other_is_move p some.0 some.1 some.2),
-  );
-}
+moves_are_those = grind (arith, nat_tests, step_runs, among, contained, step_is_move, other_left, other_is_move)
 
 -- ---- their order
 
@@ -129,19 +106,13 @@ ascend_joined (m ∷ first) second up_first up_second across = (
 )
 
 numbers_ascend : (a b : Move) (i j : ℕ) → a ≡ StepOf i → b ≡ StepOf j → i < j → IsBefore a b
-numbers_ascend a b i j is_a is_b less =
-    subst (λ (m : Move). IsBefore m b) (sym is_a) (subst (λ (m : Move). IsBefore (StepOf i) m) (sym is_b) less)
+numbers_ascend a b i j is_a is_b less = grind (arith, nat_tests)
 
 one_step_ascends : (id : ℕ) (o : Option Runner) → Ascend (step_if_running id o)
-one_step_ascends id None = tt
-one_step_ascends id (Some r) = (λ o none. absurd none, tt)
+one_step_ascends id o = grind (arith, nat_tests)
 
 its_number : (id : ℕ) (o : Option Runner) (m : Move) → IsAmong m (step_if_running id o) → m ≡ StepOf id
-its_number id None m a = absurd a
-its_number id (Some r) m a = elim a [
-  | inl here ↦ sym here
-  | inr none ↦ absurd none
-]
+its_number id o m a = grind (arith, nat_tests)
 
 steps_ascend : (n : ℕ) (slots : List Slot) → Ascend (steps_up_to n slots)
 steps_ascend zero slots = tt
@@ -151,23 +122,14 @@ steps_ascend (suc n) slots =
     (λ a b left right. let s = is_step n slots a left in let within : s.id ≤ n = s.within in
     numbers_ascend a b s.id (suc n) s.is (its_number (suc n) (runner_at (suc n) slots) b right) (omega arith))
 
-others_ascend : (others : List WorldEvent) → Ascend (next_other others)
-others_ascend [] = tt
-others_ascend (e ∷ es) = (λ o none. absurd none, tt)
-
 steps_first : (a b : Move) (i : ℕ) → a ≡ StepOf i → b ≡ Other → IsBefore a b
 steps_first a b i is_a is_b = subst (λ (m : Move). IsBefore m b) (sym is_a) (subst (λ (m : Move). IsBefore (StepOf i) m) (sym is_b) tt)
 
 pub moves_ascend : (p : Place) → Ascend (moves p)
-moves_ascend p =
-    ascend_joined (steps_up_to (length p.world.runners) p.world.runners) (next_other p.others)
-    (steps_ascend (length p.world.runners) p.world.runners) (others_ascend p.others)
-    (λ a b left right. let s = is_step (length p.world.runners) p.world.runners a left in steps_first a b s.id s.is (is_other p.others b right))
+moves_ascend p = grind (arith, nat_tests, ascend_joined, steps_ascend, is_step, steps_first, is_other)
 
 pub not_both : (a b : Move) → IsBefore a b → IsBefore b a → ⊥
-not_both (StepOf i) (StepOf j) one other = let less : i < j = one in let more : j < i = other in omega arith
-not_both (StepOf i) Other one other = other
-not_both Other b one other = one
+not_both a b one other = grind (arith, nat_tests)
 
 -- ---- what is found first
 
@@ -178,32 +140,12 @@ pub record FoundFirst {B : Type 0} (f : Move → Option B) (ms : List Move) (y :
   pub gives : f move ≡ Some y
   pub before : (o : Move) → IsAmong o ms → IsBefore o move → f o ≡ None
 
-found_here : {B : Type 0} (f : Move → Option B) (m : Move) (ms : List Move) (y : B) → Ascend (m ∷ ms) → f m ≡ Some y → FoundFirst f (m ∷ ms) y
-found_here f m ms y up gives = record {
-  move = m;
-  is_among = inl refl;
-  gives = gives;
-  before = λ o a before. absurd (elim a [
-    | inl here ↦ let itself : IsBefore m m = subst (λ (k : Move). IsBefore k m) (sym here) before in not_both m m itself itself
-    | inr there ↦ not_both o m before (up.0 o there)
-  ]);
-}
-
 found_later : {B : Type 0} (f : Move → Option B) (m : Move) (ms : List Move) (y : B) → f m ≡ None → FoundFirst f ms y → FoundFirst f (m ∷ ms) y
-found_later f m ms y none rest = record {
-  move = rest.move;
-  is_among = inr rest.is_among;
-  gives = rest.gives;
-  before = λ o a before. elim a [
-    | inl here ↦ ap f (sym here) ∙ none
-    | inr there ↦ rest.before o there before
-  ];
-}
+found_later f m ms y none rest = grind (arith, nat_tests)
 
 found_by : {B : Type 0} (f : Move → Option B) (m : Move) (ms : List Move) (y : B) (o rest : Option B) → Ascend (m ∷ ms) → f m ≡ o →
     (rest ≡ Some y → FoundFirst f ms y) → option_or o rest ≡ Some y → FoundFirst f (m ∷ ms) y
-found_by f m ms y None rest up here later is = found_later f m ms y here (later is)
-found_by f m ms y (Some z) rest up here later is = found_here f m ms y up (here ∙ is)
+found_by f m ms y o rest up here later is = grind (arith, nat_tests, found_later, not_both)
 
 pub found_first : {B : Type 0} (f : Move → Option B) (ms : List Move) (y : B) → Ascend ms → first_of f ms ≡ Some y → FoundFirst f ms y
 found_first f [] y up is = absurd (cc)

@@ -1,15 +1,14 @@
 -- Schedules as runs of their events.
-use Rattle.std.proofs.Common.{◌≡◌, List, [], ◌∷◌, ◌++◌, refl, sym, ◌∙◌}
+use Rattle.std.proofs.Common.{◌≡◌, List, [], ◌∷◌, ◌++◌, refl, arith}
+use Rattle.std.proofs.lemmas.Bool.Decides.{nat_tests}
 use Rattle.stm_world.specs.World.{world_after}
-use Rattle.stm_world.proofs.Joined.{runs_go_on}
 use Rattle.stm_schedules.specs.declared.moves.Move.{Move}
-use Rattle.stm_schedules.specs.Places.{Place, event_of, left_after, moved}
+use Rattle.stm_schedules.specs.Places.{Place, moved}
 use Rattle.stm_schedules.specs.Schedules.{place_after, IsSchedule, events_along, SchedulesAreRuns}
 
 pub world_along : (schedule : List Move) (p : Place) → (place_after schedule p).world ≡ world_after (events_along schedule p.others) p.world
 world_along [] p = refl
-world_along (m ∷ ms) p =
-    world_along ms (moved m p) ∙ sym (runs_go_on.worlds (event_of m p.others) (events_along ms (left_after m p.others)) p.world)
+world_along (m ∷ ms) p = grind (arith, nat_tests, world_along ms (moved m p))
 
 joined : (first second : List Move) (p : Place) → place_after (first ++ second) p ≡ place_after second (place_after first p)
 joined [] second p = refl

@@ -1,8 +1,8 @@
 -- A scenario in two parts: up to the last start, and after it.
-use Rattle.std.proofs.Common.{◌≡◌, Bool, true, false, cond, ◌||◌, List, [], ◌∷◌, ◌++◌, map, refl, sym, ◌∙◌, ap}
+use Rattle.std.proofs.Common.{◌≡◌, Bool, true, false, cond, List, [], ◌∷◌, ◌++◌, map, refl, sym, ◌∙◌, ap, arith}
+use Rattle.std.proofs.lemmas.Bool.Decides.{nat_tests}
 use Rattle.stm_program.specs.declared.level.Level.{Level}
 use Rattle.stm_events.specs.declared.event.WorldEvent.{WorldEvent}
-use Rattle.stm_events.specs.declared.event.WorldEvent.TheVariants.{Start}
 use Rattle.stm_world.specs.World.{opened, world_after}
 use Rattle.stm_world.proofs.Joined.{runs_go_on}
 use Rattle.stm_schedules.specs.declared.moves.Move.{Move}
@@ -13,16 +13,14 @@ use Rattle.stm_schedules.proofs.Runs.{world_along}
 use Rattle.stm_txn.specs.Standing.{Setup}
 
 both_by : (b : Bool) (e : WorldEvent) (es first second : List WorldEvent) → first ++ second ≡ es → cond b (e ∷ first) [] ++ cond b second (e ∷ es) ≡ e ∷ es
-both_by true e es first second is = ap (λ (rest : List WorldEvent). e ∷ rest) is
-both_by false e es first second is = refl
+both_by b e es first second is = grind (arith, nat_tests)
 
 both : (events : List WorldEvent) → up_to_last_start events ++ after_last_start events ≡ events
 both [] = refl
 both (e ∷ es) = both_by (has_start (e ∷ es)) e es (up_to_last_start es) (after_last_start es) (both es)
 
 none_by : (b : Bool) (e : WorldEvent) (es second : List WorldEvent) → has_start (e ∷ es) ≡ b → has_start second ≡ false → has_start (cond b second (e ∷ es)) ≡ false
-none_by true e es second is none = none
-none_by false e es second is none = is
+none_by b e es second is none = grind (arith, nat_tests)
 
 no_start_after : (events : List WorldEvent) → has_start (after_last_start events) ≡ false
 no_start_after [] = refl
@@ -37,18 +35,15 @@ replayed start events schedule =
 -- ---- at another level
 
 same_start : (level : Level) (e : WorldEvent) → is_start (at_level level e) ≡ is_start e
-same_start level (Start program other limit) = refl
-same_start level event = refl
+same_start level event = grind (arith, nat_tests)
 
 same_starts : (level : Level) (events : List WorldEvent) → has_start (map (at_level level) events) ≡ has_start events
 same_starts level [] = refl
-same_starts level (e ∷ es) =
-    ap (λ b. b || has_start (map (at_level level) es)) (same_start level e) ∙ ap (λ b. is_start e || b) (same_starts level es)
+same_starts level (e ∷ es) = grind (arith, nat_tests, same_start, same_starts level es)
 
 levels_by : (level : Level) (b : Bool) (e : WorldEvent) (first second : List WorldEvent) → first ≡ map (at_level level) second →
     cond b (at_level level e ∷ first) [] ≡ map (at_level level) (cond b (e ∷ second) [])
-levels_by level true e first second is = ap (λ (rest : List WorldEvent). at_level level e ∷ rest) is
-levels_by level false e first second is = refl
+levels_by level b e first second is = grind (arith, nat_tests)
 
 levels : (level : Level) (events : List WorldEvent) → up_to_last_start (map (at_level level) events) ≡ map (at_level level) (up_to_last_start events)
 levels level [] = refl
@@ -57,8 +52,7 @@ levels level (e ∷ es) =
     ∙ levels_by level (has_start (e ∷ es)) e (up_to_last_start (map (at_level level) es)) (up_to_last_start es) (levels level es)
 
 no_start_stays : (level : Level) (e : WorldEvent) → is_start e ≡ false → at_level level e ≡ e
-no_start_stays level (Start program other limit) none = absurd (cc)
-no_start_stays level event none = refl
+no_start_stays level event none = grind (arith, nat_tests)
 
 no_starts_stay : (level : Level) (events : List WorldEvent) → has_start events ≡ false → map (at_level level) events ≡ events
 no_starts_stay level [] none = refl

@@ -1,7 +1,7 @@
 -- What a step of a runner does over a store, whatever the other runners and the entries are.
-use Rattle.std.proofs.Common.{◌≡◌, ◌⊎◌, ℕ, ◌+◌, Bool, true, false, cond, List, length, map, Option, Some, None, Result, Ok, Err}
-use Rattle.std.proofs.Common.{inl, inr, refl, ◌∙◌, ap}
+use Rattle.std.proofs.Common.{◌≡◌, ◌⊎◌, ℕ, ◌+◌, Bool, true, false, cond, List, length, map, Option, Some, None, Result, Ok, Err, arith, inl, inr, refl}
 use Rattle.std.specs.Prelude.{nat_lt, slice_get}
+use Rattle.std.proofs.lemmas.Bool.Decides.{nat_tests}
 use Rattle.stm_history.specs.declared.key_state.ReadAnswer.{ReadAnswer}
 use Rattle.stm_history.specs.History.{now, key_at, mod_of}
 use Rattle.stm_program.specs.Writes.{latest_writes}
@@ -81,23 +81,7 @@ Does id s f = Touches id s f ⊎ Enters id s f
 
 does_alike : (id : ℕ) (s : Standing) (f g : World → Stepped) →
     ((slots : List Slot) (entries : List Entry) → g (world s slots entries) ≡ f (world s slots entries)) → Does id s f → Does id s g
-does_alike id s f g same does = elim does [
-  | inl t ↦ inl (record {
-    reply = t.reply;
-    slot = t.slot;
-    end = t.end;
-    is = λ slots entries. same slots entries ∙ t.is slots entries;
-    known = t.known;
-    fits = t.fits;
-  })
-  | inr e ↦ inr (record {
-    reply = e.reply;
-    end = e.end;
-    reports = λ slots entries. ap (λ (x : Stepped). x.reply) (same slots entries) ∙ e.reports slots entries;
-    over = λ slots entries. ap (λ (x : Stepped). x.next.runners) (same slots entries) ∙ e.over slots entries;
-    known = e.known;
-  })
-]
+does_alike id s f g same does = grind (arith, nat_tests)
 
 fetch_touches : (id : ℕ) (r : Runner) (key : List ℕ) (of_rev : ℕ) (s : Standing) → Touches id s (fetch id r key of_rev)
 unfolding fetch
@@ -200,8 +184,7 @@ fetch_if_touches id r key base s false = fetch_touches id r key (revision_read s
 same_fetch : (id : ℕ) (r : Runner) (key : List ℕ) (base : ℕ) (s : Standing) (slots : List Slot) (entries : List Entry) (below : Bool) →
     cond below (replied (Ended id CompactedRefusal) id Over (world s slots entries)) (fetch id r key (revision_read s.history base) (world s slots entries))
     ≡ fetch_if id r key base s below (world s slots entries)
-same_fetch id r key base s slots entries true = refl
-same_fetch id r key base s slots entries false = refl
+same_fetch id r key base s slots entries below = grind (arith, nat_tests)
 
 answered_does : (id : ℕ) (r : Runner) (reads : List ReadAnswer) (a : Answered) (s : Standing) → Does id s (step_on id r reads a)
 answered_does id r reads (Wants key trace) s =

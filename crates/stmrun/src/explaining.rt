@@ -5,7 +5,7 @@ use crate::files::{Opened, open};
 use crate::kinds::{Kind, begins_source, kind_of, say_kind};
 use crate::naming::RUNNERS;
 use crate::noting::Noting;
-use crate::sources::{Given, JsonFile, say_ended};
+use crate::sources::{Given, JsonFile, say_ended, say_leases};
 use std::io;
 use std::io::{Input, Write};
 use std::rt::Files;
@@ -147,6 +147,7 @@ pub(crate) fn run_script(
     let mut err = Std::new(said);
     let status = script_on(rt, &given.scenario, format, labels, explain, &mut err);
     say_still(rt, given);
+    say_leases(rt, given, RUNNERS);
     say_ended(rt, given, RUNNERS, status, &err)
 }
 

@@ -9,7 +9,8 @@ use crate::noting::{Kept, Noting};
 use crate::rules::{is_json, named_in, rules_named, rules_of, unnamed_rule};
 use crate::ruling::Question;
 use crate::sources::{
-    Given, JsonFile, NamedSource, SourceText, out_of_memory, say_unasked, source_at, source_text,
+    Given, JsonFile, NamedSource, SourceText, out_of_memory, say_leases, say_unasked, source_at,
+    source_text,
 };
 use crate::terminals::{Told, close, shown_budget};
 use crate::waits::{read_waits, refuse_beside, refuse_levels, refuse_waits};
@@ -388,11 +389,15 @@ pub(crate) fn run_search(
         return Err(2);
     }
     refuse_rules(rt, words)?;
+    let given = source_at(rt, words.scenario, explain)?;
+    if explain {
+        say_leases(rt, &given, RUNNERS);
+    }
     let Given {
         scenario,
         beside,
         text,
-    } = source_at(rt, words.scenario, explain)?;
+    } = given;
     let source = source_text(rt, text, &beside)?;
     let search = Search {
         path: words.scenario,

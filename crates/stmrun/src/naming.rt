@@ -14,9 +14,9 @@ const EMPTY: &str = " is absent, or its value \"\"";
 #[derive(Clone, Copy)]
 pub(crate) struct Called {
     /// What stands before the number of one.
-    word: &'static str,
+    pub(crate) word: &'static str,
     /// The number of the first one.
-    first: u64,
+    pub(crate) first: u64,
 }
 
 /// Runners of a world.

@@ -19,6 +19,7 @@ use stm_compiling::{
 };
 use stm_devices::{ReadFault, read_all};
 use stm_explain::Said;
+use stm_faulted_runs::{Named, leases_explained};
 use stm_history::{Sequence, Text};
 
 /// What the names of sources end in.
@@ -398,6 +399,19 @@ fn say_of_runs(rt: &HostRuntime, given: &Given<'_>, called: Called, lines: &str)
 fn named_notes(alloc: Global, rules: &[Rule], waits: &[Wait], runners: &[NamedRunner]) -> Said {
     let notes = notes_of(alloc, rules, waits)?;
     named_lines(alloc, notes.as_str(), RUNNERS, runners)
+}
+
+/// Says which runs of a scenario's source, which are called so, put on a lease that no event grants; nothing, where it has no source or memory runs out.
+pub(crate) fn say_leases(rt: &HostRuntime, given: &Given<'_>, called: Called) {
+    if let JsonFile::Compiled(line, name) = &given.scenario {
+        let named = Named {
+            name: name.as_str(),
+            text: line.as_str(),
+        };
+        if let Ok(lines) = leases_explained(rt.alloc(), &named, called.word, called.first) {
+            say_of_runs(rt, given, called, lines.as_str());
+        }
+    }
 }
 
 /// Says what a command over a scenario, which gives this status, has said on `err`, as `say_of_runs` does, and gives the status. Where `err` could not keep all of

@@ -7,7 +7,7 @@ use crate::explaining::{START, kept_json, say_read, say_unwritten};
 use crate::naming::JOBS;
 use crate::noting::{Kept, Noting};
 use crate::sources::{
-    Given, JsonFile, given_at, out_of_memory, runners_of, say_ended, say_no_jobs,
+    Given, JsonFile, given_at, out_of_memory, runners_of, say_ended, say_leases, say_no_jobs,
 };
 use crate::wording::{Lines, held, print_words};
 use std::io::Write;
@@ -78,6 +78,9 @@ fn given_threads_on<T: Threads + Wait + Sync, W: Write + Drop>(
     let status = threads_on(rt, threads, &given.scenario, options, out, &mut err);
     if options.explain && status == BAD && say_no_jobs(rt, given, &err) {
         return status;
+    }
+    if options.explain {
+        say_leases(rt, given, JOBS);
     }
     say_ended(rt, given, JOBS, status, &err)
 }

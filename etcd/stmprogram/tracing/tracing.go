@@ -19,7 +19,7 @@ import (
 
 // Log keeps the commits of the transactions that were run with it, of any number of clients.
 type Log struct {
-	// Prefix is what all keys begin with that the transactions may read. Where it is said, the trace begins with these keys alone: a user of etcd
+	// Prefix is what all keys begin with that the transactions may read or delete. Where it is said, the trace begins with these keys alone: a user of etcd
 	// may have no right to read others, or there may be too many.
 	Prefix  string
 	mutex   sync.Mutex
@@ -46,7 +46,7 @@ func (l *Log) NewSTM(ctx context.Context, client *clientv3.Client, level concurr
 	over.KV = answers
 	var last *memory
 	response, err := concurrency.NewSTM(over, func(stm concurrency.STM) error {
-		last = &memory{STM: stm, writes: []interface{}{}, written: map[string]bool{}, read: map[string]bool{}}
+		last = &memory{STM: stm, answers: answers, writes: []interface{}{}, written: map[string]bool{}, read: map[string]bool{}}
 		return apply(last)
 	}, concurrency.WithIsolation(level), concurrency.WithAbortContext(ctx))
 	if err == nil {
@@ -128,12 +128,13 @@ func hasChanged(response *clientv3.TxnResponse) bool {
 // memory is the memory of one attempt: it notes what is read, in the order of first reads, and what is written.
 type memory struct {
 	concurrency.STM
+	answers       *answers
 	reads         []string
 	writes        []interface{}
 	read, written map[string]bool
 }
 
-// Get reads no key where the attempt has written one of them.
+// Get reads no key where the attempt has written one of them. Where it has read one of them, the memory may fetch none of the others.
 func (m *memory) Get(keys ...string) string {
 	for _, key := range keys {
 		if m.written[key] {
@@ -152,9 +153,10 @@ func (m *memory) Rev(key string) int64 {
 	return revision
 }
 
+// note notes those of these keys that have been answered: at this attempt, or by the commit before it that failed.
 func (m *memory) note(keys ...string) {
 	for _, key := range keys {
-		if !m.read[key] {
+		if m.answers.shown[key] != nil && !m.read[key] {
 			m.read[key] = true
 			m.reads = append(m.reads, key)
 		}
@@ -173,7 +175,7 @@ func (m *memory) Del(key string) {
 	m.writes = append(m.writes, []interface{}{"del", key})
 }
 
-// answers is a client's KV that keeps the last answer that etcd gave for each key.
+// answers is a client's KV that keeps the last answer that etcd gave for each key, since the last commit that failed.
 type answers struct {
 	clientv3.KV
 	shown map[string]interface{}
@@ -212,9 +214,10 @@ func (t *txn) Commit() (*clientv3.TxnResponse, error) {
 	if err != nil {
 		return nil, err
 	}
-	ops := t.failure
-	if response.Succeeded {
-		ops = t.success
+	ops := t.success
+	if !response.Succeeded { // a commit that failed: the next attempt begins with its answers alone
+		ops = t.failure
+		t.answers.shown = map[string]interface{}{}
 	}
 	for i, op := range ops {
 		if op.IsGet() {

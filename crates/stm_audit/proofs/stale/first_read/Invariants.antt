@@ -1,0 +1,7 @@
+use Rattle.std.proofs.Common.{◌≡◌, fold, min, drop}
+use Rattle.stm_events.specs.declared.reply.CommittedRead.{CommittedRead}
+use Rattle.stm_audit.specs.Anomalies.{first_read}
+use Rattle.stm_audit.proofs.stale.first_read.Given as goal
+
+abbrev pub invariant-loop-read : goal.invariant-loop-read
+invariant-loop-read l = first_read l.reads ≡ fold (λ least (a : CommittedRead). min least a.of_rev) l.first (drop l.read-index l.reads)

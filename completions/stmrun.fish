@@ -31,7 +31,7 @@ complete -c stmrun -n __fish_use_subcommand -a explore -d 'Looks through every i
 complete -c stmrun -n '__fish_seen_subcommand_from explore' -F
 complete -c stmrun -n '__fish_seen_subcommand_from explore' -l keeps -d 'The file of a rule, which is asked after every schedule' -r -F
 complete -c stmrun -n '__fish_seen_subcommand_from explore' -l level -d 'The level of every start, in the place of its own' -x -a 'SerializableSnapshot Serializable RepeatableReads ReadCommitted all'
-complete -c stmrun -n '__fish_seen_subcommand_from explore' -l budget -d 'How many moves are made at most, in all schedules together, 1500000 if not said' -x -a ''
+complete -c stmrun -n '__fish_seen_subcommand_from explore' -l budget -d 'How many moves are made at most, 1500000 if not said' -x -a ''
 complete -c stmrun -n '__fish_seen_subcommand_from explore' -l after -d 'Which runners make no step before another has ended' -x -a ''
 complete -c stmrun -n '__fish_seen_subcommand_from explore' -l witness -d 'Prints the outcomes of whole schedules, and of each the scenario with a schedule that comes to it'
 complete -c stmrun -n '__fish_seen_subcommand_from explore' -l serial -d 'Looks for an outcome of a whole schedule that no serial order of the runners comes to'

@@ -83,7 +83,7 @@ With --level all there is a line for each level, the weakest first, without the 
 
 Where SCENARIO is a source, a source stands in the place of each scenario that is printed. With --format text a table does, as
 script --format text prints it, by --width N for a terminal of N characters, and the lines are words; with --level all and a rule, a
-last one is the table of the weakest level at which a rule is broken.
+last one is the table of the weakest level at which a rule is broken, or, where none is enough, of the strongest.
 
 stmrun help language has what a source may have.
 
@@ -140,7 +140,7 @@ const EXPLORE: Table = Table {
         (
             "budget",
             Form::Value("N", ValueParser::Unsigned(0, u64::MAX)),
-            "How many moves are made at most, in all schedules together, 1500000 if not said",
+            "How many moves are made at most, 1500000 if not said",
         ),
         (
             "after",

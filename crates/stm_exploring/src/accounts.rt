@@ -9,6 +9,7 @@ use crate::counted_ends::{Came, count_end, push_ends};
 use crate::final_words::{AskedOutput, outputs_asked, wrong_ends};
 use crate::key_use::{KeyUse, VaryingRule, varying_rules};
 use crate::rules::{RuleAnswer, has_kept};
+use crate::run_texts::tell_texts;
 use crate::seen_ends::{SeenEnds, never_words};
 use serde_json::Value as Json;
 use std::alloc::{AllocError, Global};
@@ -484,6 +485,7 @@ fn tell_orders<O: Audience>(
     tell_without_abort(account.alloc, answers, audience)?;
     tell_of_rules(account, answers, audience)?;
     tell_ends(account.alloc, answers, audience)?;
+    tell_texts(account.alloc, answers, account.programs, audience)?;
     tell_outputs(account, answers, audience)
 }
 

@@ -38,8 +38,8 @@ pub(crate) fn rule_word(alloc: Global, answers: &[RuleAnswer], place: usize) -> 
     String::from_str(alloc, "the rule")
 }
 
-/// A text before a key that is near to another one; nothing where there is none.
-fn near_words(alloc: Global, near: &str) -> Said {
+/// What is said of a key or a text that is near to another one; nothing where there is none.
+pub(crate) fn near_words(alloc: Global, near: &str) -> Said {
     if near.is_empty() {
         return Ok(String::new(alloc));
     }

@@ -27,7 +27,7 @@ use stm_program::{Level, Program};
 ///
 /// `["always",LENGTH]` and status 0: after every schedule it does, and the longest has LENGTH moves. `["broken",LENGTH,END]` and status 1:
 /// it does not after the schedule of LENGTH moves that stands, as a scenario, on a second line, and does after each that is shorter, or that
-/// is as long and stands before it. `["open",LENGTH]` and status 4: as many events were taken as `budget` had left, before that was decided,
+/// is as long and stands before it. `["open",LENGTH]` and status 4: as many moves were made as `budget` had left, before that was decided,
 /// and after every schedule of at most LENGTH moves it does. The observer of `budget` is notified of how far the search is, and that it has ended
 /// before anything is written.
 ///
@@ -100,7 +100,7 @@ pub fn read_rule_to<R: Source, E: Sink>(
 /// Looks through the interleavings of the scenario of `scenario`, for each of these rules in their order, and writes to `out` what that came to.
 ///
 /// There is a line for each rule, as `explore_to` writes it, with its name as a last element, if it has one. Where a rule is broken, a last line has the
-/// scenario with the schedule that breaks the first one that is. For each rule as many events may be taken as `budget` has left. Status 1 is for a rule
+/// scenario with the schedule that breaks the first one that is. For each rule as many moves may be made as `budget` has left. Status 1 is for a rule
 /// that is broken, else 4 for one of which that was not decided, else 0.
 ///
 /// All else is as with `explore_to`, which reads the rule from a device.
@@ -135,7 +135,7 @@ pub fn explore_rules_to<S: Source, W: Sink, E: Sink, O: Audience>(
 ///
 /// There are the lines of each level, as `explore_rules_to` writes them, with the level as a last element and without a schedule; and then
 /// `["enough",LEVEL]`, the first level from which on every schedule keeps every rule, or `["enough",null]`. Status 1 is for a rule that is broken at a level
-/// at which it is to be kept, else 4 for one of which that was not decided, else 0. At each level as many events may be taken for each rule as `budget` has
+/// at which it is to be kept, else 4 for one of which that was not decided, else 0. At each level as many moves may be made for each rule as `budget` has
 /// left.
 ///
 /// All else is as with `explore_rules_to`.
@@ -167,7 +167,7 @@ pub fn explore_levels_to<S: Source, W: Sink, E: Sink, O: Audience>(
 /// Goes through the interleavings of the scenario of `scenario`, and writes to `out` what whole schedules, after which no move is left, come to.
 ///
 /// Status 0 and `["outcome",STATE,ENDS]`, the present keys with their values and how each runner ended, for each outcome of a whole schedule,
-/// once, ascending by the bytes of the line, and then `["outcomes",COUNT]`. Status 4 and `["open",LENGTH]`: as many events were taken as `budget`
+/// once, ascending by the bytes of the line, and then `["outcomes",COUNT]`. Status 4 and `["open",LENGTH]`: as many moves were made as `budget`
 /// had left, before all were found, and every schedule of at most LENGTH moves was gone through. Where `question` asks for witnesses, a line with
 /// the scenario with the events of a schedule that comes to it stands behind each outcome: none that does is shorter.
 ///

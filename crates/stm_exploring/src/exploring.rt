@@ -42,7 +42,7 @@ fn search_alone<O: Audience>(
 /// rule is kept: the first by length, and then by the order of their moves, after which it is not, or that there is none.
 ///
 /// Of the schedules those alone are looked at in which the runners wait for others, as `waits` says. The steps of the scenario are left out. Each
-/// start is taken at the level that is named, where one is. At most as many events are taken as `budget` has left, and its observer is notified of
+/// start is taken at the level that is named, where one is. At most as many moves are made as `budget` has left, and its observer is notified of
 /// how far the search is. Neither source has failed before. It fails as `BadScenario` with the scenario's first fault, and then the program is not
 /// read; as `BadProgram` with the program's first fault; as `BadWait` with the first wait for which the scenario does not have the runners; as
 /// `OutOfMemory` where an allocation failed; and as `Device` exactly where a source has failed. At most 16777217 bytes of each are read, in at most
@@ -73,7 +73,7 @@ pub fn explore_sources<S: Source, R: Source, O: Audience>(
 }
 
 /// Reads a scenario from its source to the end, and looks for each rule after which schedules of it the rule is kept, as `explore_sources` does:
-/// those that stand side by side and are asked at the same places in one walk, and for each at most as many events are taken as `budget` has left.
+/// those that stand side by side and are asked at the same places in one walk, and for each at most as many moves are made as `budget` has left.
 pub fn search_for<S: Source, O: Audience>(
     alloc: Global,
     scenario: &mut S,

@@ -22,7 +22,7 @@ use stm_texts::WorldEvent;
 /// Where serial orders are enough, at most this many moves are made for schedules before the orders are judged.
 const FIRST_MOVES: u64 = 4000;
 
-/// The observer is notified where this many events are left, or a multiple of that.
+/// The observer is notified where this many moves are left, or a multiple of that.
 const TOLD_EACH: u64 = 5000;
 
 /// What is known of a rule.
@@ -36,7 +36,7 @@ pub(crate) enum Answer {
     BrokenByOrder(Break),
 }
 
-/// The observer of a part of a search, after which this many events may still be taken. The search has not ended with it.
+/// The observer of a part of a search, after which this many moves may still be made. The search has not ended with it.
 #[derive(Drop)]
 struct Part<'a, O> {
     observer: &'a mut O,
@@ -161,7 +161,7 @@ fn judge_orders<O: Observer>(
 }
 
 /// Whether a search has not come to an end.
-fn is_open(answer: &Answer) -> bool {
+pub(crate) fn is_open(answer: &Answer) -> bool {
     matches!(answer, Answer::BySchedules(Explored::Open { .. }))
 }
 

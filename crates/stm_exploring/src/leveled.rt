@@ -5,6 +5,7 @@ ghost use Rattle.stm_serial_search.specs.Started.{HaveNoStep};
 ghost use Rattle.stm_exploring.specs.Judging.{AreFound};
 ghost use Rattle.stm_exploring.specs.Levels.{AreFoundAt, ArePrintedAt, SearchesLevels, leveled, levels};
 
+use crate::advice::tell_open;
 use crate::asking::put_levels;
 use crate::audience::Audience;
 use crate::enough::tell_enough;
@@ -86,6 +87,9 @@ fn judge_level<O: Audience>(
         observer,
     };
     let answers = explore_scenario(alloc, scenario, waits, rules, &mut budget)?;
+    let events = scenario.events.as_slice();
+    let audience = &mut budget.observer;
+    tell_open(alloc, events, waits, answers.as_slice(), false, audience);
     Ok(LevelAnswers {
         level,
         answers: Sequence::of(answers),

@@ -7,6 +7,7 @@
 
 mod aborting;
 mod accounts;
+mod advice;
 mod asked_keys;
 mod asking;
 mod audience;
@@ -40,6 +41,7 @@ mod reading;
 mod refused;
 mod replaying;
 mod rules;
+mod run_texts;
 mod schedule_lines;
 mod searching;
 mod seen_ends;

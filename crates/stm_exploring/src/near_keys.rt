@@ -1,10 +1,11 @@
-//! The keys that are nearest to others, by edits of characters.
+//! The keys and texts that are nearest to others, by edits of characters.
 ghost use Rattle.std.specs.Prelude.{◌<◌};
 
 use crate::key_use::KeyUse;
 use std::alloc::{AllocError, Global};
 use stm_explain::Said;
 use stm_history::Text;
+use stm_named_keys::Name;
 use strsim::levenshtein;
 
 /// A key of more bytes than this has no near one.
@@ -81,6 +82,25 @@ pub(crate) fn nearest<'a>(
     let near = near_there(alloc, keys, Near { key: "", edits }, key)?;
     let near = near_among(alloc, keys.put.as_slice(), near, key)?;
     let near = near_among(alloc, keys.spelled.as_slice(), near, key)?;
+    Ok(near.key)
+}
+
+/// The text that is nearest to one, among those that the spelling of programs says whole: an empty text, where each is further than half of it.
+pub(crate) fn nearest_name<'a>(
+    alloc: Global,
+    names: &'a [Name],
+    text: &str,
+) -> Result<&'a str, AllocError> {
+    if text.len() > MOST_NEAR {
+        return Ok("");
+    }
+    let edits = text.chars().count() / 2 + 1;
+    let mut near = Near { key: "", edits };
+    for name in names {
+        if name.is_whole {
+            near = nearer(alloc, near, text, &name.text)?;
+        }
+    }
     Ok(near.key)
 }
 

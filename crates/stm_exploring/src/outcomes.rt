@@ -9,6 +9,7 @@ ghost use Rattle.stm_exploring.specs.Asking.{place_of, ends_of};
 ghost use Rattle.stm_exploring.specs.Narrowing.{StandsFor};
 ghost use Rattle.stm_exploring.specs.Questions.{AreGathered, AreListed, ArePrinted, Gathers, all_text, found_texts, gathered_text, printed_outcomes, verdict_of_outcomes};
 
+use crate::advice::tell_if_open;
 use crate::audience::{Audience, tell_parts};
 use crate::narrowing::narrowed;
 use crate::outcome_lines::{counted_text, each_line, each_witness};
@@ -220,7 +221,7 @@ fn answer<O: Audience>(
 /// Reads a scenario from its source to the end, and looks what its whole schedules come to: the state, and how each runner ended. Where it is asked,
 /// each has the scenario with a schedule that comes to it, or it is told whether a serial order comes to each.
 ///
-/// The steps of the scenario are left out. Each start is taken at the level that is named, where one is. At most as many events are taken as `budget`
+/// The steps of the scenario are left out. Each start is taken at the level that is named, where one is. At most as many moves are made as `budget`
 /// has left, and its observer is notified of how far the search is. The source has not failed before. It fails as `BadScenario` with the scenario's
 /// first fault; as `OutOfMemory` where an allocation failed; and as `Device` exactly where the source has failed. At most 16777217 bytes are read, in
 /// at most that many reads.
@@ -237,7 +238,11 @@ pub fn outcomes_of_source<S: Source, O: Audience>(
 {
     let mut scenario = scenario_of(alloc, scenario, level, &mut budget.observer)?;
     match answer(alloc, question, &mut scenario, budget) {
-        Ok(printed) => Ok(printed),
+        Ok(printed) => {
+            let events = scenario.events.as_slice();
+            tell_if_open(alloc, events, printed.verdict, &mut budget.observer);
+            Ok(printed)
+        }
         Err(_) => Err(ExploreFault::OutOfMemory),
     }
 }

@@ -8,7 +8,7 @@ pub enum SearchAnswer {
     Kept,
     /// The rule is not kept after some schedule.
     Broken,
-    /// As many events were taken as may be, before that was decided.
+    /// As many moves were made as may be, before that was decided.
     Open,
 }
 

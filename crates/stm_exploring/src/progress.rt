@@ -14,7 +14,7 @@ const WIPE: &str = "\r\x1b[K";
 pub struct ProgressLine<W> {
     /// Where the line is shown, if anywhere.
     pub terminal: Option<W>,
-    /// How many events the search may take.
+    /// How many moves the search may make.
     most: u64,
     /// How many of them are left.
     left: u64,
@@ -25,7 +25,7 @@ pub struct ProgressLine<W> {
 }
 
 impl<W> ProgressLine<W> {
-    /// The line of a search that may take at most this many events.
+    /// The line of a search that may make at most this many moves.
     pub fn new(terminal: Option<W>, most: u64) -> ProgressLine<W> {
         ProgressLine {
             terminal,
@@ -42,11 +42,11 @@ impl<W: Write> ProgressLine<W> {
     fn show(&mut self) {
         let length = self.length;
         let most = self.most;
-        let taken = most.saturating_sub(self.left);
+        let made = most.saturating_sub(self.left);
         if let Some(terminal) = &mut self.terminal {
             let _ = write!(
                 terminal,
-                "\rstmrun: schedules of up to {length} moves done, {taken} of {most} events"
+                "\rstmrun: schedules of up to {length} moves done, {made} of {most} moves made"
             );
             self.is_shown = true;
         }
@@ -88,7 +88,7 @@ pub struct ProgressNotes<'a, W, C> {
     begun: Option<Instant>,
     /// How many pauses had passed when a line was last written.
     pauses: u64,
-    /// How many events the search may take.
+    /// How many moves the search may make.
     most: u64,
     /// How many of them are left.
     left: u64,
@@ -100,7 +100,7 @@ pub struct ProgressNotes<'a, W, C> {
 const PAUSE: u64 = 10;
 
 impl<'a, W, C: Clock> ProgressNotes<'a, W, C> {
-    /// The notes of a search that begins now and may take at most this many events.
+    /// The notes of a search that begins now and may make at most this many moves.
     pub fn new(out: W, clock: &'a C, most: u64) -> ProgressNotes<'a, W, C> {
         ProgressNotes {
             out,
@@ -130,11 +130,11 @@ impl<W: Write, C: Clock> ProgressNotes<'_, W, C> {
     fn write(&mut self, begin: &str, seconds: u64) {
         let length = self.length;
         let most = self.most;
-        let taken = most.saturating_sub(self.left);
+        let made = most.saturating_sub(self.left);
         let out = &mut self.out;
         let _ = writeln!(
             out,
-            "stmrun: {begin}schedules of up to {length} moves done, {taken} of {most} events, {seconds} seconds"
+            "stmrun: {begin}schedules of up to {length} moves done, {made} of {most} moves made, {seconds} seconds"
         );
     }
 
@@ -147,10 +147,11 @@ impl<W: Write, C: Clock> ProgressNotes<'_, W, C> {
         }
     }
 
-    /// Writes how far the search came, where there was a line before: so many events are left.
+    /// Writes how far the search came, where there was a line before: so many moves are left, or as few as it was notified of,
+    /// at the last of several levels.
     pub fn close(&mut self, left: u64) {
         if self.pauses > 0 {
-            self.left = left;
+            self.left = self.left.min(left);
             let seconds = self.seconds();
             self.write("ended: ", seconds);
         }

@@ -12,6 +12,7 @@ ghost use Rattle.stm_exploring.specs.Judging.{AreAnswers, AreFound, AreFoundBesi
 ghost use Rattle.stm_exploring.specs.Narrowing.{StandsFor};
 
 use crate::accounts::tell_account;
+use crate::advice::tell_open;
 use crate::audience::{Audience, tell_parts};
 use crate::faulted::tell_faults;
 use crate::grouping::{asked_by, end_of_group, group_of, push_answers};
@@ -411,5 +412,8 @@ pub(crate) fn search<O: Audience>(
     ensures { IfOk result (IsPrinted waits.now scenario.now rules.now) }
 {
     let answers = explore_scenario(alloc, scenario, waits, rules, budget)?;
+    let events = scenario.events.as_slice();
+    let audience = &mut budget.observer;
+    tell_open(alloc, events, waits, answers.as_slice(), true, audience);
     print(alloc, scenario, answers.as_slice())
 }

@@ -1,15 +1,13 @@
 -- Histories that agree on the touched keys, and what commits come to over them.
-use Rattle.std.proofs.Common.{◌≡◌, ℕ, ◌+◌, ◌≤◌, Bool, true, false, cond, List, [], ◌∷◌, ◌++◌, map, filter, Option, Some, None, Result, Ok, Err, inl, inr}
+use Rattle.std.proofs.Common.{◌≡◌, ℕ, ◌+◌, ◌≤◌, Bool, true, cond, List, [], ◌∷◌, ◌++◌, map, filter, Option, None, Result, Ok, Err}
 use Rattle.std.proofs.Common.{refl, sym, ◌∙◌, ap, subst, arith}
-use Rattle.std.specs.Prelude.{nat_eq, is_some, not, ◌||◌}
 use Rattle.std.specs.List.{AllByRecursion, list_any}
-use Rattle.std.proofs.lemmas.Bool.{cases_lt}
+use Rattle.std.proofs.lemmas.Bool.{cases_lt, Decides.nat_tests}
 use Rattle.stm_history.specs.declared.change.Change.{Change}
 use Rattle.stm_history.specs.declared.change.Change.TheVariants.{Put, Del}
 use Rattle.stm_history.specs.declared.key_state.KeyState.{KeyState}
 use Rattle.stm_history.specs.declared.key_state.ReadAnswer.{ReadAnswer}
-use Rattle.stm_history.specs.declared.revisions.TheConstants.{HIGHEST_REVISION}
-use Rattle.stm_history.specs.History.{History, now, key_at, key_now, key_of, mod_of, add_revision, change_of, after_change}
+use Rattle.stm_history.specs.History.{History, now, key_at, key_now, key_of, add_revision}
 use Rattle.stm_history.proofs.HistoryLaws.{older_revisions_stay, one_more_revision, last_revision_is_now}
 use Rattle.stm_program.specs.declared.level.Level.{Level}
 use Rattle.stm_program.specs.declared.level.Level.TheVariants.{SerializableSnapshot, Serializable, RepeatableReads, ReadCommitted}
@@ -22,7 +20,7 @@ use Rattle.stm_outcome.specs.declared.refusal.Refusal.{Refusal}
 use Rattle.stm_outcome.specs.declared.refusal.Refusal.TheVariants.{TooManyOps, LeaseNotFound, RevisionsUsedUp}
 use Rattle.stm_outcome.specs.declared.txn.Compare.{Compare}
 use Rattle.stm_outcome.specs.Commits.{is_on_dead_lease, effective, applied, write_answer}
-use Rattle.stm_outcome.specs.Compares.{holds, first_failed}
+use Rattle.stm_outcome.specs.Compares.{first_failed}
 use Rattle.stm_outcome.specs.Effect.{changes_something}
 use Rattle.stm_outcome.specs.Outcome.{Done, with_changes, is_used_up, answer_of, finished}
 use Rattle.stm_txn.specs.Standing.{Standing, terms_of}
@@ -53,11 +51,7 @@ all_both P (x ∷ xs) ys first second = (first.0, all_both P xs ys first.1 secon
 
 module _ (touched : List ℕ → Bool) (since : ℕ) where
   pub turned_history : (g h : History) → SameSince touched since g h → SameSince touched since h g
-  turned_history g h same = let now_is : now g ≡ now h = same.now in let reached : since ≤ now g = same.reached in record {
-    reached = omega arith;
-    now = sym same.now;
-    keys = λ key is r later. sym (same.keys key is r later);
-  }
+  turned_history g h same = grind (arith, nat_tests)
 
   pub same_now : (g h : History) → SameSince touched since g h → (key : List ℕ) → IsTouched touched key → key_now g key ≡ key_now h key
   same_now g h same key is =
@@ -67,43 +61,20 @@ module _ (touched : List ℕ → Bool) (since : ℕ) where
   -- one more revision, the same in both
   more_key : (g h : History) (changes : List Change) → SameSince touched since g h → (key : List ℕ) → IsTouched touched key → (r : ℕ) → since ≤ r →
       key_at (add_revision g changes) key r ≡ key_at (add_revision h changes) key r
-  more_key g h changes same key is r later =
-      let now_is : now g ≡ now h = same.now in
-      elim (cases_lt (now g) r) [
-        | inl above ↦
-            let after : now (add_revision g changes) ≤ r = omega (arith, above) in
-            let also : now (add_revision h changes) ≤ r = omega (arith, above) in
-            let number : now (add_revision g changes) ≡ now (add_revision h changes) = omega arith in
-            last_revision_is_now (add_revision g changes) key r after ∙ one_more_revision g changes key
-            ∙ ap (λ n. after_change n (change_of key changes) (key_now g key)) number
-            ∙ ap (after_change (now (add_revision h changes)) (change_of key changes)) (same_now g h same key is)
-            ∙ sym (one_more_revision h changes key) ∙ sym (last_revision_is_now (add_revision h changes) key r also)
-        | inr within ↦
-            let before : r ≤ now g = omega (arith, within) in
-            let also : r ≤ now h = omega (arith, within) in
-            older_revisions_stay g changes key r before ∙ same.keys key is r later ∙ sym (older_revisions_stay h changes key r also)
-      ]
+  more_key g h changes same key is r later = grind (arith, nat_tests, cases_lt, last_revision_is_now, one_more_revision, same_now, older_revisions_stay)
 
   pub more_same : (g h : History) (changes : List Change) → SameSince touched since g h → SameSince touched since (with_changes g changes) (with_changes h changes)
-  more_same g h [] same = same
-  more_same g h (c ∷ cs) same =
-      let now_is : now g ≡ now h = same.now in
-      let reached : since ≤ now g = same.reached in
-      record { reached = omega arith; now = omega arith; keys = more_key g h (c ∷ cs) same }
+  more_same g h changes same = grind (arith, nat_tests, more_key)
 
 -- ---- compares
 
 pub same_failed : (s t : List ℕ → Option KeyState) (index : ℕ) (cs : List Compare) → AllByRecursion (λ (c : Compare). s c.key ≡ t c.key) cs →
     first_failed s index cs ≡ first_failed t index cs
 same_failed s t index [] same = refl
-same_failed s t index (c ∷ cs) same =
-    ap (λ (k : Option KeyState). cond (holds c k) (first_failed s (index + 1) cs) (Some record { index = index; mod_rev = mod_of k })) same.0
-    ∙ ap (λ (rest : Option FailedCompare). cond (holds c (t c.key)) rest (Some record { index = index; mod_rev = mod_of (t c.key) }))
-    (same_failed s t (index + 1) cs same.1)
+same_failed s t index (c ∷ cs) same = grind (arith, nat_tests, same_failed s t (index + 1) cs same.1)
 
 pub key_within : (touched : List ℕ → Bool) (leased : ℕ → Bool) (w : Change) → WritesWithin touched leased w → IsTouched touched (key_of w)
-key_within touched leased (Put key value lease) is = is.0
-key_within touched leased (Del key) is = is
+key_within touched leased w is = grind (arith, nat_tests)
 
 compares_within : (touched : List ℕ → Bool) (leased : ℕ → Bool) (since : ℕ) (level : Level) (reads : List ReadAnswer) (writes : List Change) →
     AllByRecursion (IsReadSince touched since) reads → AllByRecursion (WritesWithin touched leased) writes →
@@ -127,25 +98,20 @@ compares_within touched leased since level reads writes are_read are_written = b
 -- ---- writes
 
 something_same : (s t : List ℕ → Option KeyState) (w : Change) → s (key_of w) ≡ t (key_of w) → changes_something s w ≡ changes_something t w
-something_same s t (Put key value lease) same = refl
-something_same s t (Del key) same = ap is_some same
+something_same s t w same = grind (arith, nat_tests)
 
 filtered_same : (p q : Change → Bool) (ws : List Change) → AllByRecursion (λ w. p w ≡ q w) ws → filter p ws ≡ filter q ws
 filtered_same p q [] same = refl
-filtered_same p q (w ∷ ws) same =
-    ap (λ b. cond b (w ∷ filter p ws) (filter p ws)) same.0 ∙ ap (λ (rest : List Change). cond (q w) (w ∷ rest) rest) (filtered_same p q ws same.1)
+filtered_same p q (w ∷ ws) same = grind (arith, nat_tests, filtered_same p q ws same.1)
 
 dead_same : (one other : ℕ → Bool) (touched : List ℕ → Bool) (leased : ℕ → Bool) → ((id : ℕ) → leased id ≡ true → one id ≡ other id) → (ws : List Change) →
     AllByRecursion (WritesWithin touched leased) ws → list_any (is_on_dead_lease one) ws ≡ list_any (is_on_dead_lease other) ws
 dead_same one other touched leased same [] all = refl
-dead_same one other touched leased same (Put key value lease ∷ ws) all =
-    ap (λ b. not (nat_eq lease 0 || b) || list_any (is_on_dead_lease one) ws) (same lease all.0.1)
-    ∙ ap (λ b. not (nat_eq lease 0 || other lease) || b) (dead_same one other touched leased same ws all.1)
+dead_same one other touched leased same (Put key value lease ∷ ws) all = grind (arith, nat_tests, dead_same one other touched leased same ws all.1)
 dead_same one other touched leased same (Del key ∷ ws) all = dead_same one other touched leased same ws all.1
 
 used_same : (g h : History) (changes : List Change) → now g ≡ now h → is_used_up g changes ≡ is_used_up h changes
-used_same g h [] same = refl
-used_same g h (c ∷ cs) same = ap (λ n. nat_eq n HIGHEST_REVISION) same
+used_same g h changes same = grind (arith, nat_tests)
 
 -- ---- a commit
 
@@ -158,8 +124,7 @@ module _ (touched : List ℕ → Bool) (leased : ℕ → Bool) (since : ℕ) whe
   SameDone (Err one) (Err other) = one ≡ other
 
   done_by : (b : Bool) (cause : Refusal) (x y : Result Done Refusal) → SameDone x y → SameDone (cond b (Err cause) x) (cond b (Err cause) y)
-  done_by true cause x y same = refl
-  done_by false cause x y same = same
+  done_by b cause x y same = grind (arith, nat_tests)
 
   pub finished_same : (g h : History) (failed : Option FailedCompare) (changes : List Change) (answers others : List OpAnswer) → SameSince touched since g h →
       SameDone (finished g failed changes answers) (finished h failed changes others)
@@ -189,8 +154,7 @@ module _ (touched : List ℕ → Bool) (leased : ℕ → Bool) (since : ℕ) whe
 
   judged_same : (s t : Standing) (level : Level) (reads : List ReadAnswer) (run : Run) (o : Option FailedCompare) → SameStore touched leased since s t →
       AllByRecursion (WritesWithin touched leased) (latest_writes run.writes) → SameDone (judged (terms_of s) level reads run o) (judged (terms_of t) level reads run o)
-  judged_same s t level reads run None same all = applied_same s t (latest_writes run.writes) same all
-  judged_same s t level reads run (Some failed) same all = (refl, same.history)
+  judged_same s t level reads run o same all = grind (arith, nat_tests, applied_same)
 
   pub committed_same : (s t : Standing) (level : Level) (reads : List ReadAnswer) (run : Run) → SameStore touched leased since s t →
       AllByRecursion (IsReadSince touched since) reads → AllByRecursion (WritesWithin touched leased) (latest_writes run.writes) →

@@ -1,21 +1,18 @@
 -- Another client's transaction in two worlds that agree.
-use Rattle.std.proofs.Common.{◌≡◌, ℕ, ◌+◌, Bool, true, false, cond, List, [], ◌∷◌, ◌++◌, Option, Some, None, Result, Ok, Err, refl, sym, ◌∙◌, ap, subst, arith}
-use Rattle.std.specs.Prelude.{nat_eq, nat_lt, ◌&&◌, ◌||◌, bytes_eq}
+use Rattle.std.proofs.Common.{◌≡◌, ℕ, Bool, true, List, [], ◌∷◌, Option, None, Result, refl, ◌∙◌, ap, subst, arith}
+use Rattle.std.specs.Prelude.{nat_eq, ◌&&◌}
 use Rattle.std.specs.List.{AllByRecursion, list_all}
 use Rattle.std.specs.Option.{option_or}
 use Rattle.std.proofs.lemmas.Bool.{and_parts}
 use Rattle.std.proofs.lemmas.Bool.Decides.{nat_tests}
 use Rattle.stm_history.specs.declared.change.Change.{Change}
-use Rattle.stm_history.specs.declared.key_state.KeyState.{KeyState}
-use Rattle.stm_history.specs.History.{History, now, key_now, key_of, after_change}
+use Rattle.stm_history.specs.History.{History, now, key_now}
 use Rattle.stm_outcome.specs.declared.answer.FailedCompare.{FailedCompare}
 use Rattle.stm_outcome.specs.declared.refusal.Refusal.{Refusal}
-use Rattle.stm_outcome.specs.declared.refusal.Refusal.TheVariants.{LeaseNotFound}
 use Rattle.stm_outcome.specs.declared.txn.Compare.{Compare}
 use Rattle.stm_outcome.specs.declared.txn.Op.{Op}
-use Rattle.stm_outcome.specs.declared.txn.Op.TheVariants.{Get, Put, Del}
 use Rattle.stm_outcome.specs.declared.txn.Txn.{Txn}
-use Rattle.stm_outcome.specs.Branches.{Progress, begun, deletion_of, change_made, with_change_made, progress_after, answers_after, changes_of_branch}
+use Rattle.stm_outcome.specs.Branches.{Progress, begun, change_made, with_change_made, progress_after, answers_after, changes_of_branch}
 use Rattle.stm_outcome.specs.Branches.{read_refusal, op_refusal, branch_refusal}
 use Rattle.stm_outcome.specs.Checks.{fault_of}
 use Rattle.stm_outcome.specs.Compares.{first_failed}
@@ -38,12 +35,7 @@ all_pass p P (x ∷ xs) so all = let parts = and_parts (p x) (list_all p xs) all
 
 -- a read of the current state is refused nowhere
 now_readable : (counter floor rev : ℕ) → nat_eq rev 0 ≡ true → read_refusal counter floor rev ≡ None
-now_readable counter floor rev is =
-    let current : rev ≡ 0 = grind (arith, nat_tests, is) in
-    ap (read_refusal counter floor) current ∙ none_above counter
-  where
-    none_above : (counter : ℕ) → read_refusal counter floor 0 ≡ None
-    none_above counter = let never : nat_lt counter 0 ≡ false = grind (arith, nat_tests) in rw never refl
+now_readable counter floor rev is = grind (arith, nat_tests)
 
 module _ (touched : List ℕ → Bool) (leased : ℕ → Bool) (since : ℕ) where
   abbrev keeps : Op → Bool
@@ -56,18 +48,10 @@ module _ (touched : List ℕ → Bool) (leased : ℕ → Bool) (since : ℕ) whe
 
   made_same : (g h : History) (p q : Progress) (made : Option Change) → now g ≡ now h → SameProgress p q →
       SameProgress (with_change_made g p made) (with_change_made h q made)
-  made_same g h p q None counter same = same
-  made_same g h p q (Some c) counter same = record {
-    state = λ key is.
-        ap (λ (s : Option KeyState). cond (bytes_eq (key_of c) key) (after_change (now g + 1) (Some c) s) s) (same.state key is)
-        ∙ ap (λ n. cond (bytes_eq (key_of c) key) (after_change (n + 1) (Some c) (q.state key)) (q.state key)) counter;
-    changes = ap (λ (changes : List Change). changes ++ c ∷ []) same.changes;
-  }
+  made_same g h p q made counter same = grind (arith, nat_tests)
 
   change_same : (p q : Progress) (op : Op) → keeps op ≡ true → SameProgress p q → change_made p op ≡ change_made q op
-  change_same p q (Get key rev) is same = refl
-  change_same p q (Put key value lease) is same = refl
-  change_same p q (Del key) is same = ap (deletion_of key) (same.state key is)
+  change_same p q op is same = grind (arith, nat_tests)
 
   branch_same : (g h : History) (p q : Progress) (ops : List Op) → now g ≡ now h → list_all keeps ops ≡ true → SameProgress p q →
       SameProgress (progress_after g p ops) (progress_after h q ops)
@@ -85,10 +69,7 @@ module _ (touched : List ℕ → Bool) (leased : ℕ → Bool) (since : ℕ) whe
   -- ---- what is refused
 
   refused_same : (s t : Standing) (op : Op) → SameStore touched leased since s t → keeps op ≡ true → op_refusal (terms_of s) op ≡ op_refusal (terms_of t) op
-  refused_same s t (Get key rev) same is = now_readable (now s.history) s.floor rev is ∙ sym (now_readable (now t.history) t.floor rev is)
-  refused_same s t (Put key value lease) same is =
-      ap (λ b. cond (nat_eq lease 0 || b) None (Some LeaseNotFound)) (same.live lease (and_parts (touched key) (leased lease) is).1)
-  refused_same s t (Del key) same is = refl
+  refused_same s t op same is = grind (arith, nat_tests, now_readable, and_parts)
 
   refusal_same : (s t : Standing) (ops : List Op) → SameStore touched leased since s t → list_all keeps ops ≡ true →
       branch_refusal (terms_of s) ops ≡ branch_refusal (terms_of t) ops
@@ -102,11 +83,7 @@ module _ (touched : List ℕ → Bool) (leased : ℕ → Bool) (since : ℕ) whe
 
   unless_same : (refusal other : Option Refusal) (x y : Result Done Refusal) → refusal ≡ other → SameDone touched leased since x y →
       SameDone touched leased since (unless refusal x) (unless other y)
-  unless_same refusal other x y are same = subst (λ o. SameDone touched leased since (unless refusal x) (unless o y)) are (by refusal)
-    where
-      by : (o : Option Refusal) → SameDone touched leased since (unless o x) (unless o y)
-      by None = same
-      by (Some cause) = refl
+  unless_same refusal other x y are same = grind (arith, nat_tests, SameDone)
 
   run_same : (s t : Standing) (failed : Option FailedCompare) (ops : List Op) → SameStore touched leased since s t → list_all keeps ops ≡ true →
       SameDone touched leased since (branch_outcome (terms_of s) failed ops) (branch_outcome (terms_of t) failed ops)
@@ -121,8 +98,7 @@ module _ (touched : List ℕ → Bool) (leased : ℕ → Bool) (since : ℕ) whe
 
   chosen_keeps : (failed : Option FailedCompare) (txn : Txn) → list_all keeps txn.success ≡ true → list_all keeps txn.failure ≡ true →
       list_all keeps (chosen failed txn) ≡ true
-  chosen_keeps None txn success failure = success
-  chosen_keeps (Some f) txn success failure = failure
+  chosen_keeps failed txn success failure = grind (arith, nat_tests)
 
   outcome_same : (s t : Standing) (txn : Txn) → SameStore touched leased since s t → txn_keeps_to touched leased txn ≡ true →
       SameDone touched leased since (outcome (terms_of s) txn) (outcome (terms_of t) txn)
@@ -143,10 +119,7 @@ module _ (touched : List ℕ → Bool) (leased : ℕ → Bool) (since : ℕ) whe
 
   taken_same : (s t : Standing) (o p : Result Done Refusal) → SameStore touched leased since s t → SameDone touched leased since o p →
       SameStore touched leased since (store_after_call s (step_of s o)) (store_after_call t (step_of t p))
-  taken_same s t (Ok d) (Ok e) store same = record { history = same.1; limit = store.limit; floors = store.floors; live = store.live }
-  taken_same s t (Ok d) (Err cause) store same = absurd same
-  taken_same s t (Err cause) (Ok e) store same = absurd same
-  taken_same s t (Err cause) (Err other) store same = store
+  taken_same s t o p store same = grind (arith, nat_tests)
 
   pub txn_same : (s t : Standing) (txn : Txn) → SameStore touched leased since s t → txn_keeps_to touched leased txn ≡ true →
       SameStore touched leased since (store_after_call s (step_of s (outcome (terms_of s) txn))) (store_after_call t (step_of t (outcome (terms_of t) txn)))
@@ -156,19 +129,16 @@ module _ (touched : List ℕ → Bool) (leased : ℕ → Bool) (since : ℕ) whe
 
   pub foreign_same : (e : WorldEvent) (v w : World) → event_keeps_to touched leased e ≡ true → Agree touched leased since v w →
       Agree touched leased since (step e v).next (step e w).next
-  foreign_same (event.Txn txn) v w is agree =
-      record { store = txn_same v.standing w.standing txn agree.store is; runners = agree.runners; within = agree.within }
+  foreign_same (event.Txn txn) v w is agree = grind (arith, nat_tests, txn_same)
   foreign_same _ v w is agree = absurd (cc)
 
 reply_told : (s : Standing) (o : Result Done Refusal) (known : Ends) → after_reported (reply_to txn_reply (step_of s o)) known ≡ known
-reply_told s (Ok done) known = refl
-reply_told s (Err cause) known = refl
+reply_told s o known = grind (arith, nat_tests)
 
 -- no end of a runner is known by it
 pub nothing_told : (touched : List ℕ → Bool) (leased : ℕ → Bool) (e : WorldEvent) (w : World) (known : Ends) → event_keeps_to touched leased e ≡ true →
     after_reported (step e w).reply known ≡ known
-nothing_told touched leased (event.Txn txn) w known is = reply_told w.standing (outcome (terms_of w.standing) txn) known
-nothing_told touched leased _ w known is = absurd (cc)
+nothing_told touched leased e w known is = grind (arith, nat_tests, reply_told)
 
 pub agreeing_worlds_are_same : AgreeingWorldsAreSame
 agreeing_worlds_are_same = record {

@@ -1,6 +1,7 @@
 -- Runs over look-ups that say the same of the keys that a program keeps to.
-use Rattle.std.proofs.Common.{◌≡◌, ℕ, Bool, true, false, cond, List, Option, None, Some, refl, sym, ◌∙◌, ap, subst}
+use Rattle.std.proofs.Common.{◌≡◌, ℕ, Bool, true, cond, List, Option, None, refl, sym, ◌∙◌, ap, subst, arith}
 use Rattle.std.specs.Prelude.{IsSome}
+use Rattle.std.proofs.lemmas.Bool.Decides.{nat_tests}
 use Rattle.stm_steps.specs.declared.run.Answered.{Answered}
 use Rattle.stm_steps.specs.declared.run.Answered.TheVariants.{Ended, Wants}
 use Rattle.stm_meaning.specs.Answer.{Answer, Lookup}
@@ -14,15 +15,10 @@ abbrev narrowed : (List ℕ → Bool) → Lookup → Lookup
 narrowed touched look key = cond (touched key) (look key) None
 
 narrowed_agrees : (touched : List ℕ → Bool) (look other : Lookup) → SayTheSame touched look other → AgreesWith (narrowed touched look) other
-narrowed_agrees touched look other same key a is = by (touched key) refl is
-  where
-    by : (b : Bool) → touched key ≡ b → cond b (look key) None ≡ Some a → other key ≡ Some a
-    by true e known = sym (same key e) ∙ known
-    by false e known = absurd (cc)
+narrowed_agrees touched look other same key a is = grind (arith, nat_tests)
 
 some_is_some : (o : Option Answer) → IsSome o → o ≡ None → ⊥
-some_is_some None known none = absurd (cc)
-some_is_some (Some a) known none = absurd (cc)
+some_is_some o known none = grind (arith, nat_tests)
 
 pub same_runs : SameRuns
 same_runs touched leased program keeps one other whole same = by (run_over (narrowed touched one) program.statements) refl

@@ -1,15 +1,14 @@
 -- Schedules from places that agree.
-use Rattle.std.proofs.Common.{◌≡◌, ℕ, suc, zero, Bool, true, List, [], ◌∷◌, ◌++◌, length, Some, refl, sym, ◌∙◌, ap, subst}
-use Rattle.std.specs.Prelude.{Contains}
+use Rattle.std.proofs.Common.{◌≡◌, ℕ, suc, zero, Bool, true, List, [], ◌∷◌, Some, refl, sym, ◌∙◌, ap, subst, arith}
 use Rattle.std.specs.List.{list_all, list_any}
-use Rattle.std.proofs.lemmas.Bool.{and_parts}
+use Rattle.std.proofs.lemmas.Bool.{and_parts, Decides.nat_tests}
 use Rattle.stm_program.specs.Syntax.{ProgramTree}
 use Rattle.stm_compile.specs.Answers.{seen_of, state_now}
 use Rattle.stm_events.specs.declared.event.WorldEvent.{WorldEvent}
 use Rattle.stm_world.specs.World.{World, world_after, replies_to}
 use Rattle.stm_schedules.specs.declared.moves.Move.{Move}
 use Rattle.stm_schedules.specs.declared.moves.Move.TheVariants.{Step as StepOf, Other}
-use Rattle.stm_schedules.specs.Places.{Place, moves, moved, steps_up_to, next_other, event_of, left_after}
+use Rattle.stm_schedules.specs.Places.{Place, moves, moved, event_of, left_after}
 use Rattle.stm_schedules.specs.Schedules.{place_after, IsSchedule, IsLongest}
 use Rattle.stm_schedules.specs.Keeping.{end_of, is_done, end_alone, keeps, IsFirstBad, goes_on}
 use Rattle.stm_schedules.specs.Outcomes.{Ends, after_reported, after_replies, ends_moved, ends_after}
@@ -34,11 +33,7 @@ module _ (touched : List ℕ → Bool) (leased : ℕ → Bool) (since : ℕ) whe
   also_within p q same = subst AllKeepTo same.others same.within
 
   pub turned_places : (p q : Place) → Alike p q → Alike q p
-  turned_places p q same = record {
-    worlds = turned touched leased since p.world q.world same.worlds;
-    others = sym same.others;
-    within = also_within p q same;
-  }
+  turned_places p q same = grind (arith, nat_tests, turned, also_within)
 
   -- ---- the next event of the others
 
@@ -48,20 +43,16 @@ module _ (touched : List ℕ → Bool) (leased : ℕ → Bool) (since : ℕ) whe
   next_agree (e ∷ es) v w all agree = foreign_same touched leased since e v w (and_parts (event_keeps_to touched leased e) (list_all (event_keeps_to touched leased) es) all).0 agree
 
   left_within : (others : List WorldEvent) → AllKeepTo others → AllKeepTo (left_after Other others)
-  left_within [] all = all
-  left_within (e ∷ es) all = (and_parts (event_keeps_to touched leased e) (list_all (event_keeps_to touched leased) es) all).1
+  left_within others all = grind (arith, nat_tests, and_parts)
 
   -- it neither begins a runner nor ends one
   next_told : (others : List WorldEvent) (w : World) (known : Ends) → AllKeepTo others → after_replies (replies_to (event_of Other others) w) known ≡ known
-  next_told [] w known all = refl
-  next_told (e ∷ es) w known all = nothing_told touched leased e w known (and_parts (event_keeps_to touched leased e) (list_all (event_keeps_to touched leased) es) all).0
+  next_told others w known all = grind (arith, nat_tests, nothing_told, and_parts)
 
   -- ---- moves
 
   moves_same : (p q : Place) → Alike p q → moves p ≡ moves q
-  moves_same p q same =
-      ap (λ slots. steps_up_to (length slots) slots ++ next_other p.others) same.worlds.runners
-      ∙ ap (λ others. steps_up_to (length q.world.runners) q.world.runners ++ next_other others) same.others
+  moves_same p q same = grind (arith, nat_tests)
 
   pub moved_same : (m : Move) (p q : Place) → Alike p q → Alike (moved m p) (moved m q)
   moved_same (StepOf id) p q same = record {
@@ -90,17 +81,11 @@ module _ (touched : List ℕ → Bool) (leased : ℕ → Bool) (since : ℕ) whe
   ends_same : (schedule : List Move) (p q : Place) (known : Ends) → Alike p q → ends_after schedule p known ≡ ends_after schedule q known
   ends_same [] p q known same = refl
   ends_same (m ∷ ms) p q known same =
-      ends_go_along m ms p known
-      ∙ ends_same ms (moved m p) (moved m q) (ends_moved m p known) (moved_same m p q same)
-      ∙ ap (ends_after ms (moved m q)) (known_same m p q known same)
-      ∙ sym (ends_go_along m ms q known)
+      grind (arith, nat_tests, ends_go_along, moved_same, known_same, ends_same ms (moved m p) (moved m q) (ends_moved m p known) (moved_same m p q same))
 
   schedule_same : (schedule : List Move) (p q : Place) → Alike p q → IsSchedule schedule p → IsSchedule schedule q
   schedule_same [] p q same is = tt
-  schedule_same (m ∷ ms) p q same is = (
-    subst (λ (all : List Move). Contains all m) (moves_same p q same) is.0,
-    schedule_same ms (moved m p) (moved m q) (moved_same m p q same) is.1,
-  )
+  schedule_same (m ∷ ms) p q same is = grind (arith, nat_tests, moves_same, moved_same, schedule_same ms (moved m p) (moved m q) (moved_same m p q same) is.1)
 
   goes_on_same : (n : ℕ) (p q : Place) → Alike p q → goes_on n p ≡ goes_on n q
   goes_on_same zero p q same = refl
@@ -109,10 +94,7 @@ module _ (touched : List ℕ → Bool) (leased : ℕ → Bool) (since : ℕ) whe
       ∙ ap (list_any (λ m. goes_on n (moved m q))) (moves_same p q same)
 
   longest_same : (n : ℕ) (p q : Place) → Alike p q → IsLongest n p → IsLongest n q
-  longest_same n p q same is = record {
-    none_longer = λ schedule of_q. is.none_longer schedule (schedule_same schedule q p (turned_places p q same) of_q);
-    one_as_long = let one = is.one_as_long in (one.0, schedule_same one.0 p q same one.1, one.2);
-  }
+  longest_same n p q same is = grind (arith, nat_tests, schedule_same, turned_places)
 
   -- ---- rules
 
@@ -130,11 +112,7 @@ module _ (touched : List ℕ → Bool) (leased : ℕ → Bool) (since : ℕ) whe
     back schedule p q same = schedule_same schedule q p (turned_places p q same)
 
     first_bad_same : (schedule : List Move) (p q : Place) → Alike p q → IsFirstBad (keeps rule) p schedule → IsFirstBad (keeps rule) q schedule
-    first_bad_same schedule p q same is = record {
-      is_schedule = schedule_same schedule p q same is.is_schedule;
-      is_bad = sym (kept_same schedule p q same) ∙ is.is_bad;
-      earlier_keep = λ other of_q earlier. sym (kept_same other p q same) ∙ is.earlier_keep other (back other p q same of_q) earlier;
-    }
+    first_bad_same schedule p q same is = grind (arith, nat_tests, schedule_same, kept_same, back)
 
 pub agreeing_places_are_same : AgreeingPlacesAreSame
 agreeing_places_are_same touched leased since p q same = record {

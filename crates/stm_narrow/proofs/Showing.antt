@@ -1,7 +1,8 @@
 -- What two schedules leave is shown alike from both of two places that agree, or from neither.
-use Rattle.std.proofs.Common.{◌≡◌, ℕ, ◌<◌, Bool, true, false, List, [], ◌∷◌, length, map, get_or, Option, None, Some, refl, sym, ◌∙◌, ap, subst}
+use Rattle.std.proofs.Common.{◌≡◌, ℕ, ◌<◌, Bool, true, false, List, [], ◌∷◌, length, map, get_or, Option, None, Some, refl, sym, ◌∙◌, ap, subst, arith}
 use Rattle.std.specs.Prelude.{is_some, Contains}
 use Rattle.std.proofs.lemmas.List.{get_or-map}
+use Rattle.std.proofs.lemmas.Bool.Decides.{nat_tests}
 use Rattle.stm_history.specs.declared.key_state.KeyState.{KeyState}
 use Rattle.stm_history.specs.History.{History, key_now, value_of}
 use Rattle.stm_txn.specs.PresentKeys.{keys_present}
@@ -78,10 +79,7 @@ module _ (g h : History) (same : state_shown g ≡ state_shown h) where
 -- ---- from each key to the list
 
 state_alike : (g h : History) → ((key : List ℕ) → ShownAlike (key_now g key) (key_now h key)) → state_shown g ≡ state_shown h
-state_alike g h alike =
-    ap (λ (f : List ℕ → KeyValue). map f (keys_present g)) (λ i key. record { key = key; value = (alike key).value i })
-    ∙ ap (map (shown_of h)) (present_listed h (keys_present g) (present_ascend g)
-    (λ key. ((λ has. sym (alike key).there ∙ (present_each g key).0 has), (λ present. (present_each g key).1 ((alike key).there ∙ present)))))
+state_alike g h alike = grind (arith, nat_tests, present_listed, present_ascend, present_each)
 
 -- ---- schedules
 

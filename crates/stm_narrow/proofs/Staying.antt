@@ -1,14 +1,12 @@
 -- The keys that programs and others' transactions keep away from stay as they are.
-use Rattle.std.proofs.Common.{◌≡◌, ℕ, ◌+◌, Bool, true, false, cond, List, [], ◌∷◌, ◌++◌, length, map, filter, Option, None, Some, Result, Ok, Err, refl, sym, ◌∙◌, ap}
-use Rattle.std.specs.Prelude.{◌&&◌, bytes_eq, nat_lt}
-use Rattle.std.specs.List.{AllByRecursion, list_all, list_any}
-use Rattle.std.proofs.lemmas.Bool.{and_parts}
+use Rattle.std.proofs.Common.{◌≡◌, ℕ, Bool, true, false, cond, List, [], ◌∷◌, ◌++◌, length, filter, Option, None, Some, Result, Ok, Err, refl, ◌∙◌, ap, arith}
+use Rattle.std.specs.Prelude.{nat_lt}
+use Rattle.std.specs.List.{AllByRecursion, list_all}
+use Rattle.std.proofs.lemmas.Bool.{and_parts, Decides.nat_tests}
 use Rattle.std.proofs.lemmas.Slice.Eq.{bytes_eq-Decides}
 use Rattle.stm_history.specs.declared.change.Change.{Change}
-use Rattle.stm_history.specs.declared.change.Change.TheVariants.{Put as PutChange, Del as DelChange}
-use Rattle.stm_history.specs.declared.key_state.KeyState.{KeyState}
 use Rattle.stm_history.specs.declared.key_state.ReadAnswer.{ReadAnswer}
-use Rattle.stm_history.specs.History.{History, now, key_now, key_of, add_revision, change_of, after_change}
+use Rattle.stm_history.specs.History.{History, now, key_now, add_revision, change_of, after_change}
 use Rattle.stm_history.proofs.HistoryLaws.{one_more_revision}
 use Rattle.stm_program.specs.declared.level.Level.{Level}
 use Rattle.stm_program.specs.Writes.{latest_writes}
@@ -19,21 +17,15 @@ use Rattle.stm_steps.specs.declared.run.Answered.{Answered}
 use Rattle.stm_steps.specs.declared.run.Answered.TheVariants.{Ended as EndedRun, Wants}
 use Rattle.stm_outcome.specs.declared.answer.FailedCompare.{FailedCompare}
 use Rattle.stm_outcome.specs.declared.refusal.Refusal.{Refusal}
-use Rattle.stm_outcome.specs.declared.refusal.Refusal.TheVariants.{TooManyOps, LeaseNotFound, RevisionsUsedUp}
-use Rattle.stm_outcome.specs.declared.txn.Compare.{Compare}
 use Rattle.stm_outcome.specs.declared.txn.Op.{Op}
-use Rattle.stm_outcome.specs.declared.txn.Op.TheVariants.{Get, Put, Del}
 use Rattle.stm_outcome.specs.declared.txn.Txn.{Txn}
-use Rattle.stm_outcome.specs.Branches.{Progress, begun, deletion_of, change_made, with_change_made, progress_after, answers_after, changes_of_branch, branch_refusal}
-use Rattle.stm_outcome.specs.Checks.{fault_of}
-use Rattle.stm_outcome.specs.Compares.{first_failed}
-use Rattle.stm_outcome.specs.Commits.{is_on_dead_lease, effective, applied, revision_read, write_answer}
-use Rattle.stm_outcome.specs.Effect.{changes_something}
-use Rattle.stm_outcome.specs.Outcome.{Done, chosen, with_changes, is_used_up, answer_of, finished, unless, branch_outcome, outcome}
+use Rattle.stm_outcome.specs.Branches.{Progress, change_made, with_change_made, progress_after}
+use Rattle.stm_outcome.specs.Commits.{applied, revision_read}
+use Rattle.stm_outcome.specs.Outcome.{Done, chosen, with_changes, unless, outcome}
 use Rattle.stm_outcome.specs.Terms.{Terms, is_below_floor}
 use Rattle.stm_txn.specs.Standing.{Standing, terms_of, step_of}
 use Rattle.stm_compile.specs.Answers.{look_up}
-use Rattle.stm_compile.specs.Committed.{sends_too_many, conflict_now, judged, committed}
+use Rattle.stm_compile.specs.Committed.{judged, committed}
 use Rattle.stm_attempt.specs.Settled.{run_on}
 use Rattle.stm_attempt.specs.Entering.{is_due}
 use Rattle.stm_attempt.specs.Fetches.{at_of}
@@ -63,13 +55,7 @@ module _ (touched : List ℕ → Bool) (leased : ℕ → Bool) where
 
   none_of : (key : List ℕ) (changes : List Change) → touched key ≡ false → Within changes → change_of key changes ≡ None
   none_of key [] apart all = refl
-  none_of key (c ∷ cs) apart all = by (bytes_eq (key_of c) key) refl (none_of key cs apart all.1)
-    where
-      by : (b : Bool) → bytes_eq (key_of c) key ≡ b → change_of key cs ≡ None → cond b (Some c) (change_of key cs) ≡ None
-      by true is rest =
-          let same : key_of c ≡ key = (bytes_eq-Decides (key_of c) key).0 is in
-          let both : true ≡ false = sym (key_within touched leased c all.0) ∙ ap touched same ∙ apart in absurd (cc both)
-      by false is rest = rest
+  none_of key (c ∷ cs) apart all = grind (arith, nat_tests, bytes_eq-Decides, key_within, none_of key cs apart all.1)
 
   with_changes_stays : (h : History) (changes : List Change) → Within changes → Stays h (with_changes h changes)
   with_changes_stays h [] all = λ key apart. refl
@@ -79,11 +65,7 @@ module _ (touched : List ℕ → Bool) (leased : ℕ → Bool) where
 
   filtered_within : (p : Change → Bool) (changes : List Change) → Within changes → Within (filter p changes)
   filtered_within p [] all = tt
-  filtered_within p (c ∷ cs) all = by (p c) (filtered_within p cs all.1)
-    where
-      by : (b : Bool) → Within (filter p cs) → Within (cond b (c ∷ filter p cs) (filter p cs))
-      by true rest = (all.0, rest)
-      by false rest = rest
+  filtered_within p (c ∷ cs) all = grind (arith, nat_tests, filtered_within p cs all.1)
 
   -- ---- a commit
 
@@ -92,17 +74,10 @@ module _ (touched : List ℕ → Bool) (leased : ℕ → Bool) where
   LeavesThem h (Err cause) = Unit {0}
 
   unless_refused : (b : Bool) (h : History) (cause : Refusal) (o : Result Done Refusal) → LeavesThem h o → LeavesThem h (cond b (Err cause) o)
-  unless_refused true h cause o leaves = tt
-  unless_refused false h cause o leaves = leaves
+  unless_refused b h cause o leaves = grind (arith, nat_tests)
 
   applied_leaves : (terms : Terms) (writes : List Change) → Within writes → LeavesThem terms.history (applied terms writes)
-  applied_leaves terms writes all =
-      let h : History = terms.history in
-      let answers = map (write_answer (key_now h)) writes in
-      let changes : List Change = effective h writes in
-      unless_refused (list_any (is_on_dead_lease terms.is_live) writes) h LeaseNotFound (finished h None changes answers)
-      (unless_refused (is_used_up h changes) h RevisionsUsedUp (Ok record { answer = answer_of h None changes answers; history = with_changes h changes })
-      (with_changes_stays h changes (filtered_within (changes_something (key_now h)) writes all)))
+  applied_leaves terms writes all = grind (arith, nat_tests, unless_refused, with_changes_stays, filtered_within)
 
   judged_leaves : (terms : Terms) (level : Level) (reads : List ReadAnswer) (run : Run) (o : Option FailedCompare) → Within (latest_writes run.writes) →
       LeavesThem terms.history (judged terms level reads run o)
@@ -111,10 +86,7 @@ module _ (touched : List ℕ → Bool) (leased : ℕ → Bool) where
 
   committed_leaves : (terms : Terms) (level : Level) (reads : List ReadAnswer) (run : Run) → Within (latest_writes run.writes) →
       LeavesThem terms.history (committed terms level reads run)
-  committed_leaves terms level reads run all =
-      let writes : List Change = latest_writes run.writes in
-      unless_refused (sends_too_many terms.limit level reads writes) terms.history TooManyOps (judged terms level reads run (conflict_now terms.history level reads writes))
-      (judged_leaves terms level reads run (conflict_now terms.history level reads writes) all)
+  committed_leaves terms level reads run all = grind (arith, nat_tests, unless_refused, judged_leaves)
 
   -- ---- a step
 
@@ -126,8 +98,7 @@ module _ (touched : List ℕ → Bool) (leased : ℕ → Bool) where
   quiet same = record { stays = λ key apart. ap (λ (h : History). key_now h key) same }
 
   by_test : (b : Bool) (w : World) (x y : Stepped) → StepStays w x → StepStays w y → StepStays w (cond b x y)
-  by_test true w x y first second = first
-  by_test false w x y first second = second
+  by_test b w x y first second = grind (arith, nat_tests)
 
   fetch_stays : (id : ℕ) (r : Runner) (key : List ℕ) (of_rev : ℕ) (w : World) → StepStays w (fetch id r key of_rev w)
   unfolding fetch
@@ -142,13 +113,11 @@ module _ (touched : List ℕ → Bool) (leased : ℕ → Bool) where
 
   decided_stays : (id : ℕ) (r : Runner) (reads : List ReadAnswer) (run : Run) (done : Done) (o : Option FailedCompare) (w : World) →
       Stays w.standing.history done.history → StepStays w (decided id r reads run done o w)
-  decided_stays id r reads run done None w stays = record { stays = stays }
-  decided_stays id r reads run done (Some failed) w stays = by_test (nat_lt (r.failures + 1) r.task.limit) w _ _ (quiet refl) (quiet refl)
+  decided_stays id r reads run done o w stays = grind (arith, nat_tests, by_test, quiet)
 
   reported_stays : (id : ℕ) (r : Runner) (reads : List ReadAnswer) (run : Run) (o : Result Done Refusal) (w : World) → LeavesThem w.standing.history o →
       StepStays w (commit_reported id r reads run o w)
-  reported_stays id r reads run (Ok done) w leaves = decided_stays id r reads run done done.answer.failed w leaves
-  reported_stays id r reads run (Err cause) w leaves = quiet refl
+  reported_stays id r reads run o w leaves = grind (arith, nat_tests, decided_stays, quiet)
 
   commit_stays : (id : ℕ) (r : Runner) (reads : List ReadAnswer) (run : Run) (w : World) → Within (latest_writes run.writes) → StepStays w (commit id r reads run w)
   unfolding commit
@@ -183,13 +152,7 @@ module _ (touched : List ℕ → Bool) (leased : ℕ → Bool) where
 
   made_within : (h : History) (p : Progress) (op : Op) → op_keeps_to touched leased op ≡ true → Within p.changes →
       Within (with_change_made h p (change_made p op)).changes
-  made_within h p (Get key rev) is all = all
-  made_within h p (Put key value lease) is all = one_more_within p.changes (PutChange key value lease) (and_parts (touched key) (leased lease) is) all
-  made_within h p (Del key) is all = by (p.state key)
-    where
-      by : (o : Option KeyState) → Within (with_change_made h p (deletion_of key o)).changes
-      by None = all
-      by (Some s) = one_more_within p.changes (DelChange key) is all
+  made_within h p op is all = grind (arith, nat_tests, one_more_within, and_parts)
 
   branch_within : (h : History) (p : Progress) (ops : List Op) → list_all (op_keeps_to touched leased) ops ≡ true → Within p.changes →
       Within (progress_after h p ops).changes
@@ -202,31 +165,16 @@ module _ (touched : List ℕ → Bool) (leased : ℕ → Bool) where
   all_keep ops = list_all (op_keeps_to touched leased) ops
 
   chosen_within : (failed : Option FailedCompare) (txn : Txn) → txn_keeps_to touched leased txn ≡ true → all_keep (chosen failed txn) ≡ true
-  chosen_within None txn is =
-      let compared : Bool = list_all (λ (c : Compare). touched c.key) txn.compares in
-      (and_parts compared (all_keep txn.success) (and_parts (compared && all_keep txn.success) (all_keep txn.failure) is).0).1
-  chosen_within (Some f) txn is =
-      (and_parts (list_all (λ (c : Compare). touched c.key) txn.compares && all_keep txn.success) (all_keep txn.failure) is).1
+  chosen_within failed txn is = grind (arith, nat_tests, and_parts)
 
   unless_leaves : (refusal : Option Refusal) (h : History) (o : Result Done Refusal) → LeavesThem h o → LeavesThem h (unless refusal o)
-  unless_leaves None h o leaves = leaves
-  unless_leaves (Some cause) h o leaves = tt
+  unless_leaves refusal h o leaves = grind (arith, nat_tests)
 
   outcome_leaves : (terms : Terms) (txn : Txn) → txn_keeps_to touched leased txn ≡ true → LeavesThem terms.history (outcome terms txn)
-  outcome_leaves terms txn is =
-      let h : History = terms.history in
-      let failed : Option FailedCompare = first_failed (key_now h) 0 txn.compares in
-      let ops : List Op = chosen failed txn in
-      let answers = answers_after h (begun h) ops in
-      let changes : List Change = changes_of_branch h ops in
-      unless_leaves (fault_of terms.limit txn) h (branch_outcome terms failed ops)
-      (unless_leaves (branch_refusal terms ops) h (finished h failed changes answers)
-      (unless_refused (is_used_up h changes) h RevisionsUsedUp (Ok record { answer = answer_of h failed changes answers; history = with_changes h changes })
-      (with_changes_stays h changes (branch_within h (begun h) ops (chosen_within failed txn is) tt))))
+  outcome_leaves terms txn is = grind (arith, nat_tests, unless_leaves, unless_refused, with_changes_stays, branch_within, chosen_within)
 
   taken_stays : (s : Standing) (o : Result Done Refusal) → LeavesThem s.history o → Stays s.history (store_after_call s (step_of s o)).history
-  taken_stays s (Ok done) leaves = leaves
-  taken_stays s (Err cause) leaves = λ key apart. refl
+  taken_stays s o leaves = grind (arith, nat_tests)
 
   foreign_stays : (e : WorldEvent) (w : World) → event_keeps_to touched leased e ≡ true → Stays w.standing.history (step e w).next.standing.history
   foreign_stays (event.Txn txn) w is = taken_stays w.standing (outcome (terms_of w.standing) txn) (outcome_leaves (terms_of w.standing) txn is)
@@ -234,8 +182,7 @@ module _ (touched : List ℕ → Bool) (leased : ℕ → Bool) where
 
   next_stays : (others : List WorldEvent) (w : World) → list_all (event_keeps_to touched leased) others ≡ true →
       Stays w.standing.history (world_after (event_of Other others) w).standing.history
-  next_stays [] w all = λ key apart. refl
-  next_stays (e ∷ es) w all = foreign_stays e w (and_parts (event_keeps_to touched leased e) (list_all (event_keeps_to touched leased) es) all).0
+  next_stays others w all = grind (arith, nat_tests, foreign_stays, and_parts)
 
   -- ---- schedules
 

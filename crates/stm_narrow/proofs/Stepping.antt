@@ -1,14 +1,12 @@
 -- A step of a runner in two worlds that agree.
-use Rattle.std.proofs.Common.{◌≡◌, ◌⊎◌, ℕ, ◌+◌, ◌≤◌, ◌<◌, Bool, true, false, cond, List, []}
-use Rattle.std.proofs.Common.{◌∷◌, ◌++◌, length, map, Option, Some, None, Result, Ok, Err, inl, inr}
+use Rattle.std.proofs.Common.{◌≡◌, ◌⊎◌, ℕ, ◌+◌, ◌≤◌, ◌<◌, Bool, true, false, cond, List, [], ◌∷◌, ◌++◌, length, map, Option, Some, None, Result, Ok, Err}
 use Rattle.std.proofs.Common.{refl, sym, ◌∙◌, ap, subst, arith}
 use Rattle.std.specs.Prelude.{nat_eq, nat_lt, ◌&&◌}
 use Rattle.std.specs.List.{AllByRecursion}
-use Rattle.std.proofs.lemmas.Bool.{le-ltb}
+use Rattle.std.proofs.lemmas.Bool.{le-ltb, Decides.nat_tests}
 use Rattle.stm_history.specs.declared.key_state.ReadAnswer.{ReadAnswer}
 use Rattle.stm_history.specs.History.{History, now, mod_of}
 use Rattle.stm_program.specs.declared.level.Level.{Level}
-use Rattle.stm_program.specs.Levels.{is_serializable}
 use Rattle.stm_program.specs.Writes.{latest_writes}
 use Rattle.stm_steps.specs.declared.run.End.{End}
 use Rattle.stm_steps.specs.declared.run.End.TheVariants.{Done as DoneEnd, Aborted as AbortedEnd, Faulted as FaultedEnd}
@@ -17,7 +15,7 @@ use Rattle.stm_steps.specs.declared.run.Answered.{Answered}
 use Rattle.stm_steps.specs.declared.run.Answered.TheVariants.{Ended as EndedRun, Wants}
 use Rattle.stm_outcome.specs.declared.answer.FailedCompare.{FailedCompare}
 use Rattle.stm_outcome.specs.declared.refusal.Refusal.{Refusal as StoreRefusal}
-use Rattle.stm_outcome.specs.declared.refusal.Refusal.TheVariants.{TooManyOps as TooManyOpsRefusal, Compacted as CompactedRefusal}
+use Rattle.stm_outcome.specs.declared.refusal.Refusal.TheVariants.{TooManyOps as TooManyOpsRefusal}
 use Rattle.stm_outcome.specs.Commits.{revision_read}
 use Rattle.stm_outcome.specs.Outcome.{Done}
 use Rattle.stm_outcome.specs.Terms.{is_below_floor}
@@ -27,8 +25,7 @@ use Rattle.stm_compile.specs.Committed.{committed}
 use Rattle.stm_compile.specs.CommitTxn.{reread_keys}
 use Rattle.stm_attempt.specs.Known.{Known}
 use Rattle.stm_attempt.specs.Settled.{run_on}
-use Rattle.stm_attempt.specs.Entering.{is_due}
-use Rattle.stm_attempt.specs.Fetches.{base_of, at_of}
+use Rattle.stm_attempt.specs.Fetches.{at_of}
 use Rattle.stm_entries.specs.Entered.{answers_kept}
 use Rattle.stm_events.specs.declared.reply.Reply.{Reply}
 use Rattle.stm_events.specs.declared.reply.Reply.TheVariants.{Prefetched, Fetched, Committed, Ended}
@@ -61,8 +58,7 @@ module _ (touched : List ℕ → Bool) (leased : ℕ → Bool) (since : ℕ) whe
   AllRun slots = (id : ℕ) (r : Runner) → runner_at id slots ≡ Some r → Runs r
 
   in_slot : (slot : Slot) (r : Runner) → SlotWithin slot → live_in (Some slot) ≡ Some r → Runs r
-  in_slot Over r is found = absurd (cc)
-  in_slot (Live x) r is found = let same : x ≡ r = cc in subst Runs same is
+  in_slot slot r is found = grind (arith, nat_tests)
 
   all_run_set : (id : ℕ) (slots : List Slot) (slot : Slot) → (0 < id) × (id ≤ length slots) → SlotWithin slot → AllRun slots → AllRun (with_slot id slot slots)
   all_run_set id slots slot there is all other r found = by (nat_eq id other) refl
@@ -81,8 +77,7 @@ module _ (touched : List ℕ → Bool) (leased : ℕ → Bool) (since : ℕ) whe
     pub next : Agrees a.next b.next
 
   by_test : (b : Bool) (x1 y1 x2 y2 : Stepped) → Same x1 x2 → Same y1 y2 → Same (cond b x1 y1) (cond b x2 y2)
-  by_test true x1 y1 x2 y2 first second = first
-  by_test false x1 y1 x2 y2 first second = second
+  by_test b x1 y1 x2 y2 first second = grind (arith, nat_tests)
 
   -- a runner that runs in worlds that agree
   record IsThere (id : ℕ) (r : Runner) (v w : World) : Type 0 where
@@ -97,10 +92,7 @@ module _ (touched : List ℕ → Bool) (leased : ℕ → Bool) (since : ℕ) whe
 
   replied_same : {id : ℕ} {r : Runner} {v w : World} (one other : Reply) (slot slot2 : Slot) → IsThere id r v w → one ≡ other → slot ≡ slot2 → SlotWithin slot →
       Same (replied one id slot v) (replied other id slot2 w)
-  replied_same one other slot slot2 there reply same is = record {
-    reply = ap (λ (x : Reply). let it : Result Reply Denied = Ok x in it) reply;
-    next = record { store = there.agree.store; runners = slots_same slot slot2 there same; within = slots_within slot there is };
-  }
+  replied_same one other slot slot2 there reply same is = grind (arith, nat_tests, slots_same, slots_within)
 
   over_same : {id : ℕ} {r : Runner} {v w : World} (one : Reply) → IsThere id r v w → Same (replied one id Over v) (replied one id Over w)
   over_same one there = replied_same one one Over Over there refl refl tt
@@ -117,8 +109,7 @@ module _ (touched : List ℕ → Bool) (leased : ℕ → Bool) (since : ℕ) whe
 
   answer_same : (g h : History) (key : List ℕ) (of_rev : ℕ) → SameSince touched since g h → IsTouched touched key → since ≤ of_rev →
       answer_at g key of_rev ≡ answer_at h key of_rev
-  answer_same g h key of_rev same is later =
-      λ i. record { key = key; kv = same.keys key is of_rev later i; of_rev = of_rev; revision = same.now i }
+  answer_same g h key of_rev same is later = grind (arith, nat_tests)
 
   fetch_same : {id : ℕ} {r : Runner} {v w : World} (key : List ℕ) (of_rev : ℕ) → IsThere id r v w → IsTouched touched key → since ≤ of_rev →
       Same (fetch id r key of_rev v) (fetch id r key of_rev w)
@@ -134,47 +125,24 @@ module _ (touched : List ℕ → Bool) (leased : ℕ → Bool) (since : ℕ) whe
       (one_more (IsReadSince touched since) r.known.reads (answer_at v.standing.history key of_rev) runs.reads (is, later), runs.prefetched)))
 
   and_false : (b : Bool) → (b && false) ≡ false
-  and_false true = refl
-  and_false false = refl
+  and_false b = grind (arith, nat_tests)
 
   -- a base is none, or the revision or later
   abbrev IsBase : ℕ → Type 0
   IsBase base = (base ≡ 0) ⊎ (since ≤ base)
 
   base_within : (level : Level) (reads : List ReadAnswer) → AllByRecursion (IsReadSince touched since) reads → IsBase (at_of level reads)
-  base_within level reads all = by (is_serializable level) reads all
-    where
-      by : (b : Bool) (reads : List ReadAnswer) → AllByRecursion (IsReadSince touched since) reads → IsBase (cond b (base_of reads) 0)
-      by false reads all = inl refl
-      by true [] all = inl refl
-      by true (a ∷ reads) all = inr all.0.1
+  base_within level reads all = grind (arith, nat_tests)
 
   not_below : (floor base : ℕ) → floor ≤ since → IsBase base → is_below_floor floor base ≡ false
-  not_below floor base under (inl none) = ap (λ n. nat_lt 0 n && nat_lt n floor) none
-  not_below floor base under (inr later) = let above : floor ≤ base = omega arith in ap (λ b. nat_lt 0 base && b) (le-ltb base floor above) ∙ and_false (nat_lt 0 base)
+  not_below floor base under h4 = grind (arith, nat_tests, le-ltb, and_false)
 
   read_later : (h : History) (base : ℕ) → since ≤ now h → IsBase base → since ≤ revision_read h base
-  read_later h base reached (inl none) = subst (λ n. since ≤ revision_read h n) (sym none) reached
-  read_later h base reached (inr later) = by (nat_eq base 0)
-    where
-      by : (b : Bool) → since ≤ cond b (now h) base
-      by true = reached
-      by false = later
+  read_later h base reached h4 = grind (arith, nat_tests)
 
   fetch_at_same : {id : ℕ} {r : Runner} {v w : World} (key : List ℕ) (base : ℕ) → IsThere id r v w → IsTouched touched key → IsBase base →
       Same (fetch_at id r key base v) (fetch_at id r key base w)
-  fetch_at_same {id} {r} {v} {w} key base there is based =
-      let g = v.standing.history in
-      let h = w.standing.history in
-      let same = there.agree.store.history in
-      let read : revision_read g base ≡ revision_read h base = ap (λ n. cond (nat_eq base 0) n base) same.now in
-      subst (λ b. Same (cond b (replied (Ended id (event_refusal CompactedRefusal)) id Over v) (fetch id r key (revision_read g base) v)) (fetch_at id r key base w))
-      (sym (not_below v.standing.floor base there.agree.store.floors.0 based))
-      (subst (λ b. Same (fetch id r key (revision_read g base) v)
-      (cond b (replied (Ended id (event_refusal CompactedRefusal)) id Over w) (fetch id r key (revision_read h base) w)))
-      (sym (not_below w.standing.floor base there.agree.store.floors.1 based))
-      (subst (λ n. Same (fetch id r key (revision_read g base) v) (fetch id r key n w)) read
-      (fetch_same key (revision_read g base) there is (read_later g base same.reached based))))
+  fetch_at_same {id} {r} {v} {w} key base there is based = grind (arith, nat_tests, not_below, fetch_same, read_later)
 
   -- answers to reads of touched keys as they are now
   now_same : (g h : History) (keys : List (List ℕ)) → SameSince touched since g h → AllByRecursion (IsTouched touched) keys →
@@ -185,9 +153,7 @@ module _ (touched : List ℕ → Bool) (leased : ℕ → Bool) (since : ℕ) whe
 
   now_within : (g : History) (keys : List (List ℕ)) → since ≤ now g → AllByRecursion (IsTouched touched) keys →
       AllByRecursion (IsReadSince touched since) (map (answer_now g) keys)
-  now_within g keys reached all =
-      all_of_map (IsReadSince touched since) (answer_now g) keys
-      (all_weaker (IsTouched touched) (λ key. IsReadSince touched since (answer_now g key)) keys (λ key is. (is, reached)) all)
+  now_within g keys reached all = grind (arith, nat_tests, all_of_map, all_weaker)
 
   told_same : (g h : History) (keys : List (List ℕ)) → SameSince touched since g h → AllByRecursion (IsTouched touched) keys →
       map (modified_now g) keys ≡ map (modified_now h) keys
@@ -217,13 +183,7 @@ module _ (touched : List ℕ → Bool) (leased : ℕ → Bool) (since : ℕ) whe
 
   reread_within : (level : Level) (reads : List ReadAnswer) → AllByRecursion (IsReadSince touched since) reads →
       AllByRecursion (IsTouched touched) (reread_keys level reads)
-  reread_within level reads all = by (is_serializable level)
-    where
-      by : (b : Bool) → AllByRecursion (IsTouched touched) (cond b (map (λ (a : ReadAnswer). a.key) reads) [])
-      by true =
-          all_of_map (IsTouched touched) (λ (a : ReadAnswer). a.key) reads
-          (all_weaker (IsReadSince touched since) (λ (a : ReadAnswer). IsTouched touched a.key) reads (λ a is. is.0) all)
-      by false = tt
+  reread_within level reads all = grind (arith, nat_tests, all_of_map, all_weaker)
 
   decided_same : {id : ℕ} {r : Runner} {v w : World} (reads : List ReadAnswer) (run : Run) (d e : Done) (o : Option FailedCompare) → IsThere id r v w →
       SameSince touched since d.history e.history → Same (decided id r reads run d o v) (decided id r reads run e o w)
@@ -292,31 +252,18 @@ module _ (touched : List ℕ → Bool) (leased : ℕ → Bool) (since : ℕ) whe
 
   live_same : {id : ℕ} {r : Runner} {v w : World} → IsThere id r v w → Same (step_live id r v) (step_live id r w)
   unfolding step_live
-  live_same {id} {r} {v} {w} there =
-      by_test (is_due r.task.program.prefetch r.known.reads) _ _ _ _ (fetch_list_same there) (step_on_same (run_on r.task.program r.known.reads) refl there)
+  live_same {id} {r} {v} {w} there = grind (arith, nat_tests, by_test, fetch_list_same, step_on_same)
 
   some_runner_same : (id : ℕ) (o : Option Runner) (v w : World) → Agrees v w → runner_at id v.runners ≡ o → Same (step_runner id o v) (step_runner id o w)
-  some_runner_same id None v w agree is = record { reply = refl; next = agree }
-  some_runner_same id (Some r) v w agree is = live_same (record { agree = agree; runs = is })
+  some_runner_same id o v w agree is = grind (arith, nat_tests, live_same)
 
   pub step_same : (id : ℕ) (v w : World) → Agrees v w → Same (step_runner id (runner_at id v.runners) v) (step_runner id (runner_at id w.runners) w)
-  step_same id v w agree =
-      subst (λ (slots : List Slot). Same (step_runner id (runner_at id v.runners) v) (step_runner id (runner_at id slots) w)) agree.runners
-      (some_runner_same id (runner_at id v.runners) v w agree refl)
+  step_same id v w agree = grind (arith, nat_tests, some_runner_same)
 
   -- ---- turned round
 
   turned_store : (s t : Standing) → SameStore touched leased since s t → SameStore touched leased since t s
-  turned_store s t same = record {
-    history = turned_history touched since s.history t.history same.history;
-    limit = sym same.limit;
-    floors = (same.floors.1, same.floors.0);
-    live = λ id is. sym (same.live id is);
-  }
+  turned_store s t same = grind (arith, nat_tests, turned_history)
 
   pub turned : (v w : World) → Agrees v w → Agrees w v
-  turned v w agree = record {
-    store = turned_store v.standing w.standing agree.store;
-    runners = sym agree.runners;
-    within = λ id r is. agree.within id r (ap (runner_at id) agree.runners ∙ is);
-  }
+  turned v w agree = grind (arith, nat_tests, turned_store)

@@ -24,7 +24,7 @@ impl Clock for Ticking {
     }
 }
 
-/// What is said of a search that is observed so many times, each time after four seconds, and ends with seven of 100 events left.
+/// What is said of a search that is observed so many times, each time after four seconds, and ends with seven of 100 moves left.
 fn notes(alloc: Global, times: u64) -> Vec<u8> {
     let clock = Ticking {
         seconds: Cell::new(0),
@@ -39,10 +39,10 @@ fn notes(alloc: Global, times: u64) -> Vec<u8> {
 }
 
 /// After 12, 20 and 32 seconds a line is due, and after that at the end.
-const NOTES: &str = "stmrun: schedules of up to 2 moves done, 10 of 100 events, 12 seconds
-stmrun: schedules of up to 4 moves done, 10 of 100 events, 20 seconds
-stmrun: schedules of up to 7 moves done, 10 of 100 events, 32 seconds
-stmrun: ended: schedules of up to 8 moves done, 93 of 100 events, 40 seconds
+const NOTES: &str = "stmrun: schedules of up to 2 moves done, 10 of 100 moves made, 12 seconds
+stmrun: schedules of up to 4 moves done, 10 of 100 moves made, 20 seconds
+stmrun: schedules of up to 7 moves done, 10 of 100 moves made, 32 seconds
+stmrun: ended: schedules of up to 8 moves done, 93 of 100 moves made, 40 seconds
 ";
 
 #[test]

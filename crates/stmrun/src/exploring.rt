@@ -37,7 +37,7 @@ pub(crate) struct Search<'a, 'w> {
     pub(crate) witness: bool,
     /// Whether no rule is asked, but whether serial orders come to each outcome.
     pub(crate) serial: bool,
-    /// At most so many events are taken, and the runners are named so.
+    /// At most so many moves are made, and the runners are named so.
     pub(crate) told: Told<'a>,
     /// Whether a fault is explained.
     pub(crate) explain: bool,
@@ -363,14 +363,14 @@ fn source_of<'a>(
     }
 }
 
-/// How many events may be taken, and how the runners of a path's scenario are named.
+/// How many moves may be made, and how the runners of a path's scenario are named.
 fn told_of<'a>(
     words: &ExploreWords<'_>,
     path: &'a str,
     source: Option<&'a SourceText>,
 ) -> Told<'a> {
     Told {
-        events: words.budget,
+        moves: words.budget,
         runners: runners_of(source),
         source: source_of(path, words.keeps.as_slice().is_empty(), source),
         strict: words.strict,

@@ -33,6 +33,9 @@ const NO_EVENTS: &str = "[]";
 /// With this begins the line of a broken rule.
 const BROKEN: &str = "[\"broken\"";
 
+/// With this ends the line of an answer at the strongest level, of a search at all.
+const STRONGEST: &str = ",\"SerializableSnapshot\"]";
+
 /// What stands in the words of such a line behind the rule and its level.
 const IS_BROKEN: &str = ": broken";
 
@@ -221,19 +224,28 @@ fn level_of(word: &str) -> Option<Level> {
     }
 }
 
-/// The line of the first rule that is broken, of the lines that a search printed.
-fn broken_line(printed: &str) -> Option<&str> {
-    printed.lines().find(|line| line.starts_with(BROKEN))
+/// Whether a line is that of a rule that is broken at the strongest level.
+fn is_of_strongest(line: &str) -> bool {
+    line.starts_with(BROKEN) && line.ends_with(STRONGEST)
 }
 
-/// The level of the first rule that is broken, as the lines of a search at all levels tell it.
+/// The line of the broken rule whose schedule is shown, of the lines that a search printed: the first at the strongest level, since no level is enough where
+/// there is one, and else the first.
+fn broken_line(printed: &str) -> Option<&str> {
+    match printed.lines().find(|line| is_of_strongest(line)) {
+        Some(line) => Some(line),
+        None => printed.lines().find(|line| line.starts_with(BROKEN)),
+    }
+}
+
+/// The level of that rule, as the lines of a search at all levels tell it.
 fn broken_level(printed: &str) -> Option<Level> {
     let line = broken_line(printed)?;
     let (_, word) = line.strip_suffix("\"]")?.rsplit_once('"')?;
     level_of(word)
 }
 
-/// Adds the scenario that breaks a rule at the weakest level at which one is broken.
+/// Adds the scenario that breaks a rule: at the strongest level, where one is broken there, and else at the weakest at which one is.
 fn push_worst(
     rt: &HostRuntime,
     question: &Question<'_>,
@@ -286,7 +298,8 @@ pub(crate) fn only_level(levels: Levels) -> Option<Level> {
     }
 }
 
-/// Looks for rules, and prints what was found in this form. A table of a search at all levels is that of the weakest at which a rule is broken.
+/// Looks for rules, and prints what was found in this form. A table of a search at all levels is that of the weakest at which a rule is broken, or of the
+/// strongest, where no level is enough.
 pub(crate) fn run_rules_in(
     rt: &HostRuntime,
     question: &Question<'_>,

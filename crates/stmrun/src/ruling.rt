@@ -19,7 +19,7 @@ pub(crate) struct Question<'a> {
     pub(crate) rules: &'a [Rule],
     /// Which runners wait for which others.
     pub(crate) waits: &'a [Wait],
-    /// How many events may be taken, and how runners are named.
+    /// How many moves may be made, and how runners are named.
     pub(crate) told: Told<'a>,
 }
 
@@ -115,7 +115,7 @@ pub(crate) fn search_silently<O: Write + Drop>(
     let said: Vec<u8> = Vec::new(rt.alloc());
     let mut err = Std::new(said);
     let mut budget = Budget {
-        left: question.told.events,
+        left: question.told.moves,
         observer: Nobody,
     };
     explore_rules_to(

@@ -54,10 +54,10 @@ impl<C: Clock> Observer for Progress<'_, C> {
     }
 }
 
-/// How many events a search may take, what its source names, and whether an answer that is worth little has status 1.
+/// How many moves a search may make, what its source names, and whether an answer that is worth little has status 1.
 #[derive(Clone, Copy)]
 pub(crate) struct Told<'a> {
-    pub(crate) events: u64,
+    pub(crate) moves: u64,
     pub(crate) runners: &'a [NamedRunner],
     /// The source of the scenario, where it has one.
     pub(crate) source: Option<NamedSource<'a>>,
@@ -229,34 +229,34 @@ impl Audience for SearchLines<'_> {
     }
 }
 
-/// How far a search is, of one that may take this many events.
-fn progress_of(rt: &HostRuntime, events: u64) -> Progress<'_, HostRuntime> {
+/// How far a search is, of one that may make this many moves.
+fn progress_of(rt: &HostRuntime, moves: u64) -> Progress<'_, HostRuntime> {
     match terminal(rt) {
-        Some(err) => Progress::Shown(ProgressLine::new(Some(err), events)),
-        None => Progress::Noted(ProgressNotes::new(rt.stderr(), rt, events)),
+        Some(err) => Progress::Shown(ProgressLine::new(Some(err), moves)),
+        None => Progress::Noted(ProgressNotes::new(rt.stderr(), rt, moves)),
     }
 }
 
-/// The events that a search may take. How far it is, is said on standard error, and at its end which runners never committed; how each runner
+/// The moves that a search may make. How far it is, is said on standard error, and at its end which runners never committed; how each runner
 /// ended, where faults are explained.
 pub(crate) fn shown_budget<'a>(
     rt: &'a HostRuntime,
     told: Told<'a>,
     explain: bool,
 ) -> Budget<SearchLines<'a>>
-    ensures { result.left ≡ told.entry.events }
+    ensures { result.left ≡ told.entry.moves }
 {
     let Told {
-        events,
+        moves,
         runners,
         source,
         strict,
     } = told;
     Budget {
-        left: events,
+        left: moves,
         observer: SearchLines {
             rt,
-            progress: progress_of(rt, events),
+            progress: progress_of(rt, moves),
             explain,
             runners,
             source,

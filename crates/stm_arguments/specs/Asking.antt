@@ -1,5 +1,5 @@
 -- What a command line asks for, by what `clap` has found in it: rows, each with the name of an argument and the words that stand there.
-use Rattle.std.specs.Prelude.{◌≡◌, ◌≤◌, List, [], ◌∷◌, Bool, true, false, bytes_eq, Option, None, Some, codes, map, option_map, string_bytes, unwrap_or}
+use Rattle.std.specs.Prelude.{◌≡◌, ◌≤◌, List, [], ◌∷◌, Bool, true, false, ◌||◌, bytes_eq, Option, None, Some, codes, map, option_map, string_bytes, unwrap_or}
 use Rattle.std.specs.Borrow.{Bor}
 use Rattle.clap.specs.Words.{Row, Text, all_of, first_of, subcommand_rows_of}
 use Rattle.clap.specs.declared.parser.matches.ArgMatches.{ArgMatches}
@@ -26,7 +26,7 @@ use Rattle.stm_arguments.specs.declared.threading.ThreadsWords.{ThreadsWords}
 -- the flag is set of which this word, if any, was found
 abbrev pub is_set : Option Text → Bool
 is_set None = false
-is_set (Some text) = bytes_eq text (codes "true")
+is_set (Some text) = bytes_eq text (codes "true") || bytes_eq text (codes "always")
 
 -- the words of an argument that may be there several times
 abbrev pub words_at : Text → List Row → List Text

@@ -71,7 +71,7 @@ const COMPILE: Table = Table {
         ),
         (
             "NAME",
-            Form::Optional,
+            Form::Named("NAME [ARGUMENT].."),
             "A program of the source, which is printed in place of the scenario; what stands behind it are its arguments",
         ),
         EXPLAIN,

@@ -11,8 +11,21 @@ use clap::builder::ValueParser;
 use clap::{ArgMatches, Command};
 use std::alloc::{AllocError, Global};
 
-const EXAMPLE: &str =
-    "The steps of SCENARIO are left out. Its events up to the last start are run first. Then every schedule is looked
+const EXAMPLE: &str = "If s.stm is a source, which has two runners and a rule,
+
+  start { if get(\"b\") == \"\" { put(\"a\", \"1\") } } as ana
+  start { if get(\"a\") == \"\" { put(\"b\", \"1\") } } as ben
+  rule one { if get(\"a\") == \"1\" && get(\"b\") == \"1\" { abort(\"both\") } }
+
+then stmrun explore s.stm --level all --format text says from which level on the rule is always kept, and shows a schedule
+that breaks it:
+
+  one at ReadCommitted: broken after 4 moves: aborted \"both\"
+
+A source may have finals, too, as finally NAME { .. }: they are asked where nothing is left to do, and of how runners ended, as
+end(ana) == \"committed\". stmrun help language has both.
+
+The steps of SCENARIO are left out. Its events up to the last start are run first. Then every schedule is looked
 at: each way in which the runners' steps and the events after the last start, in their order, can be mixed, and each
 beginning of such a way, the shortest first.
 
@@ -35,26 +48,21 @@ one is broken, is the scenario that breaks the first that is.
 With --level all the rules are searched for at each level, the weakest first. Each line ends with the level, and the last one is
 [\"enough\",LEVEL]: from that level on every schedule keeps them, at none where LEVEL is null.
 
-With --after 3:1 runner 3, as starts are numbered from 1, makes no step before runner 1 has ended: it is a later call of the
-same client. With --after 3:1:committed it makes none at all unless runner 1 committed. Several are separated by commas. They
-are for a search with a rule, which then looks at every schedule in which the runners wait, and at no serial orders.
+Where a source has no after, --after 3:1 says that runner 3, as starts are numbered from 1, makes no step before runner 1 has
+ended; --after 3:1:committed: none at all unless that one committed. A search in which runners wait asks rules and finals alone,
+and looks at no serial orders.
 
 Without a rule, what whole schedules come to is printed, after which no move is left, each once: the keys with their
 values, and how each runner ended ([\"committed\",OUTPUT], [\"gaveup\",KEY], [\"aborted\",TEXT], [\"faulted\",FAULT] or
-[\"ended\",CAUSE]). If s.json holds two programs that each put a key when the other is not put,
-
-  [[\"start\",\"ReadCommitted\",1,[[\"if\",[\"eq\",[\"get\",\"b\"],\"\"],[[\"put\",\"a\",\"1\",0]],[]]]],
-   [\"start\",\"ReadCommitted\",1,[[\"if\",[\"eq\",[\"get\",\"a\"],\"\"],[[\"put\",\"b\",\"1\",0]],[]]]]]
-
-then stmrun explore s.json prints
+[\"ended\",CAUSE]). Where s.stm has no rule, stmrun explore s.stm --level ReadCommitted prints
 
   [\"outcome\",[[\"a\",\"1\"],[\"b\",\"1\"]],[[\"committed\",[]],[\"committed\",[]]]]
   [\"outcome\",[[\"a\",\"1\"]],[[\"committed\",[]],[\"committed\",[]]]]
   [\"outcome\",[[\"b\",\"1\"]],[[\"committed\",[]],[\"committed\",[]]]]
   [\"outcomes\",3]
 
-and of stmrun explore --level Serializable s.json none of the lines has both keys. With --witness a line behind each outcome is
-the scenario with the steps of a schedule that comes to it, as short as there is one: stmrun script takes it.
+and at Serializable none of the lines has both keys. With --witness a line behind each outcome is the
+scenario with the steps of a schedule that comes to it, as short as there is one: stmrun script takes it.
 
 A rule that is always kept says little where a program never committed, a misspelt key is asked for, an event is refused, the
 rule has no abort, or nothing is started: standard error says so, and --strict makes the status 1 then, as a check that runs by
@@ -76,6 +84,8 @@ With --level all there is a line for each level, the weakest first, without the 
 Where SCENARIO is a source, a source stands in the place of each scenario that is printed. With --format text a table does, as
 script --format text prints it, by --width N for a terminal of N characters, and the lines are words; with --level all and a rule, a
 last one is the table of the weakest level at which a rule is broken, or, where none is enough, of the strongest.
+
+stmrun help language has what a source may have.
 
 Statuses: 0 always, serial, or all outcomes were found, 1 broken or an anomaly, 2 bad input or usage, 3 out of memory or a
 failed device, 4 open.";

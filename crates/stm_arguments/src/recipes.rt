@@ -37,6 +37,8 @@ prints the program of this scenario, which makes account a and puts 30 there:
      [\"put\",\"a\",[\"text_of\",[\"add\",[\"num_of\",[\"var\",0]],30]],0]]],
    [\"step\",1],[\"step\",1]]
 
+stmrun recipe deposit a 30 | stmrun show --program prints it as a source has it.
+
 Statuses: 0 done, 2 usage, 3 out of memory or a failed device.";
 
 /// The command `recipe`.

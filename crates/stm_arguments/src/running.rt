@@ -56,7 +56,7 @@ const RUN: Table = Table {
         ),
         (
             "NAME",
-            Form::Optional,
+            Form::Named("NAME [ARGUMENT].."),
             "A program of the source; what stands behind it are its arguments",
         ),
         (

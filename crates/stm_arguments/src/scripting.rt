@@ -10,13 +10,21 @@ use clap::builder::ValueParser;
 use clap::{ArgMatches, Command};
 use std::alloc::{AllocError, Global};
 
-const EXAMPLE: &str =
-    "The report is printed once it is whole, and nothing of it where the scenario is bad: then the place of its
-first fault and the cause stand on standard error. If s.json holds the example of stmrun --help,
+const EXAMPLE: &str = "If s.stm is a source, which has a runner and the steps that it takes,
 
-  stmrun script s.json
+  start { put(\"a\", \"1\") } as ana
+  step ana
 
-prints its report, and so does stmrun script < s.json. With --format FORMAT the report has another form:
+then stmrun script s.stm prints its report:
+
+  [1,\"started\",1]
+  [2,\"committed\",1,2,1,[],[],[]]
+  [\"key\",\"a\",\"1\",2,2,1,0]
+  [\"end\",2,1]
+
+So does stmrun script < s.stm, and stmrun script s.json of its JSON. A schedule that explore prints is played with the answers in front:
+stmrun explore FILE.stm | stmrun script. The report is printed once it is whole, and nothing of it where the scenario is bad: then the
+place of its first fault and the cause stand on standard error. With --format FORMAT it has another form:
 
   lines   the default: each line is a JSON array, which stmrun check reads
   json    each line is a JSON object with named fields
@@ -25,7 +33,7 @@ prints its report, and so does stmrun script < s.json. With --format FORMAT the 
   svg     the rows of the text as a picture
   html    the same as a page, with the keys and the runners at each event
 
-From this scenario, which lacks the runner of its step,
+From this scenario of JSON, which lacks the runner of its step,
 
   [[\"step\"]]
 
@@ -49,6 +57,8 @@ a rule that did, at which place the program stopped and on which values:
 With --store STORE the scenario goes on from the store of that file, which is made where it is missing, and its report is
 printed once it is on the disk: lines or json. Its events are numbered from 1, its runners and watchers go on counting, and it may
 begin with [\"begin\",..] only where the store is new. stmrun store --help has more of such stores.
+
+stmrun help language has what a source may have.
 
 Statuses: 0 done, 2 bad input or usage, 3 out of memory, a failed disk or device, or a store that another process has open.";
 

@@ -11,8 +11,12 @@ pub(crate) enum Form {
     Required,
     /// In its place, where it may be.
     Optional,
+    /// The same, with this in its place in the help.
+    Named(&'static str),
     /// As a flag, which is set where it stands.
     Flag,
+    /// As a flag, which is set where it stands, unless `=never` stands behind it; `=always` may, too.
+    When,
     /// As an option with a value, of this name in the help, that may be there.
     Value(&'static str, ValueParser<'static>),
     /// The same, but that it has to be there.
@@ -51,9 +55,15 @@ pub(crate) struct Table {
 /// Whether a fault is explained.
 pub(crate) const EXPLAIN: Argument = (
     "explain",
-    Form::Flag,
+    Form::When,
     "Explains faults, of an input or of a run: where each stands and what was found there; where standard error is a terminal this is the default, which --explain=never ends",
 );
+
+/// What stands for a flag that does not say when.
+const ALWAYS: &str = "always";
+
+/// When a flag is set.
+const WHEN: &[&str] = &[ALWAYS, "never"];
 
 /// An option with a value.
 fn option<'a>(
@@ -68,12 +78,22 @@ fn option<'a>(
         .value_parser(parser)
 }
 
+/// A flag that may say when.
+fn when<'a>(alloc: Global, name: &'static str) -> Arg<'a> {
+    option(alloc, name, "WHEN", ValueParser::Names(WHEN))
+        .num_args(0..=1)
+        .require_equals(true)
+        .default_missing_value(ALWAYS)
+}
+
 /// An argument of this name, without its help.
 fn formed<'a>(alloc: Global, name: &'static str, form: Form) -> Arg<'a> {
     match form {
         Form::Required => Arg::new(alloc, name).required(true),
         Form::Optional => Arg::new(alloc, name),
+        Form::Named(value) => Arg::new(alloc, name).value_name(value),
         Form::Flag => Arg::new(alloc, name).long(name).action(ArgAction::SetTrue),
+        Form::When => when(alloc, name),
         Form::Value(value, parser) => option(alloc, name, value, parser),
         Form::RequiredValue(value, parser) => option(alloc, name, value, parser).required(true),
         Form::Values(value) => {

@@ -58,7 +58,7 @@ pub(crate) fn flag_of(found: &ArgMatches<'_>, name: &str) -> bool
     ensures { result ≡ is_set (first_of name.now (rows_of (found_of found.now))) }
 {
     match word_of(found, name) {
-        Some(word) => word == "true",
+        Some(word) => word == "true" || word == "always",
         None => false,
     }
 }

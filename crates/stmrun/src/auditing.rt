@@ -1,7 +1,7 @@
 //! The command `audit`.
 ghost use Rattle.std.specs.Prelude.{◌≡◌, false};
 
-use crate::explaining::{kept, say_unread, say_unwritten};
+use crate::explaining::{kept, say_source, say_unread, say_unwritten};
 use crate::noting::Noting;
 use crate::wording::{Lines, TEXT, held, print_words};
 use std::io::Write;
@@ -48,6 +48,7 @@ fn audit_on<W: Write + Drop>(
     if explain {
         say_unwritten(rt, out.device.failure.take());
     }
+    say_source(rt, &input, "trace");
     say_unread(rt, input.name, input.source.device.failure);
     status
 }

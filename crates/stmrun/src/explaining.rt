@@ -2,9 +2,10 @@
 ghost use Rattle.std.specs.Prelude.{◌≡◌, false};
 
 use crate::files::{Opened, open};
+use crate::kinds::{Kind, begins_source, kind_of, say_kind};
 use crate::naming::RUNNERS;
 use crate::noting::Noting;
-use crate::sources::{ENDING, Given, JsonFile, begins_source, say_ended, say_leases};
+use crate::sources::{Given, JsonFile, say_ended, say_leases};
 use std::io;
 use std::io::{Input, Write};
 use std::rt::Files;
@@ -14,13 +15,10 @@ use stm_commands::{
 use stm_explain::is_hidden;
 
 /// With this begins a start, and in JSON no text has it.
-const START: &str = "[\"start\",";
+pub(crate) const START: &str = "[\"start\",";
 
 /// The same of a step.
 const STEP: &str = "[\"step\",";
-
-/// What the names of files of JSON end in, which may begin with a comment, as sources do.
-const JSON: &str = ".json";
 
 /// Whether a path has a character that does something to a terminal.
 pub(crate) fn has_hidden(path: &str) -> bool {
@@ -67,14 +65,21 @@ pub(crate) fn say_unread(rt: &HostRuntime, name: &str, failure: Option<io::Error
     }
 }
 
-/// Says of what was read as JSON why the system refused it, if it did, and if it begins as a source does what the name of one ends in.
+/// Says of what was read as JSON why the system refused it, if it did, and what it is if that is a source, or what explore answers and no one schedule.
 pub(crate) fn say_read<D>(rt: &HostRuntime, input: &KeptSource<'_, Std<Noting<D>>>) {
     let name = input.name;
     say_unread(rt, name, input.source.device.failure);
-    if !name.ends_with(JSON) && begins_source(input.text().unwrap_or("")) {
-        let _ = eprintln!(rt;
-            "{name}: this is a source, and the name of a source ends in {ENDING}"
-        );
+    match kind_of(input.text().unwrap_or("")) {
+        Kind::Json | Kind::Unknown => {}
+        kind => say_kind(rt, name, kind),
+    }
+}
+
+/// Says of what is to be something else that it is a source, if it begins as one does.
+pub(crate) fn say_source<S>(rt: &HostRuntime, input: &KeptSource<'_, S>, wanted: &str) {
+    if begins_source(input.text().unwrap_or("")) {
+        let name = input.name;
+        let _ = eprintln!(rt; "{name}: this is a source, and no {wanted}");
     }
 }
 
@@ -179,6 +184,7 @@ pub(crate) fn run_check(
         )
     };
     say_read(rt, &scenario);
+    say_source(rt, &report, "report");
     say_unread(rt, report.name, report.source.device.failure);
     if explain {
         say_unwritten(rt, out.device.failure);

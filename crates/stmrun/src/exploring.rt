@@ -13,7 +13,7 @@ use crate::sources::{
     source_text,
 };
 use crate::terminals::{Told, close, shown_budget};
-use crate::waits::{read_waits, refuse_beside, refuse_without_rule};
+use crate::waits::{read_waits, refuse_beside, refuse_levels, refuse_waits};
 use std::alloc::AllocError;
 use std::io::Write;
 use std::slice;
@@ -168,7 +168,7 @@ fn search_outcomes(
     scenario: &JsonFile<'_>,
 ) -> Result<u8, u8> {
     match search.levels {
-        Levels::All if !search.serial => Err(refuse_without_rule(rt, "--level all")),
+        Levels::All if !search.serial => Err(refuse_levels(rt)),
         Levels::Own | Levels::One(_) | Levels::All => Ok(run_outcomes_in(rt, search, scenario)),
     }
 }
@@ -257,7 +257,7 @@ fn refuse_waiting(
     waits: &[SourceWait],
 ) -> Result<(), u8> {
     if search.after.is_some() {
-        return Err(refuse_without_rule(rt, "--after <RUNNER:FIRST,..>"));
+        return Err(refuse_waits(rt));
     }
     match waits.first() {
         None => Ok(()),

@@ -12,6 +12,7 @@ mod explaining;
 mod exploring;
 mod files;
 mod found;
+mod kinds;
 mod naming;
 mod noting;
 mod resuming;

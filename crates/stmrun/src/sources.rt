@@ -3,6 +3,9 @@ ghost use Rattle.std.specs.Prelude.{◌≡◌, false};
 
 use crate::explaining::{has_hidden, name_of, say_unread, say_unwritten};
 use crate::files::{Opened, open, open_beside};
+use crate::kinds::{
+    Kind, begins_json, begins_source, front_of, kind_of, say_kind, without_answers,
+};
 use crate::naming::{Called, RUNNERS, with_names};
 use crate::noting::Noting;
 use std::alloc::{AllocError, Global};
@@ -20,7 +23,7 @@ use stm_faulted_runs::{Named, leases_explained};
 use stm_history::{Sequence, Text};
 
 /// What the names of sources end in.
-pub(crate) const ENDING: &str = ".stm";
+const ENDING: &str = ".stm";
 
 /// What stands behind the name of a source in that of its line of JSON.
 const COMPILED: &str = ", compiled";
@@ -31,14 +34,8 @@ const STANDARD: &str = "-";
 /// What stands before what a command has to say, also where it explains nothing.
 const OWN: &str = "stmrun: ";
 
-/// With this begins a line of what explore answers, and nothing that a source has.
-const ANSWER: &str = "[\"";
-
-/// The words and signs with which a source begins, and nothing that is JSON.
-const BEGINNINGS: [&str; 17] = [
-    "program", "rule", "let", "finally", "begin", "start", "step", "txn", "grant", "keep",
-    "revoke", "advance", "watch", "poll", "cancel", "compact", "//",
-];
+/// The line of a scenario without events.
+const NO_EVENTS: &str = "[]";
 
 /// What is read as JSON.
 #[derive(Drop)]
@@ -47,8 +44,8 @@ pub(crate) enum JsonFile<'a> {
     Json(&'a str),
     /// The line to which a source was compiled, under this name.
     Compiled(Text, String),
-    /// What standard input had.
-    Held(Vec<u8>),
+    /// What the file of a path had, or standard input.
+    Held(Vec<u8>, &'a str),
 }
 
 impl JsonFile<'_> {
@@ -57,7 +54,7 @@ impl JsonFile<'_> {
         match self {
             JsonFile::Json(path) => open_beside(rt, path),
             JsonFile::Compiled(line, _) => Opened::Compiled(line.as_str().as_bytes()),
-            JsonFile::Held(bytes) => Opened::Compiled(bytes.as_slice()),
+            JsonFile::Held(bytes, _) => Opened::Compiled(bytes.as_slice()),
         }
     }
 
@@ -66,7 +63,7 @@ impl JsonFile<'_> {
         match self {
             JsonFile::Json(path) => name_of(path),
             JsonFile::Compiled(_, name) => name.as_str(),
-            JsonFile::Held(_) => name_of(STANDARD),
+            JsonFile::Held(_, path) => name_of(path),
         }
     }
 }
@@ -96,15 +93,12 @@ fn line_of<'a>(rt: &HostRuntime, path: &str, line: Text) -> Result<JsonFile<'a>,
     }
 }
 
-/// What the file of a path has, or standard input, without answers of explore; or the status, once it was said why it cannot be read.
-fn bytes_at(rt: &HostRuntime, path: &str) -> Result<Vec<u8>, u8> {
+/// What the file of a path has, or standard input; or the status, once it was said why it cannot be read.
+fn read_at(rt: &HostRuntime, path: &str) -> Result<Vec<u8>, u8> {
     let mut input = Std::new(Noting::new(open(rt, path)));
     let read = read_all(rt.alloc(), &mut input);
     match read {
-        Ok(mut bytes) => {
-            without_answers(bytes.as_mut_slice());
-            Ok(bytes)
-        }
+        Ok(bytes) => Ok(bytes),
         Err(ReadFault::OutOfMemory) => Err(out_of_memory(rt)),
         Err(ReadFault::Device) => {
             let _ = rt.eprintln("stmrun: device fault");
@@ -114,61 +108,25 @@ fn bytes_at(rt: &HostRuntime, path: &str) -> Result<Vec<u8>, u8> {
     }
 }
 
-/// The source of a path, which has these bytes, compiled; or the status, once what is wrong with it was said. It is explained, or is not.
+/// What `read_at` answers, without answers of explore.
+fn bytes_at(rt: &HostRuntime, path: &str) -> Result<Vec<u8>, u8> {
+    let mut bytes = read_at(rt, path)?;
+    without_answers(bytes.as_mut_slice());
+    Ok(bytes)
+}
+
+/// The source of a path, which has these bytes, compiled; or the status, once what is wrong with it was said. It is explained, or is not; of what is no
+/// source it is said what it is.
 fn compiled_of(rt: &HostRuntime, path: &str, bytes: &[u8], explain: bool) -> Result<Compiled, u8> {
     let mut err = Std::new(rt.stderr());
-    let name = explained_name(path, explain);
-    compiled(rt.alloc(), name, &mut Std::new(bytes), &mut err)
-}
-
-/// The text with which bytes begin.
-fn front_of(bytes: &[u8]) -> &str {
-    match str::from_utf8(bytes) {
-        Ok(text) => text,
-        Err(error) => match bytes.get(..error.valid_up_to()) {
-            Some(front) => str::from_utf8(front).unwrap_or(""),
-            None => "",
-        },
+    let kind = kind_of(front_of(bytes));
+    let is_other = matches!(kind, Kind::Json | Kind::Answer | Kind::Schedules(_));
+    let name = explained_name(path, explain && !is_other);
+    let compiled = compiled(rt.alloc(), name, &mut Std::new(bytes), &mut err);
+    if is_other {
+        say_kind(rt, name_of(path), kind);
     }
-}
-
-/// Whether a text begins as a source does.
-pub(crate) fn begins_source(text: &str) -> bool {
-    let text = text.trim();
-    for word in BEGINNINGS {
-        if text.starts_with(word) {
-            return true;
-        }
-    }
-    false
-}
-
-/// How many bytes the answers of explore have in front of a source: none, where what stands behind them is no source.
-fn answers_before(text: &str) -> usize {
-    let mut count = 0usize;
-    for line in text.lines() {
-        if !line.starts_with(ANSWER) {
-            break;
-        }
-        count = count.saturating_add(line.len()).saturating_add(1);
-    }
-    match text.get(count..) {
-        Some(behind) if begins_source(behind) => count,
-        _ => 0,
-    }
-}
-
-/// Makes spaces of the answers of explore in front of a source, so that what it prints is read as the source behind them, with the lines as they are.
-fn without_answers(bytes: &mut [u8]) {
-    let count = answers_before(front_of(bytes));
-    let Some(front) = bytes.get_mut(..count) else {
-        return;
-    };
-    for byte in front.iter_mut() {
-        if *byte != b'\n' {
-            *byte = b' ';
-        }
-    }
+    compiled
 }
 
 /// A scenario, and what is known of its source.
@@ -198,6 +156,17 @@ fn given_by<'a>(
     })
 }
 
+/// Whether a scenario is a source: that of a path which ends so, of standard input which begins so, and behind answers of explore what begins as no JSON.
+fn is_spelled(path: &str, text: &str, has_answers: bool) -> bool {
+    if has_answers {
+        !begins_json(text)
+    } else if path == STANDARD {
+        begins_source(text)
+    } else {
+        is_source(path)
+    }
+}
+
 /// A scenario that has no source.
 fn given_alone<'a>(rt: &HostRuntime, scenario: JsonFile<'a>) -> Given<'a> {
     Given {
@@ -213,14 +182,12 @@ pub(crate) fn source_at<'a>(
     path: &'a str,
     explain: bool,
 ) -> Result<Given<'a>, u8> {
-    if path != STANDARD && !is_source(path) {
-        return Ok(given_alone(rt, JsonFile::Json(path)));
-    }
-    let bytes = bytes_at(rt, path)?;
-    if is_source(path) || begins_source(front_of(bytes.as_slice())) {
+    let mut bytes = read_at(rt, path)?;
+    let has_answers = without_answers(bytes.as_mut_slice());
+    if is_spelled(path, front_of(bytes.as_slice()), has_answers) {
         given_by(rt, path, bytes, explain)
     } else {
-        Ok(given_alone(rt, JsonFile::Held(bytes)))
+        Ok(given_alone(rt, JsonFile::Held(bytes, path)))
     }
 }
 
@@ -505,7 +472,18 @@ fn say_left_out(rt: &HostRuntime, given: &Given<'_>) -> Result<(), u8> {
     }
 }
 
-/// The scenario of a path alone: it is said which rules of its source are not asked, and which runners do not wait. Else all is as with `source_at`.
+/// Says of the source of a path that it has no events, if it has none.
+fn say_empty(rt: &HostRuntime, path: &str, given: &Given<'_>) {
+    if let JsonFile::Compiled(line, _) = &given.scenario {
+        if line.as_str().trim() == NO_EVENTS {
+            let name = name_of(path);
+            let _ = eprintln!(rt; "stmrun: {name} has no events");
+        }
+    }
+}
+
+/// The scenario of a path alone: it is said which rules of its source are not asked, which runners do not wait, and that it has no events, where that is so.
+/// Else all is as with `source_at`.
 pub(crate) fn given_at<'a>(
     rt: &HostRuntime,
     path: &'a str,
@@ -513,6 +491,7 @@ pub(crate) fn given_at<'a>(
 ) -> Result<Given<'a>, u8> {
     let given = source_at(rt, path, explain)?;
     say_left_out(rt, &given)?;
+    say_empty(rt, path, &given);
     Ok(given)
 }
 
@@ -745,10 +724,17 @@ fn compile_bytes(rt: &HostRuntime, path: &str, bytes: &[u8], part: Part<'_>, exp
     status
 }
 
-/// Prints a part of a path's source. A fault is explained, or is not.
+/// Prints a part of a path's source. A fault is explained, or is not; of what explore answers it is said what it lacks.
 pub(crate) fn run_compile(rt: &HostRuntime, path: &str, part: Part<'_>, explain: bool) -> u8 {
-    match bytes_at(rt, path) {
-        Ok(bytes) => compile_bytes(rt, path, bytes.as_slice(), part, explain),
-        Err(status) => status,
+    let bytes = match bytes_at(rt, path) {
+        Ok(bytes) => bytes,
+        Err(status) => return status,
+    };
+    let kind = kind_of(front_of(bytes.as_slice()));
+    let is_answer = matches!(kind, Kind::Answer | Kind::Schedules(_));
+    let status = compile_bytes(rt, path, bytes.as_slice(), part, explain && !is_answer);
+    if is_answer {
+        say_kind(rt, name_of(path), kind);
     }
+    status
 }

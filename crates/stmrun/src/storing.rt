@@ -11,10 +11,10 @@ use crate::files::is_missing;
 use crate::naming::JOBS;
 use crate::noting::{Keeping, Noting};
 use crate::sources::{
-    Given, GivenProgram, JsonFile, given_at, is_source, out_of_memory, program_at, say_ended,
-    say_in_program, scenario_at,
+    Given, GivenProgram, JsonFile, is_source, out_of_memory, program_at, say_ended, say_in_program,
+    scenario_at,
 };
-use crate::threading::print_jobs;
+use crate::threading::{jobs_at, print_jobs};
 use crate::wording::{Lines, TEXT, held, print_words};
 use std::io::Write;
 use std::sync::Wait;
@@ -351,7 +351,7 @@ fn run_jobs<T: Threads + Wait + Sync>(
         );
         return Err(2);
     }
-    let given = given_at(rt, words.scenario.unwrap_or("-"), explain)?;
+    let given = jobs_at(rt, words.scenario.unwrap_or("-"), explain)?;
     if words.format == Some(TEXT) {
         let mut out = held(rt);
         jobs_on(rt, threads, store, &given, words, explain, &mut out)?;

@@ -3,7 +3,7 @@ ghost use Rattle.std.specs.Prelude.{◌≡◌, ◌≤◌, ℕ, Some, None, true,
 ghost use Rattle.stm_threading.specs.declared.shown.Printing.TheVariants.{Values, Ends, Outcomes};
 ghost use Rattle.stm_workers.specs.declared.run.TheConstants.{MOST_WORKERS};
 
-use crate::explaining::{kept_json, say_read, say_unwritten};
+use crate::explaining::{START, kept_json, say_read, say_unwritten};
 use crate::naming::JOBS;
 use crate::noting::{Kept, Noting};
 use crate::sources::{
@@ -18,6 +18,9 @@ use stm_threading::{Printing, ThreadsOptions, threads_as_to};
 
 /// The status of a scenario that is none of jobs.
 const BAD: u8 = 2;
+
+/// With this begins an advance, and in JSON no text has it.
+const ADVANCE: &str = "[\"advance\",";
 
 /// What is printed of jobs: what several runs of them come to, or one run, with the ends of the jobs or without.
 pub(crate) fn printing_of(ends: bool, repeat: Option<u32>) -> Printing
@@ -96,6 +99,23 @@ pub(crate) fn print_jobs(
     }
 }
 
+/// The scenario of a path, whose starts are to be jobs: of a source with an advance behind a start it is said that this comes before all jobs. Else all is
+/// as with `given_at`.
+pub(crate) fn jobs_at<'a>(rt: &HostRuntime, path: &'a str, explain: bool) -> Result<Given<'a>, u8> {
+    let given = given_at(rt, path, explain)?;
+    if let JsonFile::Compiled(line, _) = &given.scenario {
+        match line.as_str().split_once(START) {
+            Some((_, behind)) if behind.contains(ADVANCE) => {
+                let _ = rt.eprintln(
+                    "stmrun: an advance that stands behind a start comes before all jobs",
+                );
+            }
+            _ => {}
+        }
+    }
+    Ok(given)
+}
+
 /// Runs the jobs of a path's scenario as these options say, and prints what they came to, in words or as lines.
 pub(crate) fn run_threads<T: Threads + Wait + Sync>(
     rt: &HostRuntime,
@@ -107,7 +127,7 @@ pub(crate) fn run_threads<T: Threads + Wait + Sync>(
     requires { (1 ≤ options.workers) × (options.workers ≤ MOST_WORKERS) }
 {
     let explain = options.explain;
-    let given = match given_at(rt, path, explain) {
+    let given = match jobs_at(rt, path, explain) {
         Ok(given) => given,
         Err(status) => return status,
     };

@@ -212,9 +212,20 @@ pub(crate) fn refuse_beside(rt: &HostRuntime, option: &str, other: &str) -> u8 {
     2
 }
 
-/// Refuses an option where no rule is asked, which it is for, and gives the status.
-pub(crate) fn refuse_without_rule(rt: &HostRuntime, option: &str) -> u8 {
-    let _ = eprintln!(rt; "error: '{option}' is for a search with '--keeps <PROGRAM>'");
+/// Refuses waits where no rule is asked, which they are for, and gives the status.
+pub(crate) fn refuse_waits(rt: &HostRuntime) -> u8 {
+    let _ = rt.eprintln(
+        "error: '--after <RUNNER:FIRST,..>' needs a rule: '--keeps <PROGRAM>', or one in the source",
+    );
+    let _ = rt.eprintln(USAGE);
+    2
+}
+
+/// Refuses all levels where no rule is asked, nor looked for serial orders, and gives the status.
+pub(crate) fn refuse_levels(rt: &HostRuntime) -> u8 {
+    let _ = rt.eprintln(
+        "error: '--level all' needs a rule ('--keeps <PROGRAM>', or one in the source) or '--serial'; '--witness' takes one level",
+    );
     let _ = rt.eprintln(USAGE);
     2
 }

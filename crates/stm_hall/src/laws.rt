@@ -2,7 +2,6 @@
 ghost use Rattle.stm_hall.specs.Laws.{HallsOpenAsTheirStore, TrueReadsAreVouched};
 
 /// A hall that is made over a store is locked, and its opening state is that store.
-#[tactic(auto, using(crate::proofs::Opening::halls_open_as_their_store))]
 pub fn halls_open_as_their_store()
     ensures { HallsOpenAsTheirStore }
 {}

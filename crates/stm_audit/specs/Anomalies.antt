@@ -71,7 +71,7 @@ compares_writes RepeatableReads = false
 compares_writes ReadCommitted = false
 
 -- the revision of the first read, wherever it stands: the least one that a read is of, and the highest one where nothing was read
-abbrev pub first_read : List CommittedRead → ℕ
+unfoldable pub first_read : List CommittedRead → ℕ
 first_read reads = fold (λ least (a : CommittedRead). min least a.of_rev) HIGHEST_REVISION reads
 
 -- a written key was put above a revision

@@ -153,6 +153,7 @@ fn compares_writes(level: Level) -> bool
 }
 
 /// The least revision that one of these reads is of, and the highest one where there is none.
+#[tactic(auto, unfolding(crate::specs::Anomalies::first_read))]
 fn first_read(reads: &[CommittedRead]) -> u64
     ensures { result ≡ first_read reads.now }
 {

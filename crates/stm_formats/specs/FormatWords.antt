@@ -202,11 +202,11 @@ reply_words cuts labels h before event (Batch watcher upto events) = batch_words
 reply_words cuts labels h before event (Lost watcher floor) = lost_words watcher floor
 reply_words cuts labels h before event (Cancelled watcher) = named_words (codes "cancel") watcher
 
-abbrev pub cause_words : EventRefusal → List ℕ
-cause_words cause = joined (codes ": " ∷ refusal_name cause ∷ [])
+abbrev pub refusal_words : EventRefusal → List ℕ
+refusal_words cause = joined (codes ": " ∷ refusal_name cause ∷ [])
 
 abbrev pub refused_words : WorldEvent → EventRefusal → List ℕ
-refused_words event cause = joined (codes "REFUSED " ∷ asked_words event ∷ cause_words cause ∷ [])
+refused_words event cause = joined (codes "REFUSED " ∷ asked_words event ∷ refusal_words cause ∷ [])
 
 abbrev pub told_words : Cuts → List RunnerLabel → History → ℕ → WorldEvent → Result Reply Denied → List ℕ
 told_words cuts labels h before event (Ok reply) = reply_words cuts labels h before event reply

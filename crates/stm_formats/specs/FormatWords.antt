@@ -202,12 +202,15 @@ reply_words cuts labels h before event (Batch watcher upto events) = batch_words
 reply_words cuts labels h before event (Lost watcher floor) = lost_words watcher floor
 reply_words cuts labels h before event (Cancelled watcher) = named_words (codes "cancel") watcher
 
-abbrev pub refused_words : ℕ → WorldEvent → EventRefusal → List ℕ
-refused_words most event cause = joined (codes "REFUSED " ∷ asked_words event ∷ codes ": " ∷ shown most (refusal_name cause) ∷ [])
+abbrev pub refusal_words : EventRefusal → List ℕ
+refusal_words cause = joined (codes ": " ∷ refusal_name cause ∷ [])
+
+abbrev pub refused_words : WorldEvent → EventRefusal → List ℕ
+refused_words event cause = joined (codes "REFUSED " ∷ asked_words event ∷ refusal_words cause ∷ [])
 
 abbrev pub told_words : Cuts → List RunnerLabel → History → ℕ → WorldEvent → Result Reply Denied → List ℕ
 told_words cuts labels h before event (Ok reply) = reply_words cuts labels h before event reply
-told_words cuts labels h before event (Err denied) = refused_words cuts.value event denied.cause
+told_words cuts labels h before event (Err denied) = refused_words event denied.cause
 
 -- what a row says of an event before which the store was at a revision: of its reply, what it changed, and what was emitted
 abbrev pub words_of : Cuts → List RunnerLabel → History → ℕ → WorldEvent → Result Reply Denied → List ℕ

@@ -5,7 +5,7 @@ ghost use Rattle.stm_formats.specs.FormatWords.{named_words, reported_words, cha
 ghost use Rattle.stm_formats.specs.FormatWords.{reads_after, listed_words, attempt_words, commit_word, commit_words, compared_words, compared_by, failed_word, at_words, txn_words, revoked_words};
 ghost use Rattle.stm_formats.specs.FormatKeys.{key_words};
 ghost use Rattle.stm_formats.specs.FormatPieces.{joined};
-ghost use Rattle.stm_formats.specs.FormatWords.{lease_after, counted_end, ends_after, advanced_words, from_words, watched_words, watch_words, events_word, batch_words, lost_words, reply_words, grant_words, asked_words, refused_words, told_words, words_of};
+ghost use Rattle.stm_formats.specs.FormatWords.{lease_after, counted_end, ends_after, advanced_words, from_words, watched_words, watch_words, events_word, batch_words, lost_words, reply_words, grant_words, asked_words, refusal_words, refused_words, told_words, words_of};
 
 use crate::format_changes::{MOST_CHANGES, between, changed_since, changes_words, known_words};
 use crate::format_keys::{Cuts, key_words};
@@ -639,21 +639,27 @@ fn taken_words(
     }
 }
 
+/// What stands behind an event that was refused: its cause.
+fn refusal_words(alloc: Global, cause: EventRefusal) -> Result<Sequence<u8>, AllocError>
+    ensures { IfOk result (λ words. words ≡ refusal_words cause) }
+{
+    said(alloc, &[Piece::Say(": "), Piece::Say(cause.name())])
+}
+
 /// The words of an event that was refused.
 fn refused(
     alloc: Global,
-    most: u32,
     event: &WorldEvent,
     cause: EventRefusal,
 ) -> Result<Sequence<u8>, AllocError>
-    ensures { IfOk result (λ words. words ≡ refused_words most event.now cause) }
+    ensures { IfOk result (λ words. words ≡ refused_words event.now cause) }
 {
     let asked = asked_words(alloc, event)?;
+    let cause = refusal_words(alloc, cause)?;
     let pieces = [
         Piece::Say("REFUSED "),
         Piece::Raw(asked.as_slice()),
-        Piece::Say(": "),
-        Piece::Shown(most, cause.name()),
+        Piece::Raw(cause.as_slice()),
     ];
     said(alloc, &pieces)
 }
@@ -672,7 +678,7 @@ fn told_words(
 {
     match reply {
         Ok(reply) => taken_words(alloc, cuts, labels, keys, before, event, reply),
-        Err(denied) => refused(alloc, cuts.value, event, denied.cause),
+        Err(denied) => refused(alloc, event, denied.cause),
     }
 }
 

@@ -2,7 +2,6 @@
 ghost use Rattle.stm_job.specs.Laws.{EachOnceIsAsMany};
 
 /// Where the numbers below n are drawn, each once, n numbers are drawn.
-#[tactic(auto, using(crate::proofs::Counted::as_many))]
 pub fn each_once_is_as_many()
     ensures { EachOnceIsAsMany }
 {}

@@ -21,6 +21,7 @@ use Rattle.stm_events.specs.declared.reply.Reply.TheVariants.{Started, Prefetche
 use Rattle.stm_events.specs.declared.reply.Reply.TheVariants.{Txn, Granted, Kept, Revoked, Advanced, Compacted, Watching, Batch, Lost, Cancelled}
 use Rattle.stm_events.specs.declared.refusal.Denied.{Denied}
 use Rattle.stm_events.specs.declared.refusal.EventRefusal.{EventRefusal}
+use Rattle.stm_events.specs.declared.refusal.EventRefusal.TheVariants.{Kind}
 use Rattle.stm_events.specs.Names.{refusal_name}
 use Rattle.stm_meaning.specs.Faults.{fault_name}
 use Rattle.stm_program.specs.Syntax.{ProgramTree}
@@ -43,7 +44,7 @@ use Rattle.stm_reasons.specs.Causes.{state_by}
 use Rattle.stm_formats.specs.FormatChanges.{state_words, known_words, lease_words, change_words, between, counted_change, changes_after, revision_words, changed_since}
 use Rattle.stm_formats.specs.FormatWords.{named_words, reported_words, called_words, start_words, link, seen_words, as_of, fetched_words, counted_read, reads_after, listed_words}
 use Rattle.stm_formats.specs.FormatWords.{attempt_words, commit_word, commit_words, compared_words, compared_by, failed_word, at_words, txn_words, revoked_words, changed_words, ends_after, counted_end, lease_after, advanced_words, from_words, watched_words, watch_words, events_word, batch_words}
-use Rattle.stm_formats.specs.FormatWords.{lost_words, grant_words, asked_words, refused_words, reply_words, told_words, words_of}
+use Rattle.stm_formats.specs.FormatWords.{lost_words, grant_words, asked_words, refusal_words, refused_words, reply_words, told_words, words_of}
 use Rattle.stm_formats.specs.FormatOutput.{value_words, value_after, counted_value, output_after, emitted_words}
 use Rattle.stm_formats.specs.FormatRows.{lane_of, row_of, rows_of}
 use Rattle.stm_formats.specs.FormatColumns.{column, place}
@@ -355,10 +356,16 @@ lost_without watcher floor =
     joined_without (codes "LOST watcher " ∷ decimal watcher ∷ codes ": kept from @" ∷ decimal floor ∷ [])
     (refl, (decimal_without watcher, (refl, (decimal_without floor, tt))))
 
-refused_without : (most : ℕ) (e : WorldEvent) (cause : EventRefusal) → has 10 (refused_words most e cause) ≡ false
-refused_without most e cause =
-    joined_without (codes "REFUSED " ∷ asked_words e ∷ codes ": " ∷ shown most (refusal_name cause) ∷ [])
-    (refl, (asked_without e, (refl, (shown_without most (refusal_name cause), tt))))
+cause_without : (cause : EventRefusal) → has 10 (refusal_name cause) ≡ false
+cause_without Kind = refl
+cause_without _ = refl
+
+refusal_without : (cause : EventRefusal) → has 10 (refusal_words cause) ≡ false
+refusal_without cause = joined_without (codes ": " ∷ refusal_name cause ∷ []) (refl, (cause_without cause, tt))
+
+refused_without : (e : WorldEvent) (cause : EventRefusal) → has 10 (refused_words e cause) ≡ false
+refused_without e cause =
+    joined_without (codes "REFUSED " ∷ asked_words e ∷ refusal_words cause ∷ []) (refl, (asked_without e, (refusal_without cause, tt)))
 
 reply_without : (cuts : Cuts) (labels : List RunnerLabel) (h : History) (before : ℕ) (e : WorldEvent) (reply : Reply) → has 10 (reply_words cuts labels h before e reply) ≡ false
 reply_without cuts labels h before e (Started runner) = start_without cuts.value labels runner e
@@ -383,7 +390,7 @@ reply_without cuts labels h before e (Cancelled watcher) = named_without (codes 
 
 told_without : (cuts : Cuts) (labels : List RunnerLabel) (h : History) (before : ℕ) (e : WorldEvent) (reply : Result Reply Denied) → has 10 (told_words cuts labels h before e reply) ≡ false
 told_without cuts labels h before e (Ok reply) = reply_without cuts labels h before e reply
-told_without cuts labels h before e (Err denied) = refused_without cuts.value e denied.cause
+told_without cuts labels h before e (Err denied) = refused_without e denied.cause
 
 signed_without : (z : ℤ) → has 10 (signed_decimal z) ≡ false
 signed_without (pos n) = decimal_without n

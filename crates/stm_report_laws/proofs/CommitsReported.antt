@@ -1,24 +1,18 @@
 -- The line of a commit: a check finds its program's run on what the line reports, and the store that it leads to.
-use Rattle.std.proofs.Common.{◌≡◌, ℕ, ◌+◌, ◌≤◌, Bool, true, false, cond, List, [], ◌∷◌, map, Option, Some, option_map, bytes_eq, refl, sym, ◌∙◌, ap, subst}
+use Rattle.std.proofs.Common.{◌≡◌, ℕ, ◌+◌, ◌≤◌, Bool, cond, List, [], ◌∷◌, map, Option, Some, option_map, refl, sym, ◌∙◌, ap, arith}
 use Rattle.std.specs.Prelude.{MatchBool}
-use Rattle.stm_history.specs.declared.key_state.KeyState.{KeyState}
+use Rattle.std.proofs.lemmas.Bool.Decides.{nat_tests}
 use Rattle.stm_history.specs.declared.key_state.ReadAnswer.{ReadAnswer}
-use Rattle.stm_history.specs.History.{History, key_at, mod_of}
+use Rattle.stm_history.specs.History.{History, key_at}
 use Rattle.stm_program.specs.Syntax.{ProgramTree}
 use Rattle.stm_steps.specs.declared.value.Value.{Value}
 use Rattle.stm_steps.specs.declared.trace_item.TraceItem.{TraceItem}
-use Rattle.stm_steps.specs.declared.run.End.{End}
 use Rattle.stm_steps.specs.declared.run.Run.{Run}
-use Rattle.stm_steps.specs.declared.run.End.TheVariants.{Done as DoneEnd, Aborted as AbortedEnd, Faulted as FaultedEnd}
 use Rattle.stm_steps.specs.declared.run.Answered.{Answered}
-use Rattle.stm_steps.specs.declared.run.Answered.TheVariants.{Ended, Wants}
-use Rattle.stm_meaning.specs.Answer.{Lookup}
-use Rattle.stm_meaning.specs.Meaning.{run_over}
 use Rattle.stm_txn.specs.Standing.{Standing}
-use Rattle.stm_program.specs.Levels.{is_comparing}
-use Rattle.stm_compile.specs.Answers.{AreTrue, answer_in, look_up, said, state_now}
-use Rattle.stm_entries.specs.Replayed.{Replayed, without_moment}
-use Rattle.stm_entries.specs.Alone.{seen_at, left_by, left_by_run}
+use Rattle.stm_compile.specs.Answers.{AreTrue, look_up, said}
+use Rattle.stm_entries.specs.Replayed.{Replayed}
+use Rattle.stm_entries.specs.Alone.{left_by_run}
 use Rattle.stm_entries.specs.declared.entry.Entry.TheVariants.{Program}
 use Rattle.stm_events.specs.declared.reply.CommittedRead.{CommittedRead}
 use Rattle.stm_events.specs.Replies.{committed_read, reads_in}
@@ -28,7 +22,7 @@ use Rattle.stm_world.specs.Log.{with_commit}
 use Rattle.stm_world.specs.Right.{Situation, IsCommitted}
 use Rattle.stm_world.specs.Task.{Task}
 use Rattle.stm_check.specs.Point.{led_by}
-use Rattle.stm_check.specs.Replays.{AreTrulyReported, AnswersFit, keys_reported, IsRightCommit}
+use Rattle.stm_check.specs.Replays.{AreTrulyReported, keys_reported, IsRightCommit}
 use Rattle.stm_check.specs.Runs.{IsRunReported, revision_reached}
 use Rattle.stm_check.proofs.CommitLemmas.{right_commit}
 use Rattle.stm_report_laws.proofs.RunsReported.{run_with}
@@ -40,27 +34,16 @@ found_alike : (b : Bool) (h : History) (a : ReadAnswer) (reported rest : Option 
     option_map said reported ≡ option_map said rest →
     option_map said (cond b (Some record { key = a.key; kv = key_at h a.key a.of_rev; of_rev = a.of_rev; revision = a.of_rev }) reported)
     ≡ option_map said (cond b (Some a) rest)
-found_alike true h a reported rest shown same =
-    ap (λ (kv : Option KeyState). Some (said (record { key = a.key; kv = kv; of_rev = a.of_rev; revision = a.of_rev }))) shown
-found_alike false h a reported rest shown same = same
+found_alike b h a reported rest shown same = grind (arith, nat_tests)
 
 looked_up : (h : History) (answers : List ReadAnswer) → AreTrue h answers → (key : List ℕ) →
     look_up (reads_in h (map committed_read answers)) key ≡ look_up answers key
 looked_up h [] truth key = refl
-looked_up h (a ∷ answers) truth key =
-    found_alike (bytes_eq a.key key) h a (answer_in key (reads_in h (map committed_read answers))) (answer_in key answers) truth.0.shown
-    (looked_up h answers truth.1 key)
+looked_up h (a ∷ answers) truth key = grind (arith, nat_tests, found_alike, looked_up h answers truth.1 key)
 
 truly_reported : (h : History) (answers : List ReadAnswer) → AreTrue h answers → AreTrulyReported h (map committed_read answers)
 truly_reported h [] truth = tt
-truly_reported h (a ∷ answers) truth = (
-  record {
-    reached = truth.0.reached;
-    value = ap (λ (kv : Option KeyState). option_map (λ (s : KeyState). s.value) kv) (sym truth.0.shown);
-    modified = ap mod_of (sym truth.0.shown);
-  },
-  truly_reported h answers truth.1,
-)
+truly_reported h (a ∷ answers) truth = grind (arith, nat_tests, truly_reported h answers truth.1)
 
 keys_are : (answers : List ReadAnswer) → keys_reported (map committed_read answers) ≡ keys_read answers
 keys_are [] = refl
@@ -68,20 +51,13 @@ keys_are (a ∷ answers) = ap (λ (keys : List (List ℕ)). a.key ∷ keys) (key
 
 -- ---- by whether the level compares
 
--- the program sees on what is reported what it saw
-seen_by : (b : Bool) (h : History) (reads : List ReadAnswer) → AreTrue h reads →
-    cond b (state_now h) (look_up (reads_in h (map committed_read (cond b [] reads)))) ≡ cond b (state_now h) (look_up reads)
-seen_by true h reads truth = refl
-seen_by false h reads truth = λ i key. looked_up h reads truth key i
-
 -- and what is reported are the reads of its run
 fit_by : (b : Bool) (h : History) (program : ProgramTree) (reads : List ReadAnswer) (run : Run) → AreTrue h reads →
     keys_first_read program.prefetch run.reads ≡ keys_read reads →
     MatchBool b (map committed_read (cond b [] reads) ≡ [])
     ((keys_reported (map committed_read (cond b [] reads)) ≡ keys_first_read program.prefetch run.reads)
     × AreTrulyReported h (map committed_read (cond b [] reads)))
-fit_by true h program reads run truth in_order = refl
-fit_by false h program reads run truth in_order = (keys_are reads ∙ sym in_order, truly_reported h reads truth)
+fit_by b h program reads run truth in_order = grind (arith, nat_tests, keys_are, truly_reported)
 
 -- ---- a commit that is right in a log, of a runner whose reads are true
 
@@ -95,16 +71,7 @@ pub record IsCommitLine (at : Situation) (revision attempts conflicts : ℕ) (ou
 run_is_reported : (at : Situation) (revision attempts conflicts : ℕ) (output : List Value) (trace : List TraceItem) (answers : List CommittedRead) →
     (e : IsCommitLine at revision attempts conflicts output trace answers) →
     IsRunReported at.task.level at.store.history at.task.program answers e.right.commits.run
-run_is_reported at revision attempts conflicts output trace answers e =
-    let h : History = at.store.history in
-    let b : Bool = is_comparing at.task.level in
-    let run : Run = e.right.commits.run in
-    record {
-      is_run = ap (λ (xs : List CommittedRead). run_over (seen_at at.task.level (reads_in h xs) h) at.task.program.statements) e.right.reported
-          ∙ ap (λ (look : Lookup). run_over look at.task.program.statements) (seen_by b h at.reads e.truth) ∙ e.right.is_alone;
-      answers_fit = subst (λ (xs : List CommittedRead). AnswersFit at.task.level h (keys_first_read at.task.program.prefetch run.reads) xs)
-          (sym e.right.reported) (fit_by b h at.task.program at.reads run e.truth e.right.in_order);
-    }
+run_is_reported at revision attempts conflicts output trace answers e = grind (arith, nat_tests, fit_by, looked_up)
 
 pub commit_right : (at : Situation) (revision attempts conflicts : ℕ) (output : List Value) (trace : List TraceItem) (answers : List CommittedRead) →
     IsCommitLine at revision attempts conflicts output trace answers →
@@ -123,19 +90,11 @@ commit_right at revision attempts conflicts output trace answers e =
 
 -- ---- the store after it
 
-end_live : (run : Run) (end : End) (r : Replayed) → (left_by run end r).live ≡ r.live
-end_live run DoneEnd r = refl
-end_live run (AbortedEnd text) r = refl
-end_live run (FaultedEnd fault) r = refl
-
 run_live : (a : Answered) (r : Replayed) → (left_by_run a r).live ≡ r.live
-run_live (Ended run) r = end_live run run.end r
-run_live (Wants key trace) r = refl
+run_live a r = grind (arith, nat_tests)
 
 -- the entry of the line leads to what the program's run leaves
 pub commit_store : (s : Standing) (task : Task) (revision : ℕ) (output : List Value) (trace : List TraceItem) (answers : List CommittedRead) →
     led_by (Program task.program task.level (reads_in s.history answers) output trace revision ∷ []) (unwatched s)
     ≡ unwatched (with_commit s answers (Some task))
-commit_store s task revision output trace answers =
-    let a : Answered = run_over (seen_at task.level (reads_in s.history answers) s.history) task.program.statements in
-    λ k. record (unwatched s) { history = (left_by_run a (without_moment s)).history; live = run_live a (without_moment s) k }
+commit_store s task revision output trace answers = grind (arith, nat_tests, unwatched, run_live)

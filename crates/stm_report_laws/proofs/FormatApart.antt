@@ -1,29 +1,21 @@
 -- What rows show of a key tells the key: what is shown exactly is read back, and of two keys that are shown without their middle the ends tell them apart.
-use Rattle.std.proofs.Common.{◌≡◌, ℕ, zero, suc, pred, ◌+◌, ◌-◌, ◌*◌, ◌/◌, ◌%◌, Bool, true, false, not, cond, ◌&&◌, ◌||◌, List, [], ◌∷◌, ◌++◌, map, nat_eq, nat_lt, if◌then◌else◌}
+use Rattle.std.proofs.Common.{◌≡◌, ℕ, zero, suc, pred, ◌+◌, ◌-◌, ◌*◌, Bool, true, false, not, cond, ◌&&◌, ◌||◌, List, [], ◌∷◌, ◌++◌, map, nat_eq, nat_lt, if◌then◌else◌}
 use Rattle.std.proofs.Common.{refl, sym, ap, ◌∙◌, append_assoc, append-nil, codes, bytes_eq, arith}
-use Rattle.std.specs.List.{list_any}
 use Rattle.std.proofs.lemmas.Bool.{true≢false, and_parts, and_from, not-true, or_left, or_right}
 use Rattle.std.proofs.lemmas.Bool.Decides.{nat_tests}
 use Rattle.std.proofs.lemmas.Nat.{div-add-mod'}
 use Rattle.std.proofs.lemmas.Slice.Eq.{bytes_eq-Decides}
 use Rattle.stm_formats.specs.declared.format_keys.Cuts.{Cuts}
-use Rattle.stm_formats.specs.FormatShown.{hidden_from, digit, coded, byte_text, shown_after, plain, key_front, key_back, key_cut}
-use Rattle.stm_formats.specs.FormatKeys.{is_among, is_twin, has_twin, key_words}
+use Rattle.stm_formats.specs.FormatShown.{hidden_from, digit, byte_text, shown_after, plain, key_front, key_back, key_cut}
+use Rattle.stm_formats.specs.FormatKeys.{is_among, is_twin, has_twin}
 use Rattle.stm_report_laws.specs.FormatLaws.{KeysApart}
 
 -- the number of a digit
 abbrev number_of : ℕ → ℕ
 number_of c = if nat_lt c 58 then c - 48 else c - 87
 
-number_by : (small below : Bool) (n : ℕ) → nat_lt n 10 ≡ small → nat_lt (cond small (48 + n) (87 + n)) 58 ≡ below
-    → cond below (cond small (48 + n) (87 + n) - 48) (cond small (48 + n) (87 + n) - 87) ≡ n
-number_by true true n is at = omega arith
-number_by true false n is at = absurd (grind (arith, nat_tests))
-number_by false true n is at = absurd (grind (arith, nat_tests))
-number_by false false n is at = omega arith
-
 of_digit : (n : ℕ) → number_of (digit n) ≡ n
-of_digit n = number_by (nat_lt n 10) (nat_lt (digit n) 58) n refl refl
+of_digit n = grind (arith, nat_tests)
 
 -- What was shown, read back from its front: each byte, as one more, and 0 where a middle is left out. So many characters of a backslash, an `x` and two digits
 -- were read, and the first digit; or (4) a backslash and a point.
@@ -35,26 +27,14 @@ read (suc (suc zero)) high (c ∷ cs) = read 3 c cs
 read (suc (suc (suc zero))) high (c ∷ cs) = suc (number_of high * 16 + number_of c) ∷ read 0 0 cs
 read (suc (suc (suc (suc more)))) high (c ∷ cs) = read 0 0 cs
 
-of_coded : (b : ℕ) (rest : List ℕ) → read 0 0 (coded b ++ rest) ≡ suc b ∷ read 0 0 rest
-of_coded b rest =
-    ap (λ (n : ℕ). suc (n * 16 + number_of (digit (b % 16))) ∷ read 0 0 rest) (of_digit (b / 16))
-    ∙ ap (λ (n : ℕ). suc (b / 16 * 16 + n) ∷ read 0 0 rest) (of_digit (b % 16))
-    ∙ ap (λ (n : ℕ). suc n ∷ read 0 0 rest) (div-add-mod' b 16)
-
-same_number : (b : ℕ) → nat_eq b 92 ≡ true → 92 ≡ b
-same_number b is = grind (arith, nat_tests)
-
 other_by : (is : Bool) (here other : List ℕ) → is ≡ false → cond is other here ≡ here
-other_by false here other not = refl
-other_by true here other not = cc
+other_by is here other not = grind (arith, nat_tests)
 
 spelled_by : (is : Bool) (b : ℕ) (rest : List ℕ) → nat_eq b 92 ≡ is → read 0 0 (cond is (92 ∷ 92 ∷ []) (b ∷ []) ++ rest) ≡ suc b ∷ read 0 0 rest
-spelled_by true b rest at = ap (λ (n : ℕ). suc n ∷ read 0 0 rest) (same_number b at)
-spelled_by false b rest at = other_by (nat_eq b 92) (suc b ∷ read 0 0 rest) (read 1 0 rest) at
+spelled_by is b rest at = grind (arith, nat_tests, other_by)
 
 of_byte : (hidden b : ℕ) (rest : List ℕ) → read 0 0 (byte_text true hidden b ++ rest) ≡ suc b ∷ read 0 0 rest
-of_byte zero b rest = spelled_by (nat_eq b 92) b rest refl
-of_byte (suc hidden) b rest = of_coded b rest
+of_byte hidden b rest = grind (arith, nat_tests, spelled_by, of_digit, div-add-mod')
 
 of_shown : (left : ℕ) (text rest : List ℕ) → read 0 0 (shown_after true left text ++ rest) ≡ map suc text ++ read 0 0 rest
 of_shown left [] rest = refl
@@ -146,9 +126,7 @@ same_backs most a b same =
 -- another one of these keys with the same ends
 twin_by : (is : Bool) (most : ℕ) (a b key : List ℕ) (keys : List (List ℕ)) → bytes_eq key b ≡ is → is_twin most a b ≡ true
     → (is_among b keys ≡ true → has_twin most a keys ≡ true) → (is || is_among b keys) ≡ true → (is_twin most a key || has_twin most a keys) ≡ true
-twin_by true most a b key keys is twin later among =
-    or_left (is_twin most a key) (has_twin most a keys) (ap (is_twin most a) ((bytes_eq-Decides key b).0 is) ∙ twin)
-twin_by false most a b key keys is twin later among = or_right (is_twin most a key) (has_twin most a keys) (later among)
+twin_by is most a b key keys h7 twin later among = grind (arith, nat_tests, or_left, bytes_eq-Decides, or_right)
 
 twin_at : (most : ℕ) (a b : List ℕ) (keys : List (List ℕ)) → is_twin most a b ≡ true → is_among b keys ≡ true → has_twin most a keys ≡ true
 unfolding is_among has_twin
@@ -156,10 +134,7 @@ twin_at most a b [] twin among = absurd (true≢false (sym among))
 twin_at most a b (key ∷ keys) twin among = twin_by (bytes_eq key b) most a b key keys refl twin (twin_at most a b keys twin) among
 
 is_twin_of : (most : ℕ) (a b : List ℕ) → bytes_eq b a ≡ false → key_front most a ≡ key_front most b → key_back most a ≡ key_back most b → is_twin most a b ≡ true
-is_twin_of most a b other fronts backs =
-    and_from (not (bytes_eq b a)) _ (ap not other)
-    (and_from (bytes_eq (key_front most b) (key_front most a)) (bytes_eq (key_back most b) (key_back most a))
-    ((bytes_eq-Decides (key_front most b) (key_front most a)).1 (sym fronts)) ((bytes_eq-Decides (key_back most b) (key_back most a)).1 (sym backs)))
+is_twin_of most a b other fronts backs = grind (arith, nat_tests, and_from, bytes_eq-Decides)
 
 both_cut : (cuts : Cuts) (a b : List ℕ) → (is_among a cuts.keys && not (has_twin cuts.key a cuts.keys)) ≡ true
     → (is_among b cuts.keys && not (has_twin cuts.key b cuts.keys)) ≡ true → key_cut cuts.key a ≡ key_cut cuts.key b → a ≡ b
@@ -180,10 +155,7 @@ both_cut cuts a b first second same = same_by (bytes_eq b a) refl
 by_looks : (cuts : Cuts) (a b : List ℕ) (first second : Bool) → (is_among a cuts.keys && not (has_twin cuts.key a cuts.keys)) ≡ first
     → (is_among b cuts.keys && not (has_twin cuts.key b cuts.keys)) ≡ second
     → cond first (key_cut cuts.key a) (plain a) ≡ cond second (key_cut cuts.key b) (plain b) → a ≡ b
-by_looks cuts a b true true is also same = both_cut cuts a b is also same
-by_looks cuts a b true false is also same = one_whole cuts.key a b same
-by_looks cuts a b false true is also same = sym (one_whole cuts.key b a (sym same))
-by_looks cuts a b false false is also same = both_whole a b same
+by_looks cuts a b first second is also same = grind (arith, nat_tests, both_cut, one_whole, both_whole)
 
 pub keys_apart : KeysApart
 keys_apart cuts a b same = by_looks cuts a b _ _ refl refl same

@@ -1,6 +1,6 @@
 -- What stands escaped has none of the bytes that open or close an element or end an attribute.
-use Rattle.std.proofs.Common.{◌≡◌, ℕ, Bool, true, false, cond, List, [], ◌∷◌, ◌++◌, nat_eq, codes, refl, ◌∙◌, arith}
-use Rattle.std.proofs.lemmas.Bool.{or_from, or_parts}
+use Rattle.std.proofs.Common.{◌≡◌, ℕ, Bool, true, false, cond, List, [], ◌∷◌, ◌++◌, nat_eq, codes, refl, arith}
+use Rattle.std.proofs.lemmas.Bool.{or_from, or_parts, Decides.nat_tests}
 use Rattle.stm_formats.specs.FormatEscaped.{entity, escaped}
 use Rattle.stm_report_laws.specs.FormatLaws.{has, NothingUnescaped}
 
@@ -9,30 +9,17 @@ has-append b [] ys none more = more
 has-append b (x ∷ xs) ys none more =
     or_from (nat_eq x b) (has b (xs ++ ys)) (or_parts (nat_eq x b) (has b xs) none).0 (has-append b xs ys (or_parts (nat_eq x b) (has b xs) none).1 more)
 
--- a byte that is none of the five
-plain_byte : (b x : ℕ) (is : Bool) → nat_eq x b ≡ is → is ≡ false → has b (x ∷ []) ≡ false
-plain_byte b x is same other = or_from (nat_eq x b) false (same ∙ other) refl
-
 by_tests : (b x : ℕ) (amp less greater double single : Bool) (same : Bool)
     → has b (codes "&amp;") ≡ false → has b (codes "&lt;") ≡ false → has b (codes "&gt;") ≡ false → has b (codes "&quot;") ≡ false → has b (codes "&apos;") ≡ false
     → (cond amp true (cond less true (cond greater true (cond double true (cond single true (cond same false true))))) ≡ true) → nat_eq x b ≡ same
     → has b (cond amp (codes "&amp;") (cond less (codes "&lt;") (cond greater (codes "&gt;") (cond double (codes "&quot;") (cond single (codes "&apos;") (x ∷ [])))))) ≡ false
-by_tests b x true less greater double single same a l g d s other is = a
-by_tests b x false true greater double single same a l g d s other is = l
-by_tests b x false false true double single same a l g d s other is = g
-by_tests b x false false false true single same a l g d s other is = d
-by_tests b x false false false false true same a l g d s other is = s
-by_tests b x false false false false false true a l g d s other is = cc
-by_tests b x false false false false false false a l g d s other is = plain_byte b x false is refl
+by_tests b x amp less greater double single same a l g d s other is = grind (arith, nat_tests, or_from)
 
 -- where no entity has the byte, and the byte itself has an entity
 escaped_without : (b : ℕ) → ((x : ℕ) → has b (entity x) ≡ false) → (text : List ℕ) → has b (escaped text) ≡ false
 unfolding escaped
 escaped_without b each [] = refl
 escaped_without b each (x ∷ xs) = has-append b (entity x) (escaped xs) (each x) (escaped_without b each xs)
-
-less_test : (less amp greater double single : Bool) → cond amp true (cond less true (cond greater true (cond double true (cond single true (cond less false true))))) ≡ true
-less_test less amp greater double single = grind arith
 
 greater_test : (greater amp less double single : Bool) → cond amp true (cond less true (cond greater true (cond double true (cond single true (cond greater false true))))) ≡ true
 greater_test greater amp less double single = grind arith
@@ -47,13 +34,7 @@ entity_without : (b x : ℕ) → has b (codes "&amp;") ≡ false → has b (code
     → has b (codes "&apos;") ≡ false
     → (cond (nat_eq x 38) true (cond (nat_eq x 60) true (cond (nat_eq x 62) true (cond (nat_eq x 34) true (cond (nat_eq x 39) true (cond (nat_eq x b) false true))))) ≡ true)
     → has b (entity x) ≡ false
-entity_without b x a l g d s other =
-    by_tests b x (nat_eq x 38) (nat_eq x 60) (nat_eq x 62) (nat_eq x 34) (nat_eq x 39) (nat_eq x b) a l g d s other refl
+entity_without b x a l g d s other = grind (arith, nat_tests, by_tests)
 
 pub nothing_unescaped : NothingUnescaped
-nothing_unescaped = record {
-  less = escaped_without 60 (λ x. entity_without 60 x refl refl refl refl refl (less_test (nat_eq x 60) (nat_eq x 38) (nat_eq x 62) (nat_eq x 34) (nat_eq x 39)));
-  greater = escaped_without 62 (λ x. entity_without 62 x refl refl refl refl refl (greater_test (nat_eq x 62) (nat_eq x 38) (nat_eq x 60) (nat_eq x 34) (nat_eq x 39)));
-  double = escaped_without 34 (λ x. entity_without 34 x refl refl refl refl refl (double_test (nat_eq x 34) (nat_eq x 38) (nat_eq x 60) (nat_eq x 62) (nat_eq x 39)));
-  single = escaped_without 39 (λ x. entity_without 39 x refl refl refl refl refl (single_test (nat_eq x 39) (nat_eq x 38) (nat_eq x 60) (nat_eq x 62) (nat_eq x 34)));
-}
+nothing_unescaped = grind (arith, nat_tests, escaped_without, entity_without, greater_test, double_test, single_test)

@@ -1,18 +1,15 @@
 -- The words of a row have no line feed, and so each row is one line.
-use Rattle.std.proofs.Common.{◌≡◌, ℕ, ℤ, pos, negsuc, zero, suc, pred, ◌+◌, ◌-◌, ◌/◌, ◌%◌, Bool, true, false, cond, ◌&&◌, ◌||◌, ◌==◌, List, [], ◌∷◌, ◌++◌, length}
-use Rattle.std.proofs.Common.{replicate, true≢false, sym}
-use Rattle.std.proofs.Common.{nat_eq, nat_lt, nat_le, Option, Some, None, codes, decimal, Result, Ok, Err, refl, ap, ◌∙◌, arith}
+use Rattle.std.proofs.Common.{◌≡◌, ℕ, ℤ, zero, suc, pred, ◌+◌, ◌/◌, ◌%◌, Bool, true, false, cond, ◌==◌, List, [], ◌∷◌, ◌++◌, length, replicate}
+use Rattle.std.proofs.Common.{nat_eq, nat_lt, nat_le, Option, Some, None, codes, decimal, Result, refl, ap, ◌∙◌, arith}
 use Rattle.std.proofs.lemmas.Bool.Decides.{nat_tests}
 use Rattle.std.specs.Fmt.{digits, digits_onto, digit_glyph, signed_decimal}
 use Rattle.std.proofs.lemmas.Bool.{cond-false, or_from, or_parts}
 use Rattle.stm_program.specs.declared.level.Level.{Level}
-use Rattle.stm_program.specs.declared.level.Level.TheVariants.{SerializableSnapshot}
 use Rattle.stm_texts.specs.Grammar.{level_text}
 use Rattle.stm_history.specs.declared.key_state.KeyState.{KeyState}
 use Rattle.stm_history.specs.History.{History, now}
 use Rattle.stm_keys.specs.declared.event.Event.{Event}
 use Rattle.stm_keys.specs.declared.event.Event.TheVariants as change
-use Rattle.stm_keys.specs.Events.{events_of}
 use Rattle.stm_outcome.specs.declared.advance.Expired.{Expired}
 use Rattle.stm_events.specs.declared.event.WorldEvent.{WorldEvent}
 use Rattle.stm_events.specs.declared.event.WorldEvent.TheVariants as event
@@ -21,7 +18,6 @@ use Rattle.stm_events.specs.declared.reply.Reply.TheVariants.{Started, Prefetche
 use Rattle.stm_events.specs.declared.reply.Reply.TheVariants.{Txn, Granted, Kept, Revoked, Advanced, Compacted, Watching, Batch, Lost, Cancelled}
 use Rattle.stm_events.specs.declared.refusal.Denied.{Denied}
 use Rattle.stm_events.specs.declared.refusal.EventRefusal.{EventRefusal}
-use Rattle.stm_events.specs.declared.refusal.EventRefusal.TheVariants.{Kind}
 use Rattle.stm_events.specs.Names.{refusal_name}
 use Rattle.stm_meaning.specs.Faults.{fault_name}
 use Rattle.stm_program.specs.Syntax.{ProgramTree}
@@ -31,24 +27,21 @@ use Rattle.stm_formats.specs.declared.format_keys.Cuts.{Cuts}
 use Rattle.stm_formats.specs.declared.format_label.RunnerLabel.{RunnerLabel}
 use Rattle.stm_formats.specs.FormatLabels.{program_of}
 use Rattle.stm_formats.specs.declared.format_row.Lane.{Lane}
-use Rattle.stm_formats.specs.declared.format_row.Lane.TheVariants.{Store, Runner}
-use Rattle.stm_formats.specs.FormatShown.{shown, source_shown, plain, around, key_cut, hidden, hidden_from, digit, coded, byte_text, shown_after, front, front_of, back}
+use Rattle.stm_formats.specs.FormatShown.{shown, source_shown, around, hidden, hidden_from, coded, byte_text, shown_after}
 use Rattle.stm_formats.specs.FormatKeys.{key_words}
-use Rattle.stm_formats.specs.FormatPieces.{joined, padded, tag_text}
-use Rattle.stm_program_source.specs.Program.{shown_body}
+use Rattle.stm_formats.specs.FormatPieces.{joined, tag_text}
 use Rattle.stm_show.specs.Transactions.{shown_compares}
-use Rattle.stm_formats.specs.FormatSource.{line_after, source_words}
+use Rattle.stm_formats.specs.FormatSource.{source_words}
 use Rattle.stm_events.specs.declared.reply.KeyRead.{KeyRead}
 use Rattle.stm_reasons.specs.Counters.{counter_after}
 use Rattle.stm_reasons.specs.Causes.{state_by}
-use Rattle.stm_formats.specs.FormatChanges.{state_words, known_words, lease_words, change_words, between, counted_change, changes_after, revision_words, changed_since}
-use Rattle.stm_formats.specs.FormatWords.{named_words, reported_words, called_words, start_words, link, seen_words, as_of, fetched_words, counted_read, reads_after, listed_words}
+use Rattle.stm_formats.specs.FormatChanges.{state_words, known_words, lease_words, change_words, between, changes_after, revision_words, changed_since}
+use Rattle.stm_formats.specs.FormatWords.{named_words, reported_words, called_words, start_words, link, seen_words, as_of, fetched_words, reads_after, listed_words}
 use Rattle.stm_formats.specs.FormatWords.{attempt_words, commit_word, commit_words, compared_words, compared_by, failed_word, at_words, txn_words, revoked_words, changed_words, ends_after, counted_end, lease_after, advanced_words, from_words, watched_words, watch_words, events_word, batch_words}
 use Rattle.stm_formats.specs.FormatWords.{lost_words, grant_words, asked_words, refusal_words, refused_words, reply_words, told_words, words_of}
-use Rattle.stm_formats.specs.FormatOutput.{value_words, value_after, counted_value, output_after, emitted_words}
-use Rattle.stm_formats.specs.FormatRows.{lane_of, row_of, rows_of}
-use Rattle.stm_formats.specs.FormatColumns.{column, place}
-use Rattle.stm_formats.specs.FormatText.{spaces, row_text, rows_text}
+use Rattle.stm_formats.specs.FormatOutput.{value_words, output_after, emitted_words}
+use Rattle.stm_formats.specs.FormatRows.{row_of, rows_of}
+use Rattle.stm_formats.specs.FormatText.{row_text, rows_text}
 use Rattle.stm_report_laws.specs.FormatLaws.{has, count, OneLineARow}
 use Rattle.stm_report_laws.proofs.FormatEscapedLaws.{has-append}
 
@@ -62,33 +55,15 @@ joined_without (t ∷ ts) all = has-append 10 t (joined ts) all.0 (joined_withou
 
 -- ---- what stands in words
 
--- what is no control character is no line feed
-other_by : (control delete : Bool) (x : ℕ) (rest : ℕ) → nat_lt x 32 ≡ control → nat_eq (cond (control || delete) 1 rest) 0 ≡ true → nat_eq x 10 ≡ false
-other_by true delete x rest is none = absurd (true≢false (sym none))
-other_by false true x rest is none = absurd (true≢false (sym none))
-other_by false false x rest is none = grind (arith, nat_tests)
-
-digit_without : (small : Bool) (n : ℕ) → nat_eq (cond small (48 + n) (87 + n)) 10 ≡ false
-digit_without true n = grind (arith, nat_tests)
-digit_without false n = grind (arith, nat_tests)
-
 coded_without : (b : ℕ) → has 10 (coded b) ≡ false
-coded_without b =
-    or_from (nat_eq (digit (b / 16)) 10) (nat_eq (digit (b % 16)) 10 || false) (digit_without (nat_lt (b / 16) 10) (b / 16))
-    (or_from (nat_eq (digit (b % 16)) 10) false (digit_without (nat_lt (b % 16) 10) (b % 16)) refl)
-
-spelled_by : (doubled : Bool) (b : ℕ) → nat_eq b 10 ≡ false → has 10 (cond doubled (92 ∷ 92 ∷ []) (b ∷ [])) ≡ false
-spelled_by true b other = refl
-spelled_by false b other = or_from (nat_eq b 10) false other refl
+coded_without b = grind (arith, nat_tests, or_from)
 
 byte_without : (exact : Bool) (hidden b : ℕ) → (nat_eq hidden 0 ≡ true → nat_eq b 10 ≡ false) → has 10 (byte_text exact hidden b) ≡ false
-byte_without exact zero b other = spelled_by (exact && nat_eq b 92) b (other refl)
-byte_without exact (suc hidden) b other = coded_without b
+byte_without exact hidden b other = grind (arith, nat_tests, coded_without, or_from)
 
 -- a byte that belongs to no hidden character that began before it
 next_without : (exact : Bool) (left x : ℕ) (xs : List ℕ) → has 10 (byte_text exact (hidden_from left (x ∷ xs)) x) ≡ false
-next_without exact zero x xs = byte_without exact (hidden (x ∷ xs)) x (other_by (nat_lt x 32) (nat_eq x 127) x _ refl)
-next_without exact (suc left) x xs = coded_without x
+next_without exact left x xs = grind (arith, nat_tests, byte_without, coded_without)
 
 after_without : (exact : Bool) (left : ℕ) (xs : List ℕ) → has 10 (shown_after exact left xs) ≡ false
 after_without exact left [] = refl
@@ -97,15 +72,10 @@ after_without exact left (x ∷ xs) =
     has-append 10 (byte_text exact (hidden_from left (x ∷ xs)) x) (shown_after exact more xs) (next_without exact left x xs) (after_without exact more xs)
 
 around_without : (exact : Bool) (mark : List ℕ) (most : ℕ) (text : List ℕ) → has 10 mark ≡ false → has 10 (around exact mark most text) ≡ false
-around_without exact mark most text none =
-    let first : List ℕ = front (front_of most) text in
-    let last : List ℕ = back (most - length mark - front_of most) text in
-    has-append 10 (shown_after exact 0 first ++ mark) (shown_after exact 0 last)
-    (has-append 10 (shown_after exact 0 first) mark (after_without exact 0 first) none) (after_without exact 0 last)
+around_without exact mark most text none = grind (arith, nat_tests, has-append, after_without)
 
 cut_by : (exact b : Bool) (most : ℕ) (text : List ℕ) → has 10 (cond b (shown_after exact 0 text) (around exact (codes "..") most text)) ≡ false
-cut_by exact true most text = after_without exact 0 text
-cut_by exact false most text = around_without exact (codes "..") most text refl
+cut_by exact b most text = grind (arith, nat_tests, after_without, around_without)
 
 shown_without : (most : ℕ) (text : List ℕ) → has 10 (shown most text) ≡ false
 shown_without most text = cut_by true _ most text
@@ -113,21 +83,15 @@ shown_without most text = cut_by true _ most text
 source_without : (most : ℕ) (text : List ℕ) → has 10 (source_shown most text) ≡ false
 source_without most text = cut_by false _ (most + most) text
 
-key_by : (b : Bool) (most : ℕ) (key : List ℕ) → has 10 (cond b (key_cut most key) (plain key)) ≡ false
-key_by true most key = around_without true (codes "\\..") most key refl
-key_by false most key = after_without true 0 key
-
 key_without : (cuts : Cuts) (key : List ℕ) → has 10 (key_words cuts key) ≡ false
-key_without cuts key = key_by _ cuts.key key
+key_without cuts key = grind (arith, nat_tests, around_without, after_without)
 
 glyph_by : (b : Bool) (d : ℕ) → nat_eq (cond b (48 + d) (87 + d)) 10 ≡ false
-glyph_by true d = grind (arith, nat_tests)
-glyph_by false d = grind (arith, nat_tests)
+glyph_by b d = grind (arith, nat_tests)
 
 digits_by : (b : Bool) (glyph : ℕ) (acc more : List ℕ) → nat_eq glyph 10 ≡ false → has 10 acc ≡ false → has 10 more ≡ false
     → has 10 (cond b (glyph ∷ acc) more) ≡ false
-digits_by true glyph acc more other none rest = or_from (nat_eq glyph 10) (has 10 acc) other none
-digits_by false glyph acc more other none rest = rest
+digits_by b glyph acc more other none rest = grind (arith, nat_tests, or_from)
 
 digits_without : (k n : ℕ) (acc : List ℕ) → has 10 acc ≡ false → has 10 (digits_onto k 10 false n acc) ≡ false
 digits_without zero n acc none = none
@@ -141,8 +105,7 @@ unfolding digits
 decimal_without n = digits_without 64 n [] refl
 
 level_without : (level : Level) → has 10 (level_text level) ≡ false
-level_without SerializableSnapshot = refl
-level_without _ = refl
+level_without level = grind (arith, nat_tests)
 
 -- ---- words
 
@@ -151,8 +114,7 @@ source_words_without most [] = refl
 source_words_without most (b ∷ bs) = joined_without (codes "  " ∷ source_shown most (b ∷ bs) ∷ []) (refl, (source_without most (b ∷ bs), tt))
 
 called_without : (most : ℕ) (call : Option (List ℕ)) (program : ProgramTree) → has 10 (called_words most call program) ≡ false
-called_without most None program = source_words_without most (line_after 0 (shown_body program))
-called_without most (Some call) program = source_words_without most call
+called_without most call program = grind (arith, nat_tests, source_words_without)
 
 start_without : (most : ℕ) (labels : List RunnerLabel) (runner : ℕ) (e : WorldEvent) → has 10 (start_words most labels runner e) ≡ false
 start_without most labels runner (event.Start program level limit) =
@@ -165,8 +127,7 @@ compared_by_without most (event.Txn txn) = joined_without (source_shown most (sh
 compared_by_without most _ = refl
 
 failed_without : (succeeded : Bool) → has 10 (failed_word succeeded) ≡ false
-failed_without true = refl
-failed_without false = refl
+failed_without succeeded = grind (arith, nat_tests)
 
 txn_without : (most : ℕ) (e : WorldEvent) (succeeded : Bool) (revision : ℕ) → has 10 (txn_words most e succeeded revision) ≡ false
 txn_without most e succeeded revision =
@@ -185,8 +146,7 @@ reported_without : (most : ℕ) (word text : List ℕ) → has 10 word ≡ false
 reported_without most word text none = joined_without (word ∷ codes " " ∷ shown most text ∷ []) (none, (refl, (shown_without most text, tt)))
 
 either_without : (b : Bool) (first second : List ℕ) → has 10 first ≡ false → has 10 second ≡ false → has 10 (cond b first second) ≡ false
-either_without true first second one two = one
-either_without false first second one two = two
+either_without b first second one two = grind (arith, nat_tests)
 
 -- ---- what keys are, and what changed
 
@@ -227,15 +187,10 @@ behind_without count words none = joined_without (between count ∷ words ∷ []
 
 changes_without : (cuts : Cuts) (count : ℕ) (events : List Event) → has 10 (changes_after cuts count events) ≡ false
 changes_without cuts count [] = refl
-changes_without cuts count (e ∷ es) =
-    has-append 10 (counted_change cuts count e) (changes_after cuts (suc count) es) (few_without _ _ (joined (between count ∷ change_words cuts e ∷ [])) (behind_without count (change_words cuts e) (change_without cuts e))) (changes_without cuts (suc count) es)
+changes_without cuts count (e ∷ es) = grind (arith, nat_tests, has-append, few_without, behind_without, change_without, changes_without cuts (suc count) es)
 
 revision_without : (cuts : Cuts) (h : History) (revision : ℕ) → has 10 (revision_words cuts h revision) ≡ false
-revision_without cuts h revision =
-    let kept : List ℕ = changes_after cuts 0 (events_of h revision) in
-    let known : List ℕ = cond (nat_le revision h.opening.number) (codes "  (compacted)") kept in
-    either_without (nat_lt (now h) revision) [] known refl
-    (either_without (nat_le revision h.opening.number) (codes "  (compacted)") kept refl (changes_without cuts 0 (events_of h revision)))
+revision_without cuts h revision = grind (arith, nat_tests, either_without, changes_without)
 
 changed_without : (cuts : Cuts) (h : History) (before after : ℕ) → has 10 (changed_since cuts h before after) ≡ false
 changed_without cuts h before after =
@@ -267,9 +222,7 @@ fetched_without cuts h key mod_rev of_rev revision =
 reads_without : (cuts : Cuts) (h : History) (revision count : ℕ) (reads : List KeyRead) → has 10 (reads_after cuts h revision count reads) ≡ false
 reads_without cuts h revision count [] = refl
 reads_without cuts h revision count (r ∷ rs) =
-    has-append 10 (counted_read cuts h revision count r) (reads_after cuts h revision (suc count) rs)
-    (few_without _ _ (joined (between count ∷ seen_words cuts h r.key r.mod_rev revision ∷ []))
-    (behind_without count (seen_words cuts h r.key r.mod_rev revision) (seen_without cuts h r.key r.mod_rev revision))) (reads_without cuts h revision (suc count) rs)
+    grind (arith, nat_tests, has-append, few_without, behind_without, seen_without, reads_without cuts h revision (suc count) rs)
 
 listed_without : (cuts : Cuts) (h : History) (revision : ℕ) (reads : List KeyRead) → has 10 (listed_words cuts h revision reads) ≡ false
 listed_without cuts h revision reads =
@@ -306,14 +259,7 @@ grant_without id ttl =
     joined_without (codes "grant " ∷ decimal id ∷ codes " ttl " ∷ decimal ttl ∷ []) (refl, (decimal_without id, (refl, (decimal_without ttl, tt))))
 
 asked_without : (e : WorldEvent) → has 10 (asked_words e) ≡ false
-asked_without (event.Grant id ttl) = grant_without id ttl
-asked_without (event.Keep id) = named_without (codes "keep") id refl
-asked_without (event.Revoke id) = named_without (codes "revoke") id refl
-asked_without (event.Advance now) = named_without (codes "advance to") now refl
-asked_without (event.Compact revision) = compacted_without revision
-asked_without (event.Poll watcher most) = named_without (codes "poll") watcher refl
-asked_without (event.Cancel watcher) = named_without (codes "cancel") watcher refl
-asked_without _ = refl
+asked_without e = grind (arith, nat_tests, grant_without, named_without, compacted_without)
 
 end_without : (count : ℕ) (lease : Expired) → has 10 (counted_end count lease) ≡ false
 end_without count lease =
@@ -356,12 +302,8 @@ lost_without watcher floor =
     joined_without (codes "LOST watcher " ∷ decimal watcher ∷ codes ": kept from @" ∷ decimal floor ∷ [])
     (refl, (decimal_without watcher, (refl, (decimal_without floor, tt))))
 
-cause_without : (cause : EventRefusal) → has 10 (refusal_name cause) ≡ false
-cause_without Kind = refl
-cause_without _ = refl
-
 refusal_without : (cause : EventRefusal) → has 10 (refusal_words cause) ≡ false
-refusal_without cause = joined_without (codes ": " ∷ refusal_name cause ∷ []) (refl, (cause_without cause, tt))
+refusal_without cause = grind (arith, nat_tests, joined_without)
 
 refused_without : (e : WorldEvent) (cause : EventRefusal) → has 10 (refused_words e cause) ≡ false
 refused_without e cause =
@@ -389,12 +331,10 @@ reply_without cuts labels h before e (Lost watcher floor) = lost_without watcher
 reply_without cuts labels h before e (Cancelled watcher) = named_without (codes "cancel") watcher refl
 
 told_without : (cuts : Cuts) (labels : List RunnerLabel) (h : History) (before : ℕ) (e : WorldEvent) (reply : Result Reply Denied) → has 10 (told_words cuts labels h before e reply) ≡ false
-told_without cuts labels h before e (Ok reply) = reply_without cuts labels h before e reply
-told_without cuts labels h before e (Err denied) = refused_without e denied.cause
+told_without cuts labels h before e reply = grind (arith, nat_tests, reply_without, refused_without)
 
 signed_without : (z : ℤ) → has 10 (signed_decimal z) ≡ false
-signed_without (pos n) = decimal_without n
-signed_without (negsuc n) = or_from (nat_eq 45 10) (has 10 (decimal (suc n))) refl (decimal_without (suc n))
+signed_without z = grind (arith, nat_tests, decimal_without, or_from)
 
 value_without : (most : ℕ) (value : Value) → has 10 (value_words most value) ≡ false
 value_without most (Text text) = joined_without (codes "\"" ∷ shown most text ∷ codes "\"" ∷ []) (refl, (shown_without most text, (refl, tt)))
@@ -403,15 +343,10 @@ value_without most (Number number) = signed_without number
 output_without : (most count : ℕ) (output : List Value) → has 10 (output_after most count output) ≡ false
 output_without most count [] = refl
 output_without most count (v ∷ vs) =
-    let word : has 10 (value_after count) ≡ false = either_without (nat_eq count 0) (codes "  emits ") (codes ", ") refl refl in
-    has-append 10 (counted_value most count v) (output_after most (suc count) vs)
-    (few_without _ _ (joined (value_after count ∷ value_words most v ∷ []))
-    (joined_without (value_after count ∷ value_words most v ∷ []) (word, (value_without most v, tt)))) (output_without most (suc count) vs)
+    grind (arith, nat_tests, either_without, has-append, few_without, joined_without, value_without, output_without most (suc count) vs)
 
 emitted_without : (most : ℕ) (reply : Result Reply Denied) → has 10 (emitted_words most reply) ≡ false
-emitted_without most (Ok (Committed runner revision attempts output trace answers)) = output_without most 0 output
-emitted_without most (Ok _) = refl
-emitted_without most (Err denied) = refl
+emitted_without most reply = grind (arith, nat_tests, output_without)
 
 words_without : (cuts : Cuts) (labels : List RunnerLabel) (h : History) (before : ℕ) (e : WorldEvent) (reply : Result Reply Denied) → has 10 (words_of cuts labels h before e reply) ≡ false
 words_without cuts labels h before e reply =
@@ -424,13 +359,8 @@ spaces_without : (n : ℕ) → has 10 (replicate n 32) ≡ false
 spaces_without zero = refl
 spaces_without (suc n) = spaces_without n
 
-tag_by : (b : Bool) (runner : ℕ) → has 10 (cond b [] (decimal runner ++ codes ": ")) ≡ false
-tag_by true runner = refl
-tag_by false runner = has-append 10 (decimal runner) (codes ": ") (decimal_without runner) refl
-
 tag_without : (lane : Lane) → has 10 (tag_text lane) ≡ false
-tag_without Store = refl
-tag_without (Runner runner) = tag_by _ runner
+tag_without lane = grind (arith, nat_tests, has-append, decimal_without)
 
 -- a text without line feeds before another
 count-before : (xs ys : List ℕ) → has 10 xs ≡ false → count 10 (xs ++ ys) ≡ count 10 ys
@@ -439,8 +369,7 @@ count-before (x ∷ xs) ys none =
     cond-false (nat_eq x 10) (count 10 (xs ++ ys) + 1) (count 10 (xs ++ ys)) (or_parts (nat_eq x 10) (has 10 xs) none).0 ∙ count-before xs ys (or_parts (nat_eq x 10) (has 10 xs) none).1
 
 line_by : (b : Bool) (n m : ℕ) → cond b ((n + m) + 1) (n + m) ≡ cond b (n + 1) n + m
-line_by true n m = omega arith
-line_by false n m = refl
+line_by b n m = grind (arith, nat_tests)
 
 count-append : (xs ys : List ℕ) → count 10 (xs ++ ys) ≡ count 10 xs + count 10 ys
 count-append [] ys = omega arith
@@ -448,15 +377,7 @@ count-append (x ∷ xs) ys = ap (λ (n : ℕ). cond (nat_eq x 10) (n + 1) n) (co
 
 one_line : (cuts : Cuts) (labels : List RunnerLabel) (places : List ℕ) (n : ℕ) (h : History) (before : ℕ) (e : WorldEvent)
     (reply : Result Reply Denied) → count 10 (row_text places (row_of cuts labels h before n e reply)) ≡ 1
-one_line cuts labels places n h before e reply =
-    let at : ℕ = 2 + place places (column (lane_of e reply)) in
-    let indent = spaces at in
-    let end : List ℕ = codes "\n" ++ [] in
-    count-before (padded n) (indent ++ (tag_text (lane_of e reply) ++ (words_of cuts labels h before e reply ++ end)))
-    (has-append 10 (spaces (6 - length (decimal n))) (decimal n) (spaces_without (6 - length (decimal n))) (decimal_without n))
-    ∙ count-before indent (tag_text (lane_of e reply) ++ (words_of cuts labels h before e reply ++ end)) (spaces_without at)
-    ∙ count-before (tag_text (lane_of e reply)) (words_of cuts labels h before e reply ++ end) (tag_without (lane_of e reply))
-    ∙ count-before (words_of cuts labels h before e reply) end (words_without cuts labels h before e reply)
+one_line cuts labels places n h before e reply = grind (arith, nat_tests, count-before, has-append, spaces_without, decimal_without, tag_without, words_without)
 
 one_more : (m : ℕ) → 1 + m ≡ suc m
 one_more m = omega arith

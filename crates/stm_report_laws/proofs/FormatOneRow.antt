@@ -1,5 +1,6 @@
 -- A row and an object for each event.
 use Rattle.std.proofs.Common.{◌≡◌, ℕ, suc, List, [], ◌∷◌, length, map, Result, refl, ap, ◌∙◌, arith}
+use Rattle.std.proofs.lemmas.Bool.Decides.{nat_tests}
 use Rattle.stm_history.specs.History.{History}
 use Rattle.stm_events.specs.declared.event.WorldEvent.{WorldEvent}
 use Rattle.stm_events.specs.declared.reply.Reply.{Reply}
@@ -31,8 +32,7 @@ one_object n [] = refl
 one_object n (r ∷ rs) = ap suc (one_object (suc n) rs)
 
 pub one_row_an_event : OneRowAnEvent
-one_row_an_event cuts labels h before events w =
-    (one_row cuts labels h before 1 events (replies_to events w) (one_reply events w), numbered cuts labels h before 1 events (replies_to events w))
+one_row_an_event cuts labels h before events w = grind (arith, nat_tests, one_row, one_reply, numbered)
 
 pub one_object_an_event : OneObjectAnEvent
 one_object_an_event events w = one_object 1 (replies_to events w) ∙ one_reply events w

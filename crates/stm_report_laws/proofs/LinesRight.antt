@@ -1,8 +1,9 @@
 -- No line of the report of a right run is wrong: what a check knows at a point is what the log so far says.
-use Rattle.std.proofs.Common.{◌≡◌, ◌≢◌, ℕ, ◌+◌, suc, Bool, true, false, cond, not, List, [], ◌∷◌, ◌++◌, length, length-append, append_assoc}
+use Rattle.std.proofs.Common.{◌≡◌, ◌≢◌, ℕ, ◌+◌, suc, Bool, true, cond, not, List, [], ◌∷◌, ◌++◌, length, length-append, append_assoc}
 use Rattle.std.proofs.Common.{Option, Some, None, is_some, Ok, Err, refl, sym, ◌∙◌, ap, subst, arith}
 use Rattle.std.proofs.lemmas.List.{append-nil}
 use Rattle.std.specs.Prelude.{Result, nat_eq, ◌&&◌}
+use Rattle.std.proofs.lemmas.Bool.Decides.{nat_tests}
 use Rattle.stm_steps.specs.declared.value.Value.{Value}
 use Rattle.stm_steps.specs.declared.trace_item.TraceItem.{TraceItem}
 use Rattle.stm_txn.specs.Standing.{Standing, Setup}
@@ -74,20 +75,12 @@ is_right start n log rs event reply g = (ap (λ (b : Bool). b && can_have rs (as
 
 next_point : (start : Setup) (log : List Line) (rs : List Runner) (event : WorldEvent) (reply : Result Reply Denied) → LineGoesOn start log rs event reply →
     after (point_at start log rs) event reply ≡ point_at start (with_line event reply log) (runners_after (asked event) reply rs)
-next_point start log rs event reply g =
-    let line : Line = record { event = event; reply = reply } in
-    let count : length (entries_reported start log) + length (entries_asked (unwatched (store start log)) rs (asked event) reply)
-    ≡ length (entries_reported start log ++ line_entries start line log) =
-    ap (λ (es : List Entry). length (entries_reported start log) + length es) g.entries_are
-    ∙ sym (length-append (entries_reported start log) (line_entries start line log)) in
-    λ i. record { standing = g.store_is i; entries = count i; runners = runners_after (asked event) reply rs }
+next_point start log rs event reply g = grind (arith, nat_tests, unwatched, length-append)
 
 -- ---- starts
 
 start_can : (limit count : ℕ) (rs : List Runner) → limit ≢ 0 → length rs ≡ count → not (nat_eq limit 0) && nat_eq (count + 1) (length rs + 1) ≡ true
-start_can limit count rs some is =
-    ap (λ (b : Bool). not b && nat_eq (count + 1) (length rs + 1)) (other_number limit 0 some)
-    ∙ ap (λ k. nat_eq (count + 1) (k + 1)) is ∙ same_number (count + 1)
+start_can limit count rs some is = grind (arith, nat_tests, other_number, same_number)
 
 start_goes : (start : Setup) (log : List Line) (rs : List Runner) (task : Task) (reply : Result Reply Denied) → RunsAreReported log rs →
     IsFresh start log (started log + 1) → StartIsRight (started log) task.limit reply →
@@ -114,14 +107,11 @@ start_goes start log rs task (Err refusal) reported fresh right =
 -- a line of the runner, which runs
 step_can : (log : List Line) (rs : List Runner) (id runner : ℕ) (task : Task) → runner ≡ id → Goes log rs id task →
     nat_eq runner id && is_some (running_in id rs) ≡ true
-step_can log rs id runner task own goes =
-    ap (λ k. nat_eq k id && is_some (running_in id rs)) own ∙ ap (λ (b : Bool). b && is_some (running_in id rs)) (same_number id)
-    ∙ ap (λ (o : Option Runner). is_some o) goes.found
+step_can log rs id runner task own goes = grind (arith, nat_tests, same_number)
 
 -- the task that a log names as running was begun
 begun_by : (over : Bool) (o : Option Task) (task : Task) → cond over None o ≡ Some task → o ≡ Some task
-begun_by true o task is = absurd (cc)
-begun_by false o task is = is
+begun_by over o task is = grind (arith, nat_tests)
 
 -- what a runner that runs has read is true
 abbrev RunnersKnowTruth : Setup → List Line → Type 0
@@ -155,8 +145,7 @@ IsNoCommit other = Unit {0}
 
 quietly : (start : Setup) (log : List Line) (rs : List Runner) (id : ℕ) (reply : Reply) → IsNoCommit reply → can_have rs (Steps id) (Ok reply) ≡ true →
     RunsAreReported (with_line (Step id) (Ok reply) log) (runners_after (Steps id) (Ok reply) rs) → LineGoesOn start log rs (Step id) (Ok reply)
-quietly start log rs id (Committed runner revision attempts output trace answers) none can runs = absurd none
-quietly start log rs id _ none can runs = record { can = can; replays = tt; store_is = refl; entries_are = refl; runs = runs }
+quietly start log rs id reply none can runs = grind (arith, nat_tests)
 
 live_goes : (start : Setup) (log : List Line) (rs : List Runner) (id : ℕ) (task : Task) (reply : Result Reply Denied) → RunsAreReported log rs → Goes log rs id task →
     RunnersKnowTruth start log → StepIsRight (situation start log id task) reply → LineGoesOn start log rs (Step id) reply
@@ -206,16 +195,7 @@ runner_goes start log rs id (Some task) reply reported runs known right =
 call_goes : (start : Setup) (log : List Line) (rs : List Runner) (event : WorldEvent) (reply : Result Reply Denied) {c : Call} → asked event ≡ Calls c →
     reply ≡ (called (store start log) c).reply → RunsAreReported log rs → LineGoesOn start log rs event reply
 call_goes start log rs event reply {c} is right reported =
-    let s : Standing = store start log in
-    let told : Result Reply Denied = (called s c).reply in
-    subst (λ (a : Asked). GoesOn start log rs event a reply) (sym is)
-    (subst (λ (x : Result Reply Denied). GoesOn start log rs event (Calls c) x) (sym right) (record {
-      can = calls_can s rs c;
-      replays = calls_replay s c;
-      store_is = call_led (unwatched s) c told (few_are_replayed (unwatched s) c (store_limit start log)) (calls_replay s c) ∙ calls_leave s c;
-      entries_are = calls_enter s c told;
-      runs = quiet_runs (record { event = event; reply = told }) log rs (call_says_nothing s c) reported;
-    }))
+    grind (arith, nat_tests, calls_can, calls_replay, call_led, unwatched, few_are_replayed, store_limit, calls_leave, calls_enter, quiet_runs, call_says_nothing)
 
 event_goes : (start : Setup) (log : List Line) (rs : List Runner) (event : WorldEvent) (reply : Result Reply Denied) → RunsAreReported log rs →
     IsFresh start log (started log + 1) → RunnersKnowTruth start log → IsRight start log event reply → LineGoesOn start log rs event reply

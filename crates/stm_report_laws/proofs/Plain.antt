@@ -1,14 +1,12 @@
 -- What is written of values, states and events whose numbers fit holds whole numbers of 64 bits alone.
-use Rattle.std.proofs.Common.{◌≡◌, ℕ, ◌^◌, ◌≤◌, List, [], ◌∷◌, map, refl, sym, ◌∙◌, arith, Option, Some, None, IfSome, ℤ, pos, negsuc, lt-ltb}
+use Rattle.std.proofs.Common.{ℕ, ◌^◌, ◌≤◌, List, [], ◌∷◌, map, refl, arith, Option, Some, None, IfSome, pos, lt-ltb}
+use Rattle.std.proofs.lemmas.Bool.Decides.{nat_tests}
 use Rattle.serde_json.specs.View.{items_of}
 use Rattle.stm_history.specs.declared.key_state.KeyState.{KeyState}
 use Rattle.stm_history.specs.declared.revisions.TheConstants.{HIGHEST_NUMBER}
-use Rattle.stm_json.specs.Elements.{is_64_bit}
 use Rattle.stm_steps.specs.declared.value.Value.{Value}
-use Rattle.stm_steps.specs.declared.value.Value.TheVariants.{Text, Number}
 use Rattle.stm_steps.specs.declared.trace_item.TraceItem.{TraceItem}
 use Rattle.stm_steps.specs.declared.trace_item.TraceItem.TheVariants as trace
-use Rattle.stm_steps.specs.Values.{is_in_range}
 use Rattle.stm_keys.specs.declared.event.Event.{Event}
 use Rattle.stm_keys.specs.declared.event.Event.TheVariants as event
 use Rattle.stm_outcome.specs.declared.advance.Expired.{Expired}
@@ -23,13 +21,8 @@ Few n = n ≤ HIGHEST_NUMBER
 pub plain : (n : ℕ) → Few n → IsPlain (whole n)
 plain n few = (pos n, refl, lt-ltb n (2 ^ 63) (omega (arith, few)))
 
-same_range : (z : ℤ) → is_in_range z ≡ is_64_bit z
-same_range (pos n) = refl
-same_range (negsuc n) = refl
-
 value_plain : (x : Value) → ValueFits x → IsPlain (value_data x)
-value_plain (Text t) fits = tt
-value_plain (Number z) fits = (z, refl, sym (same_range z) ∙ fits)
+value_plain x fits = grind (arith, nat_tests)
 
 pub values_plain : (xs : List Value) → ValuesFit xs → ArePlain (items_of (map value_data xs))
 values_plain [] fits = tt
@@ -41,14 +34,12 @@ traces_plain (trace.Get key value ∷ xs) fits = ((tt, (tt, (tt, tt))), traces_p
 traces_plain (trace.Rev key mod_rev ∷ xs) fits = ((tt, (tt, (plain mod_rev fits.0, tt))), traces_plain xs fits.1)
 
 pub text_plain : (o : Option (List ℕ)) → IsPlain (text_or_null o)
-text_plain None = tt
-text_plain (Some t) = tt
+text_plain o = grind (arith, nat_tests)
 
 -- the numbers of a key, which its data end with
 pub numbers_plain : (s : KeyState) → StateFits s →
     IsPlain (whole s.create_rev) × (IsPlain (whole s.mod_rev) × (IsPlain (whole s.version) × (IsPlain (whole s.lease) × Unit {0})))
-numbers_plain s fits =
-    (plain s.create_rev fits.numbers.create_rev, (plain s.mod_rev fits.numbers.mod_rev, (plain s.version fits.numbers.version, (plain s.lease fits.lease, tt))))
+numbers_plain s fits = grind (arith, nat_tests, plain)
 
 state_plain : (s : KeyState) → StateFits s → IsPlain (state_data s)
 state_plain s fits = (tt, numbers_plain s fits)

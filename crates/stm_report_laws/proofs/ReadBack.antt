@@ -1,17 +1,15 @@
 -- Written JSON has no line feed, so a text is cut into the lines that it was made of.
-use Rattle.std.proofs.Common.{◌≡◌, ℕ, suc, ◌+◌, ◌/◌, ◌%◌, ◌^◌, ◌<◌, Bool, true, false, cond, List, [], ◌∷◌, ◌++◌, ℤ, pos, negsuc, decimal, refl, sym}
+use Rattle.std.proofs.Common.{◌≡◌, ℕ, ◌/◌, ◌%◌, ◌^◌, ◌<◌, Bool, true, false, cond, List, [], ◌∷◌, ◌++◌, ℤ, pos, negsuc, decimal, refl, sym}
 use Rattle.std.proofs.Common.{◌∙◌, ap, subst, arith, append_assoc, eqb-true, length, take, drop, get_or, IsUtf8}
-use Rattle.std.proofs.lemmas.Bool.{ltb-true, ne_eqb}
+use Rattle.std.proofs.lemmas.Bool.{ltb-true, ne_eqb, Decides.nat_tests}
 use Rattle.std.proofs.lemmas.Fmt.{decimal_is_IsNumeral}
 use Rattle.std.proofs.lemmas.List.Splits.{slice_split-cons_yes, slice_split-cons_no}
 use Rattle.std.proofs.lemmas.Str.{IsUtf8-take, IsUtf8-drop, IsCharBoundary-before_ascii, IsCharBoundary-after_ascii}
-use Rattle.std.specs.Prelude.{nat_lt, ◌==◌, ◌||◌}
 use Rattle.std.specs.Str.{IsCharBoundary}
 use Rattle.std.specs.Char.{digit_value, digit_char}
 use Rattle.std.specs.Fmt.{signed_decimal}
-use Rattle.std.specs.List.{onto_first}
 use Rattle.std.specs.Str.Parse.{AllDigits}
-use Rattle.json.specs.Print.{escape_letter, escape_byte, escape}
+use Rattle.json.specs.Print.{escape_byte, escape}
 use Rattle.serde_json.specs.Data.{Num, Data, null, boolean, number, string, array, object, Items, no_items, item}
 use Rattle.serde_json.specs.Find.{of_integer}
 use Rattle.serde_json.specs.Written.{number_text, compact_text, items_text, comma_if}
@@ -39,10 +37,7 @@ both (x ∷ a) b one other = (one.0, both a b one.1 other)
 -- ---- numbers
 
 digit_by : (c : ℕ) (b : Bool) → is_line_feed c ≡ b → digit_value c < 10 → b ≡ false
-digit_by c true is digit =
-    let no : 36 < 10 = subst (λ n. digit_value n < 10) (eqb-true c 10 is) digit in
-    absurd (omega (arith, no))
-digit_by c false is digit = refl
+digit_by c b is digit = grind (arith, nat_tests, eqb-true)
 
 digits_none : (ds : List ℕ) → AllDigits 10 ds → HasNoFeed ds
 digits_none [] all = tt
@@ -52,8 +47,7 @@ decimal_none : (n : ℕ) → n < 2 ^ 64 → HasNoFeed (decimal n)
 decimal_none n below = digits_none (decimal n) (decimal_is_IsNumeral n below).0.1
 
 signed_none : (z : ℤ) → is_64_bit z ≡ true → HasNoFeed (signed_decimal z)
-signed_none (pos n) fits = let small : n < 2 ^ 63 = ltb-true n (2 ^ 63) fits in decimal_none n (omega (arith, small))
-signed_none (negsuc n) fits = let small : n < 2 ^ 63 = ltb-true n (2 ^ 63) fits in (refl, decimal_none (suc n) (omega (arith, small)))
+signed_none z fits = grind (arith, nat_tests, ltb-true, decimal_none)
 
 number_none : (z : ℤ) → is_64_bit z ≡ true → HasNoFeed (number_text (of_integer z))
 number_none (pos n) fits = signed_none (pos n) fits
@@ -61,32 +55,13 @@ number_none (negsuc n) fits = signed_none (negsuc n) fits
 
 -- ---- texts
 
-hex_by : (d : ℕ) (b : Bool) → is_line_feed (cond b (48 + d) (87 + d)) ≡ false
-hex_by d true = ne_eqb (48 + d) 10 (λ e. absurd (omega (arith, e)))
-hex_by d false = ne_eqb (87 + d) 10 (λ e. absurd (omega (arith, e)))
-
-letter_by : (x : ℕ) (a b c d e f : Bool) → is_line_feed x ≡ false →
-    is_line_feed (cond a x (cond b 98 (cond c 102 (cond d 110 (cond e 114 (cond f 116 0)))))) ≡ false
-letter_by x true b c d e f is = is
-letter_by x false true c d e f is = refl
-letter_by x false false true d e f is = refl
-letter_by x false false false true e f is = refl
-letter_by x false false false false true f is = refl
-letter_by x false false false false false true is = refl
-letter_by x false false false false false false is = refl
-
 chosen : (short control : Bool) (x letter : ℕ) → is_line_feed letter ≡ false → is_line_feed x ≡ false →
     HasNoFeed (cond short (92 ∷ letter ∷ []) (cond control (92 ∷ 117 ∷ 48 ∷ 48 ∷ digit_char (x / 16) ∷ digit_char (x % 16) ∷ []) (x ∷ [])))
-chosen true control x letter own is = (refl, (own, tt))
-chosen false true x letter own is = (refl, (refl, (refl, (refl, (hex_by (x / 16) (nat_lt (x / 16) 10), (hex_by (x % 16) (nat_lt (x % 16) 10), tt))))))
-chosen false false x letter own is = (is, tt)
+chosen short control x letter own is = grind (arith, nat_tests, ne_eqb)
 
 byte_by : (x : ℕ) (feed : Bool) → is_line_feed x ≡ feed → HasNoFeed (escape_byte x)
 unfolding escape_byte
-byte_by x true is = subst (λ n. HasNoFeed (escape_byte n)) (sym (eqb-true x 10 is)) (refl, (refl, tt))
-byte_by x false is =
-    chosen (nat_lt 0 (escape_letter x)) (nat_lt x 32) x (escape_letter x)
-    (letter_by x ((x == 34) || (x == 92)) (x == 8) (x == 12) (x == 10) (x == 13) (x == 9) is) is
+byte_by x feed is = grind (arith, nat_tests, eqb-true, chosen)
 
 escaped_none : (s : List ℕ) → HasNoFeed (escape s)
 escaped_none [] = tt
@@ -95,8 +70,7 @@ escaped_none (x ∷ s) = both (escape_byte x) (escape s) (byte_by x (is_line_fee
 -- ---- data
 
 comma_none : (later : Bool) → HasNoFeed (comma_if later)
-comma_none true = (refl, tt)
-comma_none false = tt
+comma_none later = grind (arith, nat_tests)
 
 mutual
   data_none : (d : Data) → IsPlain d → HasNoFeed (compact_text d)
@@ -146,8 +120,7 @@ cut_at_feed c rest utf8 =
 
 cut_after : (c rest : List ℕ) → HasNoFeed c → parts_of (c ++ 10 ∷ rest) ≡ c ∷ parts_of rest
 cut_after [] rest none = slice_split-cons_yes is_line_feed 10 rest refl
-cut_after (b ∷ c) rest none =
-    slice_split-cons_no is_line_feed b (c ++ 10 ∷ rest) none.0 ∙ ap (onto_first b) (cut_after c rest none.1)
+cut_after (b ∷ c) rest none = grind (arith, nat_tests, slice_split-cons_no, cut_after c rest none.1)
 
 parts_spell : (lines : List ReportLine) → AreReadable lines → IsUtf8 (text_of lines) → SpellsParts (parts_of (text_of lines)) lines
 parts_spell [] readable utf8 = refl

@@ -1,12 +1,12 @@
 -- The runners that a check knows, by their numbers.
-use Rattle.std.proofs.Common.{◌≡◌, ◌≢◌, ℕ, ◌+◌, ◌-◌, ◌<◌, zero, suc, List, [], ◌∷◌, ◌++◌, length, Option, Some, None, Bool, true, false, cond, refl}
-use Rattle.std.proofs.Common.{◌∙◌, ap, arith}
+use Rattle.std.proofs.Common.{◌≡◌, ◌≢◌, ℕ, ◌+◌, ◌-◌, ◌<◌, zero, suc, List, [], ◌∷◌, ◌++◌, length, Option, Some, None, Bool, cond, refl, ◌∙◌, ap, arith}
 use Rattle.std.proofs.lemmas.List.{length-set}
 use Rattle.std.proofs.lemmas.Option.{slice_get_within}
 use Rattle.std.specs.Prelude.{nat_eq, slice_get, slice_set}
+use Rattle.std.proofs.lemmas.Bool.Decides.{nat_tests}
 use Rattle.stm_world.proofs.Slots.{other_number, differ}
 use Rattle.stm_check.specs.declared.runner.Runner.{Runner}
-use Rattle.stm_check.specs.Runners.{unless_over, running, put_back, with_runner}
+use Rattle.stm_check.specs.Runners.{unless_over, running, with_runner}
 
 own_place : (rs : List Runner) (i : ℕ) (r : Runner) → i < length rs → slice_get (slice_set rs i r) i ≡ Some r
 own_place [] i r within = absurd (omega arith)
@@ -38,25 +38,10 @@ at_positive id o some = ap (λ (b : Bool). cond b None o) (other_number id 0 (om
 
 -- by two options of each number above 0
 alike : (id : ℕ) (a b : Option Runner) → (id ≢ 0 → a ≡ b) → unless_over (cond (nat_eq id 0) None a) ≡ unless_over (cond (nat_eq id 0) None b)
-alike id a b same =
-    elim (nat_eq id 0) as (λ t. nat_eq id 0 ≡ t → unless_over (cond t None a) ≡ unless_over (cond t None b)) [
-      | true ↦ λ e. refl
-      | false ↦ λ e. ap unless_over (same (differ id 0 e))
-    ] refl
-
--- a run that goes on has a place
-positive_by : (id : ℕ) (b : Bool) (o : Option Runner) (r : Runner) → nat_eq id 0 ≡ b → unless_over (cond b None o) ≡ Some r →
-    (0 < id) × (unless_over o ≡ Some r)
-positive_by id true o r is found = absurd (cc)
-positive_by id false o r is found = let ne : id ≢ 0 = differ id 0 is in (omega arith, found)
-
-going_on : (b : Bool) (x r : Runner) → cond b None (Some x) ≡ Some r → Some x ≡ Some r
-going_on true x r is = absurd (cc)
-going_on false x r is = is
+alike id a b same = grind (arith, nat_tests, differ)
 
 started_as : (o : Option Runner) (r : Runner) → unless_over o ≡ Some r → o ≡ Some r
-started_as None r is = absurd (cc)
-started_as (Some x) r is = going_on x.is_over x r is
+started_as o r is = grind (arith, nat_tests)
 
 pub record IsThere (id : ℕ) (rs : List Runner) (r : Runner) : Type 0 where
   pub positive : 0 < id
@@ -64,39 +49,25 @@ pub record IsThere (id : ℕ) (rs : List Runner) (r : Runner) : Type 0 where
   pub within : id - 1 < length rs
 
 pub is_there : (id : ℕ) (rs : List Runner) (r : Runner) → running id rs ≡ Some r → IsThere id rs r
-is_there id rs r found =
-    let there : (0 < id) × (unless_over (slice_get rs (id - 1)) ≡ Some r) = positive_by id (nat_eq id 0) (slice_get rs (id - 1)) r refl found in
-    let place : slice_get rs (id - 1) ≡ Some r = started_as (slice_get rs (id - 1)) r there.1 in
-    record { positive = there.0; place = place; within = slice_get_within rs (id - 1) r place }
+is_there id rs r found = grind (arith, nat_tests, started_as, slice_get_within, differ)
 
 -- ---- one runner changed
 
 changed_is : (id : ℕ) (rs : List Runner) (r : Runner) (change : Runner → Runner) → IsThere id rs r →
     with_runner id change rs ≡ slice_set rs (id - 1) (change r)
-changed_is id rs r change there =
-    ap (put_back id change rs) (at_positive id (slice_get rs (id - 1)) there.positive ∙ there.place)
+changed_is id rs r change there = grind (arith, nat_tests, at_positive)
 
 pub changed_own : (id : ℕ) (rs : List Runner) (r : Runner) (change : Runner → Runner) → running id rs ≡ Some r →
     running id (with_runner id change rs) ≡ unless_over (Some (change r))
-changed_own id rs r change found =
-    let there : IsThere id rs r = is_there id rs r found in
-    ap (λ (list : List Runner). running id list) (changed_is id rs r change there)
-    ∙ ap unless_over (at_positive id (slice_get (slice_set rs (id - 1) (change r)) (id - 1)) there.positive
-    ∙ own_place rs (id - 1) (change r) there.within)
+changed_own id rs r change found = grind (arith, nat_tests, is_there, changed_is, at_positive, own_place)
 
 pub changed_other : (id other : ℕ) (rs : List Runner) (r : Runner) (change : Runner → Runner) → running id rs ≡ Some r → id ≢ other →
     running other (with_runner id change rs) ≡ running other rs
-changed_other id other rs r change found ne =
-    let there : IsThere id rs r = is_there id rs r found in
-    let positive : 0 < id = there.positive in
-    ap (λ (list : List Runner). running other list) (changed_is id rs r change there)
-    ∙ alike other (slice_get (slice_set rs (id - 1) (change r)) (other - 1)) (slice_get rs (other - 1))
-    (λ some. other_place rs (id - 1) (other - 1) (change r) (omega arith))
+changed_other id other rs r change found ne = grind (arith, nat_tests, is_there, changed_is, alike, other_place)
 
 pub changed_count : (id : ℕ) (rs : List Runner) (r : Runner) (change : Runner → Runner) → running id rs ≡ Some r →
     length (with_runner id change rs) ≡ length rs
-changed_count id rs r change found =
-    ap (λ (list : List Runner). length list) (changed_is id rs r change (is_there id rs r found)) ∙ length-set rs (id - 1) (change r)
+changed_count id rs r change found = grind (arith, nat_tests, changed_is, is_there, length-set)
 
 -- ---- one runner more
 
@@ -109,5 +80,4 @@ added_own rs r =
     last = omega arith
 
 pub added_other : (rs : List Runner) (r : Runner) (other : ℕ) → other ≢ length rs + 1 → running other (rs ++ r ∷ []) ≡ running other rs
-added_other rs r other ne =
-    alike other (slice_get (rs ++ r ∷ []) (other - 1)) (slice_get rs (other - 1)) (λ some. old_place rs r (other - 1) (omega arith))
+added_other rs r other ne = grind (arith, nat_tests, alike, old_place)

@@ -1,20 +1,20 @@
 -- What a check knows of the runners is what the log so far says of them, whatever the next line is about.
-use Rattle.std.proofs.Common.{◌≡◌, ℕ, ◌+◌, List, [], ◌∷◌, ◌++◌, length, Option, Some, None, Ok, Bool, true, false, cond, refl, sym, ◌∙◌, ap, subst}
+use Rattle.std.proofs.Common.{◌≡◌, ℕ, ◌+◌, List, [], ◌∷◌, ◌++◌, length, Option, Some, None, Ok, Bool, false, cond, sym, ◌∙◌, ap, arith}
 use Rattle.std.specs.Prelude.{nat_eq, option_map, Result, ◌||◌}
 use Rattle.std.proofs.lemmas.List.{length_push}
+use Rattle.std.proofs.lemmas.Bool.Decides.{nat_tests}
 use Rattle.stm_txn.specs.Standing.{Setup}
 use Rattle.stm_events.specs.declared.event.WorldEvent.TheVariants.{Start}
 use Rattle.stm_events.specs.declared.reply.Reply.{Reply}
 use Rattle.stm_events.specs.declared.reply.Reply.TheVariants.{Started}
 use Rattle.stm_events.specs.declared.refusal.Denied.{Denied}
 use Rattle.stm_world.specs.Task.{Task}
-use Rattle.stm_world.specs.Log.{Line, begun, is_over, running, started, failures, is_id, is_start, task_in}
-use Rattle.stm_world.specs.Log.{runner_started, runner_ended, runner_in_conflict}
+use Rattle.stm_world.specs.Log.{Line, begun, is_over, running, started, failures, is_id, is_start, task_in, runner_started, runner_ended, runner_in_conflict}
 use Rattle.stm_world.proofs.Following.{with_line}
 use Rattle.stm_world.proofs.Slots.{equal_numbers, same_number, differ}
 use Rattle.stm_world.proofs.Untouched.{IsFresh, SaysNothing as IsAboutNone, same_running, same_failures}
 use Rattle.stm_check.specs.declared.runner.Runner.{Runner}
-use Rattle.stm_check.specs.Runners.{running as running_in, begun as begun_run, unless_over, ended, with_conflict, with_runner}
+use Rattle.stm_check.specs.Runners.{running as running_in, begun as begun_run, ended, with_conflict, with_runner}
 use Rattle.stm_report_laws.proofs.RunLists.{changed_own, changed_other, changed_count, added_own, added_other}
 
 -- a run of this task with that many conflicts
@@ -32,12 +32,8 @@ pub record RunsAreReported (log : List Line) (rs : List Runner) : Type 0 where
 abbrev nobody : Option Runner
 nobody = None
 
-none_by : (b : Bool) → unless_over (cond b nobody nobody) ≡ nobody
-none_by true = refl
-none_by false = refl
-
 pub none_are_reported : RunsAreReported [] []
-none_are_reported = record { count = refl; runs = λ id. none_by (nat_eq id 0) }
+none_are_reported = grind (arith, nat_tests)
 
 -- which runner a reply begins, ends, or reports a conflict of
 abbrev pub SaysOfRuns : Result Reply Denied → Option ℕ → Option ℕ → Option ℕ → Type 0
@@ -48,9 +44,7 @@ reported_by : (line : Line) (log : List Line) (begins ends fails : Option ℕ) �
     runs_with (failures id (line ∷ log)) (running id (line ∷ log))
     ≡ runs_with (cond (is_id id fails) (failures id log + 1) (failures id log))
     (cond (is_id id ends || is_over id log) None (cond (is_id id begins) (task_in line.event) (begun id log)))
-reported_by line log begins ends fails says id =
-    λ i. runs_with (cond (is_id id (says.2 i)) (failures id log + 1) (failures id log))
-    (cond (is_id id (says.1 i) || is_over id log) None (cond (is_id id (says.0 i)) (task_in line.event) (begun id log)))
+reported_by line log begins ends fails says id = grind (arith, nat_tests)
 
 count_by : (line : Line) (log : List Line) (begins ends fails : Option ℕ) → SaysOfRuns line.reply begins ends fails →
     started (line ∷ log) ≡ cond (is_start begins) (started log + 1) (started log)
@@ -58,25 +52,15 @@ count_by line log begins ends fails says = ap (λ (o : Option ℕ). cond (is_sta
 
 -- of one runner, and of the others
 by_id : (P : ℕ → Type 0) (id : ℕ) → P id → ((other : ℕ) → nat_eq id other ≡ false → P other) → (other : ℕ) → P other
-by_id P id mine others other =
-    elim (nat_eq id other) as (λ b. nat_eq id other ≡ b → P other) [
-      | true ↦ λ is. subst P (equal_numbers id other is) mine
-      | false ↦ λ is. others other is
-    ] refl
+by_id P id mine others other = grind (arith, nat_tests, equal_numbers)
 
 pub same_runs : (line : Line) (log : List Line) (rs : List Runner) → SaysOfRuns line.reply None None None → RunsAreReported log rs →
     RunsAreReported (line ∷ log) rs
-same_runs line log rs says reported = record {
-  count = reported.count ∙ sym (count_by line log None None None says);
-  runs = λ id. reported.runs id ∙ sym (reported_by line log None None None says id);
-}
+same_runs line log rs says reported = grind (arith, nat_tests, count_by, reported_by)
 
 -- a line that is about no runner
 pub quiet_runs : (line : Line) (log : List Line) (rs : List Runner) → IsAboutNone line.reply → RunsAreReported log rs → RunsAreReported (line ∷ log) rs
-quiet_runs line log rs says reported = record {
-  count = reported.count ∙ sym (ap (λ (o : Option ℕ). cond (is_start o) (started log + 1) (started log)) says.not_started);
-  runs = λ id. let u = says.untouched id in reported.runs id ∙ sym (λ i. runs_with (same_failures id line log u i) (same_running id line log u i));
-}
+quiet_runs line log rs says reported = grind (arith, nat_tests, same_failures, same_running)
 
 -- a run that goes on, and its task as the log has it
 pub record Goes (log : List Line) (rs : List Runner) (id : ℕ) (task : Task) : Type 0 where
@@ -122,19 +106,4 @@ failed_runs line log rs id task says goes reported =
 pub begun_runs : (start : Setup) (log : List Line) (rs : List Runner) (task : Task) → IsFresh start log (started log + 1) → RunsAreReported log rs →
     RunsAreReported (with_line (Start task.program task.level task.limit) (Ok (Started (started log + 1))) log)
     (rs ++ begun_run task.program task.level task.limit ∷ [])
-begun_runs start log rs task fresh reported =
-    let id : ℕ = started log + 1 in
-    let r : Runner = run_with 0 task in
-    let line : Line = record { event = Start task.program task.level task.limit; reply = Ok (Started id) } in
-    let next : length rs + 1 ≡ id = ap (λ n. n + 1) reported.count in
-    record {
-      count = length_push rs r ∙ next;
-      runs = by_id (λ other. running_in other (rs ++ r ∷ []) ≡ runs_with (failures other (line ∷ log)) (running other (line ∷ log))) id
-          (subst (λ n. running_in n (rs ++ r ∷ []) ≡ Some r) next (added_own rs r)
-          ∙ sym (ap (λ (b : Bool). runs_with (failures id log) (cond b None (cond (nat_eq id id) (Some task) (begun id log)))) fresh.not_over
-          ∙ ap (λ (b : Bool). runs_with (failures id log) (cond b (Some task) (begun id log))) (same_number id)
-          ∙ ap (λ n. runs_with n (Some task)) fresh.no_failures))
-          (λ other ne.
-          added_other rs r other (λ same. differ id other ne (sym (same ∙ next))) ∙ reported.runs other
-          ∙ sym (ap (λ (b : Bool). runs_with (failures other log) (cond (is_over other log) None (cond b (Some task) (begun other log)))) ne));
-    }
+begun_runs start log rs task fresh reported = grind (arith, nat_tests, length_push, by_id, added_own, same_number, added_other, differ)

@@ -1,17 +1,17 @@
 -- The numbers of the replies to the calls of a store, and of the store after them.
-use Rattle.std.proofs.Common.{◌≡◌, ℕ, zero, suc, ◌+◌, ◌-◌, ◌≤◌, Bool, true, false, cond, List, [], ◌∷◌, ◌++◌, length, refl, sym, ap, ◌∙◌}
+use Rattle.std.proofs.Common.{◌≡◌, ℕ, zero, suc, ◌+◌, ◌-◌, ◌≤◌, Bool, true, false, cond, List, [], ◌∷◌, ◌++◌, length, refl, ap}
 use Rattle.std.proofs.Common.{subst, arith, Option, Some, None, Ok, Err}
-use Rattle.std.specs.Prelude.{Result, nat_eq, nat_lt, slice_set, slice_index_or, option_map}
+use Rattle.std.specs.Prelude.{Result, nat_lt, slice_set, slice_index_or, option_map}
 use Rattle.std.specs.FinMap as finmap
 use Rattle.std.specs.Cmp.{nat_cmp_total}
 use Rattle.std.proofs.lemmas.List.{length-append, length-map, length-set}
+use Rattle.std.proofs.lemmas.Bool.Decides.{nat_tests}
 use Rattle.stm_history.specs.declared.revisions.TheConstants.{HIGHEST_NUMBER}
 use Rattle.stm_history.specs.History.{History, now}
 use Rattle.stm_leases.specs.LeaseLog.{Term}
 use Rattle.stm_leases.specs.Live.{Live}
 use Rattle.stm_watch.specs.Watching.{Watching}
-use Rattle.stm_watch.specs.declared.refusal.PollRefusal.TheVariants.{Compacted as LostToPoll}
-use Rattle.stm_watch.specs.Calls.{watcher_at, poll_found, compacted_one, compacted}
+use Rattle.stm_watch.specs.Calls.{watcher_at, compacted_one, compacted}
 use Rattle.stm_watch.specs.Pending.{watching_from, batch_of, after_poll}
 use Rattle.stm_outcome.specs.declared.advance.Expired.{Expired}
 use Rattle.stm_outcome.specs.declared.refusal.Refusal.{Refusal as StoreRefusal}
@@ -20,7 +20,7 @@ use Rattle.stm_outcome.specs.declared.txn.Txn.{Txn as StoreTxn}
 use Rattle.stm_outcome.specs.Numbers.{ExpiredFits}
 use Rattle.stm_outcome.specs.Outcome.{Done, is_used_up}
 use Rattle.stm_txn.specs.LeaseKeys.{deletions_of}
-use Rattle.stm_txn.specs.Standing.{Standing, with_history, step_of, transacted, with_lease, without_lease, ended, expired_in, poll_step, polled, with_watchers}
+use Rattle.stm_txn.specs.Standing.{Standing, with_history, step_of, transacted, with_lease, without_lease, ended, expired_in, polled, with_watchers}
 use Rattle.stm_txn.proofs.Fitting.{numbers_fit, expired_fits}
 use Rattle.stm_txn.proofs.Polling.{batch_fits}
 use Rattle.stm_txn.proofs.Ending.{one_fewer}
@@ -52,19 +52,7 @@ pub record CallFits (n : ℕ) (before after : Standing) (more : List Entry) : Ty
 
 pub called_fits : (n : ℕ) (w : World) (reply : Result Reply Denied) (next : Standing) (more : List Entry) → WorldFits n w → AnswerToFits reply →
     CallFits n w.standing next more → IsSound (after_call reply next more w).next → StepFits n (after_call reply next more w)
-called_fits n w reply next more fits one call sound =
-    record {
-      reply = one;
-      next = record {
-        sound = sound;
-        small = call.small;
-        watchers = call.watchers;
-        watching = call.watching;
-        started = omega (arith, fits.started);
-        runners = fits.runners;
-        entries = omega (arith, fits.entries, length-append w.entries more, call.entered);
-      };
-    }
+called_fits n w reply next more fits one call sound = grind (arith, nat_tests, length-append)
 
 -- a poll can tell of the floor, which is a revision that has come
 abbrev pub Reaches : Standing → Call → Type 0
@@ -83,8 +71,7 @@ still n s small watchers many = record { small = small; watchers = watchers; wat
 -- ---- a transaction, and leases
 
 changed_by : (b : Bool) (txn : StoreTxn) (k : ℕ) → length (cond b (Foreign txn ∷ []) []) + k ≤ k + 2
-changed_by true txn k = omega arith
-changed_by false txn k = omega arith
+changed_by b txn k = grind (arith, nat_tests)
 
 renewed_count : (live : Live) (id : ℕ) (term : Term) (entry : Entry) → length (entry ∷ []) + finmap.len (finmap.insert live id term) ≤ finmap.len live + 2
 renewed_count live id term entry = by (finmap.contains_key live id) (finmap.len-insert nat_cmp_total live id term)
@@ -97,12 +84,7 @@ renewed_count live id term entry = by (finmap.contains_key live id) (finmap.len-
 -- other leases, one entry
 with_leases : (n : ℕ) (s next : Standing) (entry : Entry) → IsSmall next → next.watchers ≡ s.watchers →
     length (entry ∷ []) + finmap.len next.live ≤ finmap.len s.live + 2 → WatchersFit s.watchers → length s.watchers ≤ n → CallFits n s next (entry ∷ [])
-with_leases n s next entry small same count watchers many = record {
-  small = small;
-  watchers = subst WatchersFit (sym same) watchers;
-  watching = subst (λ (ws : List (Option Watching)). length ws ≤ suc n) (sym same) (omega (arith, many));
-  entered = count;
-}
+with_leases n s next entry small same count watchers many = grind (arith, nat_tests, WatchersFit)
 
 abbrev ended_by : Standing → ℕ → Bool → Result Standing StoreRefusal
 ended_by s id used = cond used (Err RevisionsUsedUp) (Ok (without_lease s id))
@@ -112,10 +94,8 @@ ends_by s id room = ap (ended_by s id) room
 
 one_more_fits : (moment : ℕ) (e : Expired) (es : List Expired) (cause : Option StoreRefusal) → ExpiredFits e → AnswerToFits (advance_reply moment es cause) →
     AnswerToFits (advance_reply moment (e ∷ es) cause)
-one_more_fits moment e es None one fits =
-    line_of (fits.0.1.1.0, (((plain e.id one.0, (plain e.revision one.1, tt)), fits.0.1.1.1.0), tt))
-one_more_fits moment e es (Some cause) one fits =
-    line_of (and_text (((plain e.id one.0, (plain e.revision one.1, tt)), fits.0.1.1.1.0), tt))
+one_more_fits moment e es None one fits = grind (arith, nat_tests, line_of, plain)
+one_more_fits moment e es (Some cause) one fits = grind (arith, nat_tests, line_of, plain, and_text)
 
 -- ---- watchers
 
@@ -131,37 +111,23 @@ watcher_there (x ∷ ws) zero w fits is = subst WatcherFits is fits.0
 watcher_there (x ∷ ws) (suc i) w fits is = watcher_there ws i w fits.1 is
 
 watcher_found : (id : ℕ) (ws : List (Option Watching)) (w : Watching) → WatchersFit ws → watcher_at id ws ≡ Some w → w.seen ≤ HIGHEST_NUMBER
-watcher_found id ws w fits = elim (nat_eq id 0) as (λ (b : Bool). cond b None (slice_index_or ws (id - 1) None) ≡ Some w → w.seen ≤ HIGHEST_NUMBER) [
-  | true ↦ λ is. absurd (cc)
-  | false ↦ λ is. watcher_there ws (id - 1) w fits is
-]
+watcher_found id ws w fits = grind (arith, nat_tests, watcher_there)
 
 -- other watchers, as many or one more
 with_others : (n : ℕ) (s : Standing) (ws : List (Option Watching)) → WatchersFit ws → length ws ≤ suc (length s.watchers) → IsSmall s →
     length s.watchers ≤ n → CallFits n s (with_watchers s ws) []
-with_others n s ws fit few small many = record {
-  small = record { history = small.history; live = small.live; renewed = small.renewed; moment = small.moment };
-  watchers = fit;
-  watching = omega (arith, few, many);
-  entered = omega arith;
-}
+with_others n s ws fit few small many = grind (arith, nat_tests)
 
 set_one : (n : ℕ) (s : Standing) (id : ℕ) (w : Option Watching) → WatcherFits w → IsSmall s → WatchersFit s.watchers → length s.watchers ≤ n →
     CallFits n s (with_watchers s (slice_set s.watchers (id - 1) w)) []
-set_one n s id w fits small watchers many =
-    with_others n s (slice_set s.watchers (id - 1) w) (watchers_set s.watchers (id - 1) w watchers fits) (omega (arith, length-set s.watchers (id - 1) w)) small many
+set_one n s id w fits small watchers many = grind (arith, nat_tests, with_others, watchers_set, length-set)
 
 polled_is : (s : Standing) (id most : ℕ) (w : Watching) → watcher_at id s.watchers ≡ Some w → w.lost ≡ false →
     polled s id most ≡ Ok record {
       answer = batch_of most s.history w;
       next = with_watchers s (slice_set s.watchers (id - 1) (Some (after_poll most s.history w)));
     }
-polled_is s id most w found lost =
-    ap (λ (o : Option Watching). poll_step s (poll_found s.history id most s.watchers o)) found
-    ∙ ap (λ (b : Bool). poll_step s (cond b (Err LostToPoll) (Ok (record {
-      answer = batch_of most s.history w;
-      next = slice_set s.watchers (id - 1) (Some (after_poll most s.history w));
-    })))) lost
+polled_is s id most w found lost = grind (arith, nat_tests)
 
 -- ---- every call
 

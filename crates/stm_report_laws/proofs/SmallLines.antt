@@ -1,15 +1,12 @@
 -- The lines of a run whose numbers are within 64 bits are read as they were written.
-use Rattle.std.proofs.Common.{◌≡◌, ℕ, suc, ◌+◌, ◌≤◌, Bool, true, false, cond, List, [], ◌∷◌, ◌++◌, length, map, refl, sym, ap, ◌∙◌, subst, arith}
-use Rattle.std.proofs.Common.{Option, Some, None, Ok, IfSome}
-use Rattle.std.proofs.lemmas.Bool.{leb-true}
+use Rattle.std.proofs.Common.{◌≡◌, ℕ, suc, ◌+◌, ◌≤◌, Bool, true, false, cond, List, [], ◌∷◌, length, map, refl, sym, ap, ◌∙◌, subst, arith}
+use Rattle.std.proofs.Common.{Option, Some, None, IfSome}
+use Rattle.std.proofs.lemmas.Bool.{leb-true, Decides.nat_tests}
 use Rattle.std.specs.Prelude.{Result, T, nat_le, nat_eq, ◌&&◌}
 use Rattle.std.specs.FinMap as finmap
 use Rattle.std.specs.List.{AllByRecursion}
 use Rattle.std.specs.FinMap.Entries.{find, below_all, is_sorted}
 use Rattle.std.specs.Ordering.{nat_cmp, is_lt, eq_by_cmp}
-use Rattle.std.specs.Cmp.{Equal-is}
-use Rattle.std.specs.declared.cmp.Ordering.{Ordering}
-use Rattle.std.specs.declared.cmp.Ordering.TheVariants.{Equal}
 use Rattle.stm_leases.proofs.Tables.{test_number}
 use Rattle.stm_world.proofs.Slots.{same_number, equal_numbers}
 use Rattle.stm_history.proofs.HistoryLaws.{last_revision_is_now}
@@ -18,15 +15,13 @@ use Rattle.stm_history.specs.declared.key_state.KeyState.{KeyState}
 use Rattle.stm_history.specs.History.{History, now, key_now}
 use Rattle.stm_leases.specs.LeaseLog.{Term}
 use Rattle.stm_outcome.specs.Numbers.{StateFits}
-use Rattle.stm_txn.specs.LeaseKeys.{keys_named}
 use Rattle.stm_txn.specs.Standing.{Standing}
 use Rattle.stm_txn.proofs.Bounding.{both}
 use Rattle.stm_txn.proofs.Fitting.{states_fit}
 use Rattle.stm_events.specs.declared.reply.Reply.{Reply}
-use Rattle.stm_events.specs.declared.reply.Reply.TheVariants.{Txn}
 use Rattle.stm_events.specs.declared.refusal.Denied.{Denied}
-use Rattle.stm_events.specs.declared.line.ReportLine.TheVariants.{Event as EventLine, End}
-use Rattle.stm_check.specs.StoreLines.{key_lines_of, key_lines, lease_line, lease_lines, end_lines}
+use Rattle.stm_events.specs.declared.line.ReportLine.TheVariants.{Event as EventLine}
+use Rattle.stm_check.specs.StoreLines.{key_lines_of, key_lines, lease_line, end_lines}
 use Rattle.stm_report.specs.Report.{event_lines}
 use Rattle.stm_report_laws.specs.ReadBack.{IsReadable, AreReadable}
 use Rattle.stm_report_laws.proofs.SmallRuns.{all_append}
@@ -38,13 +33,11 @@ use Rattle.stm_report_laws.proofs.SmallReplies.{AnswerToFits, RepliesFit}
 
 -- a line that fits does so with any number that fits
 renumbered : (n : ℕ) (reply : Result Reply Denied) → Few n → AnswerToFits reply → IsReadable (EventLine n reply)
-renumbered n (Ok (Txn succeeded revision answers)) few fits = ((plain n few, fits.0.1), fits.1)
-renumbered n _ few fits = ((plain n few, fits.0.1), fits.1)
+renumbered n reply few fits = grind (arith, nat_tests, plain)
 
 pub events_readable : (n : ℕ) (replies : List (Result Reply Denied)) → Few (n + length replies) → RepliesFit replies → AreReadable (event_lines n replies)
 events_readable n [] few fits = tt
-events_readable n (r ∷ replies) few fits =
-    (renumbered n r (omega (arith, few)) fits.0, events_readable (suc n) replies (omega (arith, few)) fits.1)
+events_readable n (r ∷ replies) few fits = grind (arith, nat_tests, renumbered, events_readable (suc n) replies (omega (arith, few)) fits.1)
 
 -- ---- the lines of the end
 
@@ -58,8 +51,7 @@ now_fits h key fits =
 
 keys_readable : (h : History) (keys : List (List ℕ)) → HistoryFits h → AreReadable (key_lines h keys)
 keys_readable h [] fits = tt
-keys_readable h (key ∷ keys) fits =
-    all_append IsReadable (key_lines_of key (key_now h key)) (key_lines h keys) (key_readable key (key_now h key) (now_fits h key fits)) (keys_readable h keys fits)
+keys_readable h (key ∷ keys) fits = grind (arith, nat_tests, all_append, key_readable, now_fits, keys_readable h keys fits)
 
 -- a term of a list by id
 abbrev TermFits : ℕ × Term → Type 0
@@ -70,17 +62,13 @@ TermsFit = AllByRecursion TermFits
 
 leases_readable : (es : List (ℕ × Term)) → TermsFit es → AreReadable (map lease_line es)
 leases_readable [] fits = tt
-leases_readable (e ∷ es) fits =
-    (((tt, (plain e.0 fits.0.0, (plain (e.1).ttl fits.0.1, (plain (e.1).renewed fits.0.2, tt)))), tt), leases_readable es fits.1)
+leases_readable (e ∷ es) fits = grind (arith, nat_tests, plain, leases_readable es fits.1)
 
 both_of : (a b : Bool) → T (a && b) → T a × T b
-both_of true b h = (tt, h)
-both_of false b h = absurd h
+both_of a b h = grind (arith, nat_tests)
 
 never_less : (id : ℕ) → T (is_lt (nat_cmp id id)) → ⊥
-never_less id less =
-    let same : nat_cmp id id ≡ Equal = (Equal-is (nat_cmp id id)).0 (test_number id id ∙ same_number id) in
-    subst (λ (o : Ordering). T (is_lt o)) same less
+never_less id less = grind (arith, nat_tests, test_number, same_number)
 
 -- an id that stands in the rest of an ascending list is not the first one
 is_above : (low : ℕ) (es : List (ℕ × Term)) (id : ℕ) (term : Term) → T (below_all nat_cmp low es) → find nat_cmp id es ≡ Some term → id ≡ low → ⊥
@@ -98,8 +86,7 @@ is_above low (e ∷ es) id term below found same =
     by false c is own less found later = later found
 
 other_id : (b : Bool) (id low : ℕ) → eq_by_cmp nat_cmp id low ≡ b → (id ≡ low → ⊥) → b ≡ false
-other_id true id low is apart = absurd (apart (equal_numbers id low (sym (test_number id low) ∙ is)))
-other_id false id low is apart = refl
+other_id b id low is apart = grind (arith, nat_tests, equal_numbers, test_number)
 
 terms_fit : (es : List (ℕ × Term)) → T (is_sorted nat_cmp es) →
     ((id : ℕ) (term : Term) → find nat_cmp id es ≡ Some term → TermFits (id, term)) → TermsFit es
@@ -128,9 +115,4 @@ live_terms_fit s small =
         (id_fits id ranges.0, omega (arith, ttl), small.renewed id term found)
 
 pub end_readable : (s : Standing) (entries : ℕ) → IsSmall s → Few entries → AreReadable (end_lines s entries)
-end_readable s entries small few =
-    let h : History = s.history in
-    all_append IsReadable (key_lines h (keys_named h) ++ lease_lines s.live) (End (now h) entries ∷ [])
-    (all_append IsReadable (key_lines h (keys_named h)) (lease_lines s.live) (keys_readable h (keys_named h) small.history)
-    (leases_readable (finmap.entries s.live) (live_terms_fit s small)))
-    (((tt, (plain (now h) (omega (arith, small.history.1)), (plain entries few, tt))), tt), tt)
+end_readable s entries small few = grind (arith, nat_tests, all_append, keys_readable, leases_readable, live_terms_fit, plain)

@@ -1,10 +1,10 @@
 -- What fits into 64 bits of replies, events and worlds, and the numbers that are read of a history.
-use Rattle.std.proofs.Common.{◌≡◌, ℕ, zero, suc, ◌+◌, ◌<◌, ◌≤◌, Bool, true, false, cond, List, [], ◌∷◌, length, map, refl, sym}
+use Rattle.std.proofs.Common.{◌≡◌, ℕ, zero, suc, ◌+◌, ◌<◌, ◌≤◌, Bool, true, cond, List, [], ◌∷◌, length, map, refl}
 use Rattle.std.proofs.Common.{subst, arith, Option, Some, None, Ok, Err, IfSome, inl, inr, bytes_eq}
 use Rattle.std.specs.Prelude.{Result, nat_lt, slice_get, option_map, is_some, ◌⊎◌, ◌&&◌}
 use Rattle.std.specs.FinMap as finmap
 use Rattle.std.specs.List.{AllByRecursion}
-use Rattle.std.proofs.lemmas.Bool.{ltb-true}
+use Rattle.std.proofs.lemmas.Bool.{ltb-true, Decides.nat_tests}
 use Rattle.stm_history.specs.declared.change.Change.{Change}
 use Rattle.stm_history.specs.declared.key_state.KeyState.{KeyState}
 use Rattle.stm_history.specs.declared.key_state.ReadAnswer.{ReadAnswer}
@@ -28,7 +28,6 @@ use Rattle.stm_txn.proofs.Bounding.{both}
 use Rattle.stm_txn.proofs.Fitting.{states_fit}
 use Rattle.stm_compile.specs.Answers.{answer_in, said, look_up, AreTrue}
 use Rattle.stm_compile.specs.Conflicts.{Seen, seen_in, seen_of_read, seen_of_write, seen_by, changes_above, IsConflict}
-use Rattle.stm_compile.specs.CommitTxn.{first_carried}
 use Rattle.stm_events.specs.declared.event.WorldEvent.{WorldEvent}
 use Rattle.stm_events.specs.Called.{Call, Txn, Grant, Keep, Revoke, Advance, Watch, Poll, Cancel, Compact, Asked, Starts, Steps, Calls, asked}
 use Rattle.stm_events.specs.declared.reply.Reply.{Reply}
@@ -106,31 +105,24 @@ pub record WorldFits (n : ℕ) (w : World) : Type 0 where
 -- ---- the numbers that are read of a history
 
 mod_by : (o : Option KeyState) → IfSome o StateFits → Few (mod_of o)
-mod_by None fits = omega arith
-mod_by (Some s) fits = fits.numbers.mod_rev
+mod_by o fits = grind (arith, nat_tests)
 
 pub mod_fits : (h : History) (key : List ℕ) (r : ℕ) → HistoryFits h → Few (mod_of (key_at h key r))
 mod_fits h key r fits = mod_by (key_at h key r) (states_fit h fits.1 fits.0 key r)
 
 mod_now_fits : (h : History) (key : List ℕ) → HistoryFits h → Few (mod_of (key_now h key))
-mod_now_fits h key fits =
-    omega (arith, fits.1, mod_is_reached h.opening key h.revisions)
+mod_now_fits h key fits = grind (arith, nat_tests, mod_is_reached)
 
 pub low_fits : (h : History) → HistoryFits h → Few (now h)
 low_fits h fits = let low : now h ≤ HIGHEST_REVISION = fits.1 in omega (arith, low)
 
 pub answers_fit : (h : History) (answers : List ReadAnswer) → HistoryFits h → AreTrue h answers → AnswersFit answers
 answers_fit h [] fits truth = tt
-answers_fit h (a ∷ rest) fits truth =
-    let low : now h ≤ HIGHEST_REVISION = fits.1 in (
-      (subst (λ (o : Option KeyState). Few (mod_of o)) truth.0.shown (mod_fits h a.key a.of_rev fits), omega (arith, truth.0.reached, low)),
-      answers_fit h rest fits truth.1,
-    )
+answers_fit h (a ∷ rest) fits truth = grind (arith, nat_tests, Few, mod_fits, answers_fit h rest fits truth.1)
 
 found_by : (x : ReadAnswer) (rest : List ReadAnswer) (key : List ℕ) (a : Answer) (b : Bool) → Few (mod_of x.kv) →
     (look_up rest key ≡ Some a → Few a.mod_rev) → option_map said (cond b (Some x) (answer_in key rest)) ≡ Some a → Few a.mod_rev
-found_by x rest key a true mine other same = let one : said x ≡ a = cc in subst (λ (y : Answer). Few y.mod_rev) one mine
-found_by x rest key a false mine other same = other same
+found_by x rest key a b mine other same = grind (arith, nat_tests, Few)
 
 pub found_in : (answers : List ReadAnswer) (key : List ℕ) (a : Answer) → AnswersFit answers → look_up answers key ≡ Some a → Few a.mod_rev
 found_in [] key a fits is = absurd (cc)
@@ -142,14 +134,10 @@ keys_plain h (key ∷ keys) fits = ((tt, (plain (mod_of (key_now h key)) (mod_no
 
 committed_reads_plain : (answers : List ReadAnswer) → AnswersFit answers → ArePlain (items_of (map answer_data (map committed_read answers)))
 committed_reads_plain [] fits = tt
-committed_reads_plain (a ∷ rest) fits = (
-  (tt, (text_plain (committed_read a).value, (plain (mod_of a.kv) fits.0.0, (plain a.of_rev fits.0.1, tt)))),
-  committed_reads_plain rest fits.1,
-)
+committed_reads_plain (a ∷ rest) fits = grind (arith, nat_tests, text_plain, plain, committed_reads_plain rest fits.1)
 
 pub plain_by_level : (answers : List ReadAnswer) (b : Bool) → AnswersFit answers → ArePlain (items_of (map answer_data (map committed_read (cond b [] answers))))
-plain_by_level answers true fits = tt
-plain_by_level answers false fits = committed_reads_plain answers fits
+plain_by_level answers b fits = grind (arith, nat_tests, committed_reads_plain)
 
 -- ---- the replies to calls
 
@@ -211,11 +199,6 @@ changed_above opening r key (changes ∷ older) is =
     (λ here. let below : r < number = ltb-true r number (both (nat_lt r number) (is_some (change_of key changes)) here).0 in omega (arith, below))
     (λ before. let rest : r ≤ number_of_last opening older = changed_above opening r key older before in omega (arith, rest))
 
-seen_few : (h : History) (seen : Seen) → HistoryFits h → changes_above h.opening seen.at seen.key h.revisions ≡ true → SeenFits seen → Few seen.mod_rev
-seen_few h seen fits changed (inl few) = few
-seen_few h seen fits changed (inr same) =
-    omega (arith, same, changed_above h.opening seen.at seen.key h.revisions changed, fits.1)
-
 -- a failed compare
 pub record FailureFits (about : Seen) (failed : FailedCompare) : Type 0 where
   pub seen : Few about.mod_rev
@@ -224,13 +207,7 @@ pub record FailureFits (about : Seen) (failed : FailedCompare) : Type 0 where
 pub failure_fits : (h : History) (reads : List ReadAnswer) (writes : List Change) (failed : FailedCompare) → HistoryFits h → AnswersFit reads →
     IsConflict h reads writes failed → FailureFits (seen_in (slice_get (seen_by reads writes) failed.index)) failed
 failure_fits h reads writes failed fits answers c =
-    let all : AllSeenFit (seen_by reads writes) =
-    all_append SeenFits (map seen_of_read reads) (map (seen_of_write (first_carried reads)) writes) (reads_seen reads answers) (writes_seen (first_carried reads) writes) in
-    record {
-      seen = subst (λ (o : Option Seen). Few (seen_in o).mod_rev) (sym c.about)
-          (seen_few h c.seen fits c.changed (seen_at_place (seen_by reads writes) failed.index c.seen all c.about));
-      stands = subst Few (sym c.reported) (mod_now_fits h c.seen.key fits);
-    }
+    grind (arith, nat_tests, all_append, reads_seen, writes_seen, Few, seen_at_place, mod_now_fits, changed_above)
 
 -- a reply, and the world after it
 pub record StepFits (n : ℕ) (o : Stepped) : Type 0 where

@@ -1,9 +1,8 @@
 -- The numbers of the replies to a runner's step and to a start, and of the world after it.
-use Rattle.std.proofs.Common.{◌≡◌, ℕ, suc, ◌+◌, ◌<◌, ◌≤◌, Bool, true, false, cond, List, [], ◌∷◌, ◌++◌, length, map, refl, sym, ◌∙◌}
+use Rattle.std.proofs.Common.{◌≡◌, ℕ, suc, ◌+◌, ◌≤◌, Bool, true, false, cond, List, [], ◌∷◌, ◌++◌, length, map, refl, sym, ◌∙◌}
 use Rattle.std.proofs.Common.{subst, arith, Option, Some, None, Ok, Err}
 use Rattle.std.specs.Prelude.{Result, nat_eq, nat_lt, slice_get}
-use Rattle.std.specs.FinMap as finmap
-use Rattle.std.proofs.lemmas.Bool.{ltb-true}
+use Rattle.std.proofs.lemmas.Bool.{ltb-true, Decides.nat_tests}
 use Rattle.std.proofs.lemmas.List.{length-append}
 use Rattle.stm_history.specs.declared.key_state.ReadAnswer.{ReadAnswer}
 use Rattle.stm_history.specs.declared.revisions.TheConstants.{HIGHEST_NUMBER}
@@ -38,8 +37,7 @@ use Rattle.stm_events.specs.declared.refusal.EventRefusal.TheVariants.{BadLimit,
 use Rattle.stm_events.specs.Replies.{event_refusal}
 use Rattle.stm_world.specs.Task.{Task, answer_at, modified_now, after_list, after_fetch, after_conflict}
 use Rattle.stm_world.specs.World.{World, Runner, Slot, Over, Live as LiveSlot, Stepped, live_in, runner_at, with_slot, refused, replied, begin, start_runner}
-use Rattle.stm_world.specs.World.{fetch, fetch_list, entry_of, take_commit, decided, commit_reported, commit, finish, step_on, step_live}
-use Rattle.stm_world.specs.World.{step_runner}
+use Rattle.stm_world.specs.World.{fetch, fetch_list, entry_of, take_commit, decided, commit_reported, commit, finish, step_on, step_live, step_runner}
 use Rattle.stm_world.specs.Sound.{IsSound}
 use Rattle.stm_world.proofs.Sound.{worlds_are_sound}
 use Rattle.stm_world.proofs.CommitCases.{fails, Fails}
@@ -54,13 +52,7 @@ use Rattle.stm_report_laws.proofs.SmallReplies.{keys_plain, plain_by_level, refu
 
 runners_set : (w : World) (id : ℕ) (r : Runner) (slot : Slot) → RunnersFit w.runners → runner_at id w.runners ≡ Some r →
     ((x : Runner) → live_in (Some slot) ≡ Some x → RunnerFits x) → RunnersFit (with_slot id slot w.runners)
-runners_set w id r slot fits found mine other x at =
-    let there : (0 < id) × (id ≤ length w.runners) = runner_there id w.runners r found in
-    let own : runner_at id (with_slot id slot w.runners) ≡ live_in (Some slot) = runner_own id w.runners slot there.0 there.1 in
-    elim (nat_eq id other) as (λ b. nat_eq id other ≡ b → RunnerFits x) [
-      | true ↦ λ is. mine x (sym own ∙ subst (λ n. runner_at n (with_slot id slot w.runners) ≡ Some x) (sym (equal_numbers id other is)) at)
-      | false ↦ λ is. fits other x (sym (runner_other id other w.runners slot there.0 (differ id other is)) ∙ at)
-    ] refl
+runners_set w id r slot fits found mine other x at = grind (arith, nat_tests, runner_there, runner_own, RunnerFits, equal_numbers, runner_other, differ)
 
 over_fits : (x : Runner) → live_in (Some Over) ≡ Some x → RunnerFits x
 over_fits x is = absurd (cc)
@@ -72,19 +64,7 @@ live_fits r x fits is = let same : r ≡ x = cc in subst RunnerFits same fits
 replied_fits : (n : ℕ) (w : World) (id : ℕ) (r : Runner) (slot : Slot) (reply : Reply) → WorldFits n w → runner_at id w.runners ≡ Some r →
     ((x : Runner) → live_in (Some slot) ≡ Some x → RunnerFits x) → IsSound (replied reply id slot w).next → AnswerToFits (Ok reply) →
     StepFits n (replied reply id slot w)
-replied_fits n w id r slot reply fits found mine sound one =
-    record {
-      reply = one;
-      next = record {
-        sound = sound;
-        small = fits.small;
-        watchers = fits.watchers;
-        watching = omega (arith, fits.watching);
-        started = omega (arith, count_stays id w.runners slot, fits.started);
-        runners = runners_set w id r slot fits.runners found mine;
-        entries = omega (arith, fits.entries);
-      };
-    }
+replied_fits n w id r slot reply fits found mine sound one = grind (arith, nat_tests, count_stays, runners_set)
 
 -- where a runner stands that takes a step
 record Stands (n : ℕ) (w : World) (id : ℕ) (r : Runner) : Type 0 where
@@ -97,8 +77,7 @@ ended_fits : (n : ℕ) (w : World) (id : ℕ) (r : Runner) (reply : Reply) → S
 ended_fits n w id r reply at sound one = replied_fits n w id r Over reply at.fits at.found over_fits sound one
 
 read_by : (h : History) (base : ℕ) (b : Bool) → HistoryFits h → base ≤ now h → Few (cond b (now h) base)
-read_by h base true fits reached = low_fits h fits
-read_by h base false fits reached = let low : Few (now h) = low_fits h fits in omega (arith, low, reached)
+read_by h base b fits reached = grind (arith, nat_tests, low_fits, Few)
 
 fetch_fits : (n : ℕ) (w : World) (id : ℕ) (r : Runner) (key : List ℕ) → Stands n w id r →
     IsSound (fetch id r key (revision_read w.standing.history (at_of r.task.level r.known.reads)) w).next →
@@ -232,16 +211,7 @@ live_step n w id r at sound = due_by n w id r (is_due r.task.program.prefetch r.
 
 -- a world that stays as it is
 stays_fits : (n : ℕ) (w : World) → WorldFits n w → WorldFits (suc n) w
-stays_fits n w fits =
-    record {
-      sound = fits.sound;
-      small = fits.small;
-      watchers = fits.watchers;
-      watching = omega (arith, fits.watching);
-      started = omega (arith, fits.started);
-      runners = fits.runners;
-      entries = omega (arith, fits.entries);
-    }
+stays_fits n w fits = grind (arith, nat_tests)
 
 pub runner_step : (n : ℕ) (w : World) (id : ℕ) (o : Option Runner) → WorldFits n w → Few id → runner_at id w.runners ≡ o →
     IsSound (step_runner id o w).next → StepFits n (step_runner id o w)

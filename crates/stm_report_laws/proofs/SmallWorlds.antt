@@ -8,9 +8,10 @@ use Rattle.stm_events.specs.declared.event.WorldEvent.{WorldEvent}
 use Rattle.stm_events.specs.declared.reply.Reply.{Reply}
 use Rattle.stm_events.specs.declared.refusal.Denied.{Denied}
 use Rattle.std.specs.Ordering.{nat_cmp}
+use Rattle.std.proofs.lemmas.Bool.Decides.{nat_tests}
 use Rattle.stm_history.specs.declared.revisions.TheConstants.{HIGHEST_REVISION}
 use Rattle.stm_leases.specs.LeaseLog.{Term}
-use Rattle.stm_events.specs.Called.{Call, Poll, Asked, Starts, Steps, Calls, asked, called, entered}
+use Rattle.stm_events.specs.Called.{Call, Asked, Starts, Steps, Calls, asked, called, entered}
 use Rattle.stm_world.specs.World.{opened, World, Stepped, runner_at, step_asked, step, world_after, replies_to}
 use Rattle.stm_world.specs.Sound.{IsSound}
 use Rattle.stm_world.proofs.Sound.{opened_is_sound, step_is_sound}
@@ -24,8 +25,7 @@ use Rattle.stm_report_laws.proofs.SmallCalls.{Reaches, called_fits, call_fits}
 -- ---- every event
 
 reaches : (s : Standing) (c : Call) → HasKept s → Reaches s c
-reaches s (Poll watcher most) kept = kept.reached
-reaches s _ kept = tt
+reaches s c kept = grind (arith, nat_tests)
 
 asked_fits : (n : ℕ) (a : Asked) (w : World) → WorldFits n w → Few (suc n) → AsksFew a → IsSound (step_asked a w).next → StepFits n (step_asked a w)
 asked_fits n (Starts program level limit) w fits room asks sound =

@@ -1,18 +1,18 @@
 -- A check of a whole report says yes exactly where the text is the scenario's report.
-use Rattle.std.proofs.Common.{◌≡◌, ℕ, ◌≤◌, List, length, Option, Some, None, Result, Ok, Err, IfSome, refl, sym, ap, subst, ◌∙◌, true≢false}
+use Rattle.std.proofs.Common.{◌≡◌, ℕ, ◌≤◌, List, length, Some, Result, Ok, Err, IfSome, refl, sym, ap, subst, ◌∙◌, true≢false, arith}
+use Rattle.std.proofs.lemmas.Bool.Decides.{nat_tests}
 use Rattle.stm_json.specs.declared.limits.TheConstants.{MOST_BYTES}
 use Rattle.stm_json.specs.Outcome.{Outcome}
 use Rattle.stm_texts.specs.declared.scenario.Scenario.{Scenario}
 use Rattle.stm_texts.specs.Reading.{scenario_in}
-use Rattle.stm_report.specs.Script.{IsRunReport, IsReportOf}
+use Rattle.stm_report.specs.Script.{IsReportOf}
 use Rattle.stm_report.specs.FormatScript.{IsRunText}
 use Rattle.stm_check.specs.declared.sources.CheckFault.{CheckFault}
 use Rattle.stm_check.specs.declared.sources.CheckFault.TheVariants.{OutOfMemory, BadScenario, BadReport, Device}
 use Rattle.stm_check.specs.Sources.{Sources}
 use Rattle.stm_report.specs.declared.whole_comparing.WholeChecked.{WholeChecked}
 use Rattle.stm_report.specs.declared.whole_comparing.WholeChecked.TheVariants.{Yes, No}
-use Rattle.stm_report.specs.WholeLines.{lines_in, first_unlike}
-use Rattle.stm_report.specs.WholeComparing.{answer_at, compared, is_yes}
+use Rattle.stm_report.specs.WholeComparing.{compared, is_yes}
 use Rattle.stm_report.specs.WholeJudging.{JudgesText, Judges}
 use Rattle.stm_report_laws.specs.WholeLaws.{AlikeIsEqual, IsSettled, YesIsTheReport}
 use Rattle.stm_report.proofs.WholeLineLemmas.{alike, own, same_lines}
@@ -21,16 +21,8 @@ use Rattle.stm_report_laws.proofs.ScriptsRead.{at_known}
 
 -- ---- alike line by line is equal
 
-no_line : (o : Option (ℕ × List ℕ)) → answer_at o ≡ Yes → o ≡ None
-no_line None says = refl
-no_line (Some p) says = absurd (true≢false (sym (ap is_yes says)))
-
 pub alike_is_equal : AlikeIsEqual
-alike_is_equal expected given = (
-  λ says.
-      same_lines expected given (alike 1 (lines_in expected) (lines_in given) (no_line (first_unlike 1 (lines_in expected) (lines_in given)) says)),
-  λ same. subst (λ (text : List ℕ). compared expected text ≡ Yes) same (ap answer_at (own 1 (lines_in expected))),
-)
+alike_is_equal expected given = grind (arith, nat_tests, same_lines, alike, own)
 
 -- ---- a scenario has one report
 
@@ -38,24 +30,15 @@ abbrev scenario_or : Outcome Scenario → Scenario → Scenario
 scenario_or (Ok s) other = s
 scenario_or (Err fault) other = other
 
-one_of_scenario : (s : Scenario) (a b : List ℕ) → IsRunReport s a → IsRunReport s b → a ≡ b
-unfolding IsRunText
-one_of_scenario s a b first second = first.0 ∙ sym second.0
-
 one_of_reading : (reading : Outcome Scenario) (a b : List ℕ) → IsReportOf reading a → IsReportOf reading b → a ≡ b
-one_of_reading reading a b (s, reads, first) (other, reads_other, second) =
-    let same : other ≡ s = ap (λ (o : Outcome Scenario). scenario_or o s) (sym reads_other ∙ reads) in
-    one_of_scenario s a b first (subst (λ (x : Scenario). IsRunReport x b) same second)
+unfolding IsRunText
+one_of_reading reading a b h4 h5 = grind (arith, nat_tests)
 
 -- ---- the law
 
 yes_means : (d : Sources) (scenario text : List ℕ) → d.scenario ≡ Some scenario → d.report ≡ Some text → Judges d (Ok Yes)
     → IsReportOf (scenario_in scenario) text
-yes_means d scenario text of_scenario of_text (none, (report, expected, reported)) =
-    let is : IsReportOf (scenario_in scenario) report =
-    at_known d.scenario scenario (λ (all : List ℕ). IsReportOf (scenario_in all) report) of_scenario expected in
-    let judged : JudgesText report text (Ok Yes) = at_known d.report text (λ (all : List ℕ). JudgesText report all (Ok Yes)) of_text reported in
-    subst (λ (t : List ℕ). IsReportOf (scenario_in scenario) t) ((alike_is_equal report text).0 (sym judged.0)) is
+yes_means d scenario text of_scenario of_text h6 = grind (arith, nat_tests, at_known, alike_is_equal)
 
 -- the text that is the report is the expected one
 expected_one : (d : Sources) (scenario text report : List ℕ) → d.scenario ≡ Some scenario

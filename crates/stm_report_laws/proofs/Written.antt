@@ -1,7 +1,7 @@
 -- What is written for plain data is read as these data.
 use Rattle.std.proofs.Common.{◌≡◌, ℕ, suc, ◌^◌, ◌<◌, ◌≤◌, max, Bool, true, cond, List, [], Option, Some, None, option_map, option_and_then}
 use Rattle.std.proofs.Common.{ℤ, pos, negsuc, IsUtf8, refl, sym, ◌∙◌, ap, subst, arith, append-nil}
-use Rattle.std.proofs.lemmas.Bool.{ltb-true}
+use Rattle.std.proofs.lemmas.Bool.{ltb-true, Decides.nat_tests}
 use Rattle.std.proofs.lemmas.Str.{is_utf8-from_IsUtf8}
 use Rattle.json.specs.Token.{Token}
 use Rattle.json.specs.Lex.{tokens}
@@ -27,8 +27,7 @@ below : (n : ℕ) → n < 2 ^ 63 → n < 2 ^ 64
 below n small = omega (arith, small)
 
 integer_read : (z : ℤ) → is_64_bit z ≡ true → number_of (number_text (of_integer z)) ≡ Some (of_integer z)
-integer_read (pos n) fits = number_of-decimal n (below n (ltb-true n (2 ^ 63) fits))
-integer_read (negsuc n) fits = number_of-negative n (ltb-true n (2 ^ 63) fits)
+integer_read z fits = grind (arith, nat_tests, number_of-decimal, below, ltb-true, number_of-negative)
 
 -- what holds of each whole number of 64 bits
 by_integer : (P : Num → Type 0) → ((z : ℤ) → is_64_bit z ≡ true → P (of_integer z)) →

@@ -4,10 +4,10 @@ use Rattle.std.proofs.Common.{inl, inr, codes}
 use Rattle.std.specs.Prelude.{ℤ, pos, ◌+ℤ◌, ◌-ℤ◌, bytes_eq, int_lt, if◌then◌else◌, Result}
 use Rattle.std.specs.List.{AllByRecursion}
 use Rattle.std.specs.Fmt.{signed_decimal}
-use Rattle.std.specs.Option.{option_map_or}
 use Rattle.std.proofs.lemmas.Int.{ints}
+use Rattle.std.proofs.lemmas.Bool.Decides.{nat_tests}
 use Rattle.stm_history.specs.declared.key_state.KeyState.{KeyState}
-use Rattle.stm_history.specs.History.{History, now, key_now, value_of as value_now, after_change, value_written}
+use Rattle.stm_history.specs.History.{History, now, key_now, value_of as value_now, after_change}
 use Rattle.stm_history.specs.declared.change.Change.{Change}
 use Rattle.stm_history.specs.declared.change.Change.TheVariants.{Put}
 use Rattle.stm_program.specs.Writes.{last_write}
@@ -16,7 +16,7 @@ use Rattle.stm_steps.specs.declared.fault.Fault.{Fault}
 use Rattle.stm_steps.specs.declared.fault.Fault.TheVariants.{Overflow}
 use Rattle.stm_steps.specs.Values.{written_number, is_in_range}
 use Rattle.stm_steps.specs.declared.run.Run.{Run}
-use Rattle.stm_steps.specs.declared.run.End.TheVariants.{Done as DoneEnd, Aborted as AbortedEnd, Faulted as FaultedEnd}
+use Rattle.stm_steps.specs.declared.run.End.TheVariants.{Done as DoneEnd}
 use Rattle.stm_steps.specs.declared.state.StateEntry.{StateEntry}
 use Rattle.stm_meaning.specs.Leaves.{value_in, value_after}
 use Rattle.stm_compile.specs.Answers.{state_now}
@@ -26,7 +26,7 @@ use Rattle.stm_entries.specs.Legal.{IsLegal, AreLegal}
 use Rattle.stm_entries.specs.Replay.{replay, replay_entry}
 use Rattle.stm_entries.specs.Replayed.{Replayed}
 use Rattle.stm_recipes.specs.Accounts.{transfer_program, deposit_program, balance_of, sum_of, total_of}
-use Rattle.stm_recipes.specs.Alone.{Deed, deed_of, aborted, put_number, put_added, or_zero, moved, moved_or_refused, transferred}
+use Rattle.stm_recipes.specs.Alone.{deed_of, aborted, put_number, put_added, or_zero, moved, moved_or_refused, transferred}
 use Rattle.stm_recipes.proofs.AccountRuns.{transfer_alone, deposit_alone, written_in_range, difference_in_range}
 use Rattle.stm_world_laws.specs.Accounts.{number_of, balance_now, sum_over, total_now, AreAccounts, IsAmong, IsTransfer, IsDeposit}
 use Rattle.stm_world_laws.specs.Accounts.{IsOfAccounts, Transfers, Deposits, Leaves, AreOfAccounts, amount_of, deposits_of, TotalsGrowByDeposits}
@@ -58,8 +58,7 @@ record Wrote (n : Reading) (before after : Replayed) (writes : List Change) : Ty
 
 wrote : (n : Reading) (before after : Replayed) (run : Run) (writes : List Change) → ((key : List ℕ) →
     read_of n after.history key ≡ balance_by n before.history (last_write key run.writes) key) → run.writes ≡ writes → Wrote n before after writes
-wrote n before after run writes left is =
-    record { balances = λ key. left key ∙ ap (λ (ws : List Change). balance_by n before.history (last_write key ws) key) is }
+wrote n before after run writes left is = grind (arith, nat_tests)
 
 -- ---- a deposit
 
@@ -69,10 +68,7 @@ record Deposited (account : List ℕ) (sum : ℤ) (run : Run) : Type 0 where
 
 deposited_by : (fits : Bool) (account : List ℕ) (sum : ℤ) (run : Run) → is_in_range sum ≡ fits → run.end ≡ DoneEnd →
     deed_of run ≡ put_number account [] (if fits then Ok sum else Err Overflow) → Deposited account sum run
-deposited_by true account sum run is ended deed = record { fits = is; writes = ap (λ (d : Deed). d.writes) deed }
-deposited_by false account sum run is ended deed =
-    let faults : run.end ≡ FaultedEnd Overflow = ap (λ (d : Deed). d.end) deed in
-    absurd (cc)
+deposited_by fits account sum run is ended deed = grind (arith, nat_tests)
 
 deposit_moves : (n : Reading) (accounts : List (List ℕ)) (e : Entry) (r : Replayed) (total : ℤ) → AreAccounts accounts → IsLegal e r → (d : IsDeposit accounts e) →
     sum_of_all n r.history accounts ≡ Some total → sum_of_all n (replay_entry e r).history accounts ≡ Some (total +ℤ pos d.amount)
@@ -110,55 +106,28 @@ record Paid (from to : List ℕ) (less sum : ℤ) (run : Run) : Type 0 where
   fits : is_in_range sum ≡ true
   writes : run.writes ≡ Put from (signed_decimal less) 0 ∷ Put to (signed_decimal sum) 0 ∷ []
 
-paid_by : (fits : Bool) (from to : List ℕ) (less sum : ℤ) (run : Run) → is_in_range sum ≡ fits → run.end ≡ DoneEnd →
-    deed_of run ≡ put_number to (Put from (signed_decimal less) 0 ∷ []) (if fits then Ok sum else Err Overflow) → Paid from to less sum run
-paid_by true from to less sum run is ended deed = record { fits = is; writes = ap (λ (d : Deed). d.writes) deed }
-paid_by false from to less sum run is ended deed =
-    let faults : run.end ≡ FaultedEnd Overflow = ap (λ (d : Deed). d.end) deed in
-    absurd (cc)
-
 -- there was enough
 pub enough_by : (short : Bool) (from to : List ℕ) (amount : ℕ) (values : List ℕ → List ℕ) (balance : ℤ) (run : Run) → run.end ≡ DoneEnd →
     deed_of run ≡ (if short then aborted (codes "insufficient") else moved from to amount values balance) →
     (short ≡ false) × (deed_of run ≡ moved from to amount values balance)
-enough_by true from to amount values balance run ended deed =
-    let aborts : run.end ≡ AbortedEnd (codes "insufficient") = ap (λ (d : Deed). d.end) deed in
-    absurd (cc)
-enough_by false from to amount values balance run ended deed = (refl, deed)
+enough_by short from to amount values balance run ended deed = grind (arith, nat_tests)
 
 -- what the paid account is seen to hold: the paying one is written before
 seen_by_payee : (from to : List ℕ) (less : ℤ) (values : List ℕ → List ℕ) →
     value_after (Put from (signed_decimal less) 0 ∷ []) values to ≡ cond (bytes_eq from to) (signed_decimal less) (values to)
-seen_by_payee from to less values =
-    ap (λ (o : Option Change). option_map_or value_written o (values to)) (last_write-one to (Put from (signed_decimal less) 0))
-    ∙ by (bytes_eq from to)
-  where
-    by : (b : Bool) → option_map_or value_written (cond b (Some (Put from (signed_decimal less) 0)) None) (values to) ≡ cond b (signed_decimal less) (values to)
-    by true = refl
-    by false = refl
+seen_by_payee from to less values = grind (arith, nat_tests, last_write-one)
 
 -- a transfer that is done, where the paid account is seen with this number
 paid_with : (from to : List ℕ) (amount : ℕ) (values : List ℕ → List ℕ) (balance seen : ℤ) (run : Run) → run.end ≡ DoneEnd →
     deed_of run ≡ moved from to amount values balance →
     written_number (cond (bytes_eq from to) (signed_decimal (balance -ℤ pos amount)) (values to)) ≡ Ok seen →
     Paid from to (balance -ℤ pos amount) (seen +ℤ pos amount) run
-paid_with from to amount values balance seen run ended deed holds =
-    let writes : List Change = Put from (signed_decimal (balance -ℤ pos amount)) 0 ∷ [] in
-    let number : written_number (value_after writes values to) ≡ Ok seen =
-    ap written_number (seen_by_payee from to (balance -ℤ pos amount) values) ∙ holds in
-    paid_by (is_in_range (seen +ℤ pos amount)) from to (balance -ℤ pos amount) (seen +ℤ pos amount) run refl ended
-    (deed ∙ ap (put_added to amount writes) number)
+paid_with from to amount values balance seen run ended deed holds = grind (arith, nat_tests, seen_by_payee)
 
 -- the last write of a key among those of a transfer
 abbrev transfer_write : List ℕ → List ℕ → ℤ → ℤ → List ℕ → Option Change
 transfer_write from to less sum key =
     or_else (cond (bytes_eq to key) (Some (Put to (signed_decimal sum) 0)) None) (cond (bytes_eq from key) (Some (Put from (signed_decimal less) 0)) None)
-
-last_of_transfer : (from to : List ℕ) (less sum : ℤ) (key : List ℕ) →
-    last_write key (Put from (signed_decimal less) 0 ∷ Put to (signed_decimal sum) 0 ∷ []) ≡ transfer_write from to less sum key
-last_of_transfer from to less sum key =
-    last_write-cons key (Put from (signed_decimal less) 0) (Put to (signed_decimal sum) 0 ∷ [])
-    ∙ ap (λ o. or_else o (cond (bytes_eq from key) (Some (Put from (signed_decimal less) 0)) None)) (last_write-one key (Put to (signed_decimal sum) 0))
 
 -- what a transfer leaves of each account
 record Moved (n : Reading) (from to : List ℕ) (less sum : ℤ) (before after : Replayed) : Type 0 where
@@ -167,22 +136,11 @@ record Moved (n : Reading) (from to : List ℕ) (less sum : ℤ) (before after :
 
 moved_as : (n : Reading) (from to : List ℕ) (less sum : ℤ) (before after : Replayed) (run : Run) → Paid from to less sum run → ((key : List ℕ) →
     read_of n after.history key ≡ balance_by n before.history (last_write key run.writes) key) → Moved n from to less sum before after
-moved_as n from to less sum before after run p left =
-    let w : Wrote n before after (Put from (signed_decimal less) 0 ∷ Put to (signed_decimal sum) 0 ∷ []) =
-    wrote n before after run (Put from (signed_decimal less) 0 ∷ Put to (signed_decimal sum) 0 ∷ []) left p.writes in
-    record {
-      fits = p.fits;
-      balances = λ key. w.balances key ∙ ap (λ (o : Option Change). balance_by n before.history o key) (last_of_transfer from to less sum key);
-    }
+moved_as n from to less sum before after run p left = grind (arith, nat_tests, wrote, last_write-cons, or_else, last_write-one)
 
 -- the paid account has the sum
 payee_has : (n : Reading) (from to : List ℕ) (less sum : ℤ) (before after : Replayed) → Moved n from to less sum before after → read_of n after.history to ≡ Some sum
-payee_has n from to less sum before after m =
-    let h : History = before.history in
-    m.balances to
-    ∙ ap (λ b. balance_by n h (or_else (cond b (Some (Put to (signed_decimal sum) 0)) None) (cond (bytes_eq from to) (Some (Put from (signed_decimal less) 0)) None)) to)
-    (bytes_eq-self to)
-    ∙ n.put (now h + 1) sum (key_now h to) m.fits
+payee_has n from to less sum before after m = grind (arith, nat_tests, or_else, bytes_eq-self)
 
 -- one account pays another
 pays_another : (n : Reading) (accounts : List (List ℕ)) (from to : List ℕ) (amount : ℕ) (balance other total : ℤ) (before after : Replayed) → AreAccounts accounts →
@@ -231,17 +189,11 @@ pays_itself n accounts from to less balance total before after are paid same has
 -- a run that is done has found a number
 pub number_found : (from to : List ℕ) (amount : ℕ) (values : List ℕ → List ℕ) (r : Result ℤ Fault) (run : Run) → run.end ≡ DoneEnd →
     deed_of run ≡ moved_or_refused from to amount values r → (z : ℤ) × (r ≡ Ok z)
-number_found from to amount values (Ok z) run ended deed = (z, refl)
-number_found from to amount values (Err fault) run ended deed =
-    let faults : run.end ≡ FaultedEnd fault = ap (λ (d : Deed). d.end) deed in
-    absurd (cc)
+number_found from to amount values r run ended deed = grind (arith, nat_tests)
 
 number_added : (key : List ℕ) (amount : ℕ) (writes : List Change) (r : Result ℤ Fault) (run : Run) → run.end ≡ DoneEnd →
     deed_of run ≡ put_added key amount writes r → (z : ℤ) × (r ≡ Ok z)
-number_added key amount writes (Ok z) run ended deed = (z, refl)
-number_added key amount writes (Err fault) run ended deed =
-    let faults : run.end ≡ FaultedEnd fault = ap (λ (d : Deed). d.end) deed in
-    absurd (cc)
+number_added key amount writes r run ended deed = grind (arith, nat_tests)
 
 -- one account or two
 transfer_by : (n : Reading) (accounts : List (List ℕ)) (from to : List ℕ) (amount : ℕ) (balance total : ℤ) (before after : Replayed) (run : Run) (one : Bool) →
@@ -326,14 +278,11 @@ entries_move n accounts (e ∷ es) r total are legal of sums =
 -- ---- the total of a state
 
 balance_of_state : (key : List ℕ) (s : Option KeyState) → balance_of (entry_now key s) ≡ number_of s
-balance_of_state key None = refl
-balance_of_state key (Some s) = refl
+balance_of_state key s = grind (arith, nat_tests)
 
 total_of_state : (h : History) (entries : List StateEntry) (accounts : List (List ℕ)) → IsStateOf h entries → total_of entries accounts ≡ total_now h accounts
 total_of_state h entries [] is = refl
-total_of_state h entries (a ∷ accounts) is =
-    ap (λ o. sum_of o (total_of entries accounts)) (ap balance_of (is a) ∙ balance_of_state a (key_now h a))
-    ∙ ap (λ o. sum_of (balance_now h a) o) (total_of_state h entries accounts is)
+total_of_state h entries (a ∷ accounts) is = grind (arith, nat_tests, balance_of_state, total_of_state h entries accounts is)
 
 pub totals_grow_by_deposits : TotalsGrowByDeposits
 totals_grow_by_deposits = record { grows = entries_move as_written; is_total = total_of_state }

@@ -1,7 +1,8 @@
 -- How the number of an account is read off its state.
-use Rattle.std.proofs.Common.{◌≡◌, ℕ, List, [], ◌∷◌, Option, Some, None, true, Ok, Err, ap}
+use Rattle.std.proofs.Common.{◌≡◌, ℕ, List, Option, Some, None, true, Ok, ap, arith}
 use Rattle.std.specs.Prelude.{ℤ, Result}
 use Rattle.std.specs.Fmt.{signed_decimal}
+use Rattle.std.proofs.lemmas.Bool.Decides.{nat_tests}
 use Rattle.stm_history.specs.declared.key_state.KeyState.{KeyState}
 use Rattle.stm_history.specs.History.{value_of as value_now, state_after_put}
 use Rattle.stm_steps.specs.declared.fault.Fault.{Fault}
@@ -15,27 +16,23 @@ use Rattle.stm_world_laws.specs.Accounts.{number_of, counted}
 -- ---- numbers as values
 
 as_number-is : (r : Result ℤ Fault) (z : ℤ) → as_number r ≡ Ok (Number z) → r ≡ Ok z
-as_number-is (Ok y) z e = cc
-as_number-is (Err fault) z e = absurd (cc)
+as_number-is r z e = grind (arith, nat_tests)
 
 pub read_back : (z : ℤ) → is_in_range z ≡ true → written_number (signed_decimal z) ≡ Ok z
 unfolding num_of
 read_back z fits = as_number-is (written_number (signed_decimal z)) z (numbers_are_read_back z fits).1
 
 pub written_is : (r : Result ℤ Fault) (z : ℤ) → written_or_none r ≡ Some z → r ≡ Ok z
-written_is (Ok y) z is = cc
-written_is (Err fault) z is = absurd (cc)
+written_is r z is = grind (arith, nat_tests)
 
 -- what an account with a number holds
 pub number_is : (s : Option KeyState) (z : ℤ) → number_of s ≡ Some z → written_number (value_now s) ≡ Ok z
-number_is None z is = absurd (cc)
-number_is (Some s) z is = written_is (written_number s.value) z is
+number_is s z is = grind (arith, nat_tests, written_is)
 
 -- the empty text is no number
 pub not_empty : (v : List ℕ) (z : ℤ) → written_number v ≡ Ok z → written_number (or_zero v) ≡ Ok z
 unfolding written_number
-not_empty [] z is = absurd (cc)
-not_empty (c ∷ cs) z is = is
+not_empty v z is = grind (arith, nat_tests)
 
 -- ---- two readings
 
@@ -49,13 +46,11 @@ pub record Reading : Type 0 where
 
 pub put_number : (revision : ℕ) (z : ℤ) (before : Option KeyState) → is_in_range z ≡ true →
     number_of (Some (state_after_put revision (signed_decimal z) 0 before)) ≡ Some z
-put_number revision z None fits = ap written_or_none (read_back z fits)
-put_number revision z (Some s) fits = ap written_or_none (read_back z fits)
+put_number revision z before fits = grind (arith, nat_tests, read_back)
 
 pub written_is_number : (s : Option KeyState) (z : ℤ) → written_number (value_now s) ≡ Ok z → number_of s ≡ Some z
 unfolding written_number
-written_is_number None z is = absurd (cc)
-written_is_number (Some s) z is = ap written_or_none is
+written_is_number s z is = grind (arith, nat_tests)
 
 -- an account has the number that is written
 abbrev pub as_written : Reading

@@ -1,5 +1,5 @@
 -- What a log says of attempts that come to nothing: from the headline, line by line.
-use Rattle.std.proofs.Common.{cond, arith, Bool, false, refl, ◌∷◌, None, Option, ◌≡◌, ℕ, ◌≤◌, List, [], Some, Ok, Err, true, sym, ◌∙◌, ap, subst}
+use Rattle.std.proofs.Common.{cond, arith, Bool, ◌∷◌, Option, ◌≡◌, ℕ, ◌≤◌, List, [], Some, Ok, Err, true, sym, ◌∙◌, ap, subst}
 use Rattle.std.specs.Prelude.{option_map, Result}
 use Rattle.stm_history.specs.declared.key_state.ReadAnswer.{ReadAnswer}
 use Rattle.stm_history.specs.History.{History, now}
@@ -11,18 +11,16 @@ use Rattle.stm_meaning.specs.Meaning.{run_over}
 use Rattle.stm_compile.specs.Answers.{state_as_of, AreTrue}
 use Rattle.stm_program.specs.Levels.{is_serializable}
 use Rattle.stm_attempt.specs.Fetches.{base_of, HaveOneBase}
-use Rattle.std.specs.List.{list_any}
 use Rattle.std.proofs.lemmas.List.Elements.{All-from_recursion}
-use Rattle.stm_history.specs.declared.change.Change.{Change}
+use Rattle.std.proofs.lemmas.Bool.Decides.{nat_tests}
 use Rattle.stm_program.specs.declared.level.Level.{Level}
 use Rattle.stm_steps.specs.declared.run.Run.{Run}
 use Rattle.stm_outcome.specs.declared.answer.FailedCompare.{FailedCompare}
-use Rattle.stm_outcome.specs.declared.refusal.Refusal.TheVariants.{LeaseNotFound, RevisionsUsedUp, TooManyOps}
-use Rattle.stm_outcome.specs.Outcome.{Done, is_used_up}
-use Rattle.stm_outcome.specs.Commits.{revision_read, turned_down, effective, is_on_dead_lease}
+use Rattle.stm_outcome.specs.declared.refusal.Refusal.TheVariants.{TooManyOps}
+use Rattle.stm_outcome.specs.Outcome.{Done}
+use Rattle.stm_outcome.specs.Commits.{revision_read}
 use Rattle.stm_outcome.specs.Terms.{Terms}
 use Rattle.stm_txn.specs.Standing.{terms_of, Setup}
-use Rattle.stm_compile.specs.CommitTxn.{reread_keys}
 use Rattle.stm_compile.specs.Committed.{sends_too_many, conflict_now, judged}
 use Rattle.stm_compile.proofs.AgreeLemmas.{answers_of_one_revision}
 use Rattle.stm_program.specs.Writes.{latest_writes}
@@ -48,28 +46,14 @@ use Rattle.stm_world.proofs.Headlines.{Follows, opened_follows}
 
 -- ---- commits that failed ----
 
--- what a commit reports as failed is its first compare that fails
-applied_fails_none : (dead used : Bool) (made done : Done) (failed : FailedCompare) → made.answer.failed ≡ None →
-    cond dead (Err LeaseNotFound) (cond used (Err RevisionsUsedUp) (Ok made)) ≡ Ok done → done.answer.failed ≡ Some failed → ⊥
-applied_fails_none true used made done failed none is some = absurd (cc)
-applied_fails_none false true made done failed none is some = absurd (cc)
-applied_fails_none false false made done failed none is some = let same : made ≡ done = cc in absurd (cc)
-
 judged_fails : (terms : Terms) (level : Level) (reads : List ReadAnswer) (run : Run) (o : Option FailedCompare) (done : Done)
     (failed : FailedCompare) → judged terms level reads run o ≡ Ok done → done.answer.failed ≡ Some failed → o ≡ Some failed
-judged_fails terms level reads run None done failed is some =
-    let h : History = terms.history in
-    let changes : List Change = latest_writes run.writes in
-    absurd (applied_fails_none (list_any (is_on_dead_lease terms.is_live) changes) (is_used_up h (effective h changes)) _ done failed refl is some)
-judged_fails terms level reads run (Some first) done failed is some =
-    let same : turned_down terms.history first (reread_keys level reads) ≡ done = cc in
-    ap (λ (d : Done). d.answer.failed) same ∙ some
+judged_fails terms level reads run o done failed is some = grind (arith, nat_tests)
 
 commit_fails : (too_many : Bool) (terms : Terms) (level : Level) (reads : List ReadAnswer) (run : Run) (o : Option FailedCompare)
     (done : Done) (failed : FailedCompare) → cond too_many (Err TooManyOps) (judged terms level reads run o) ≡ Ok done →
     done.answer.failed ≡ Some failed → o ≡ Some failed
-commit_fails true terms level reads run o done failed is some = absurd (cc)
-commit_fails false terms level reads run o done failed is some = judged_fails terms level reads run o done failed is some
+commit_fails too_many terms level reads run o done failed is some = grind (arith, nat_tests, judged_fails)
 
 -- a commit that failed by a conflict, at the number of its runner
 pub real_failure : (start : Setup) (log : List Line) (id runner : ℕ) (task : Task) (key : List ℕ) (seen now_modified : ℕ) → running id log ≡ Some task →

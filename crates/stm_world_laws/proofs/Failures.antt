@@ -1,11 +1,8 @@
 -- Over every log that a world follows, the store has moved on by as much as a run's commits have failed.
-use Rattle.std.proofs.Common.{◌≡◌, ℕ, ◌+◌, ◌≤◌, List, [], ◌∷◌, ◌++◌, Option, Some, None, Ok, Err, Bool, true, false, cond, refl, sym, ◌∙◌}
-use Rattle.std.proofs.Common.{ap, subst, arith, length}
+use Rattle.std.proofs.Common.{◌≡◌, ℕ, ◌+◌, ◌≤◌, List, [], ◌∷◌, ◌++◌, Option, Some, None, Ok, Bool, true, false, cond, refl, sym, ◌∙◌, ap, subst, arith}
 use Rattle.std.specs.Prelude.{nat_eq, ◌||◌, Result}
 use Rattle.stm_history.specs.declared.revisions.TheConstants.{HIGHEST_REVISION}
-use Rattle.stm_history.specs.Opening.{Opening}
 use Rattle.stm_history.specs.History.{History, now}
-use Rattle.stm_program.specs.Writes.{latest_writes}
 use Rattle.stm_outcome.proofs.Branching.{neither}
 use Rattle.stm_entries.specs.declared.entry.Entry.{Entry}
 use Rattle.stm_entries.specs.Laws.{AddsTo}
@@ -21,13 +18,14 @@ use Rattle.stm_events.specs.declared.refusal.Denied.{Denied}
 use Rattle.stm_events.specs.declared.reply.KeyRead.{KeyRead}
 use Rattle.stm_world.specs.Task.{Task, answer_at, after_list, after_fetch, after_conflict}
 use Rattle.stm_world.specs.Log.{Line, is_id, is_over, begun, running, started, failures, store, known_after_log, runner_started, runner_ended, runner_in_conflict}
-use Rattle.stm_world.specs.Log.{task_in, entries_reported, line_entries}
+use Rattle.stm_world.specs.Log.{entries_reported, line_entries}
 use Rattle.stm_world.specs.Right.{IsRight, IsFetch, StepIsRight, situation}
 use Rattle.stm_world.specs.World.{World, opened, replies_to, step}
 use Rattle.stm_world.specs.Doomed.{FailedCommit, failed_commit, IsRealFailure, is_of_runner, since, failed_commits, FailuresMoveOn}
 use Rattle.stm_world.proofs.Slots.{equal_numbers, same_number}
 use Rattle.std.proofs.lemmas.List.{length-append}
 use Rattle.std.proofs.lemmas.Option.{same_Some}
+use Rattle.std.proofs.lemmas.Bool.Decides.{nat_tests}
 use Rattle.stm_events.specs.Replies.{runner_named}
 use Rattle.stm_world.proofs.Untouched.{Untouched, IsFresh, by_reply, same_running, same_reported}
 use Rattle.stm_world.proofs.Following.{FollowsStep, with_line}
@@ -60,44 +58,19 @@ record IsAboutOthers (id : ℕ) (reply : Result Reply Denied) : Type 0 where
   untouched : Untouched id reply
   not_failed : is_of_runner id (failed_commit reply) ≡ false
 
-same_begun : (id : ℕ) (line : Line) (log : List Line) → Untouched id line.reply → begun id (line ∷ log) ≡ begun id log
-same_begun id line log u = ap (λ b. cond b (task_in line.event) (begun id log)) u.not_started
-
 same_least : (start : Setup) (log : List Line) (line : Line) (id : ℕ) → IsAboutOthers id line.reply → least start (line ∷ log) id ≡ least start log id
-same_least start log line id o =
-    ap (λ b. cond b (now (store start log).history) (since start id log) + failed_commits id (line ∷ log)) o.untouched.not_started
-    ∙ ap (λ b. since start id log + cond b (failed_commits id log + 1) (failed_commits id log)) o.not_failed
+same_least start log line id o = grind (arith, nat_tests)
 
 others_move_on : (start : Setup) (log : List Line) (line : Line) (id : ℕ) → Grows start log line → IsAboutOthers id line.reply → HasMovedOn start log id →
     HasMovedOn start (line ∷ log) id
-others_move_on start log line id grows o m = record {
-  counter = λ task is.
-      let before : least start log id ≤ now (store start log).history = m.counter task (sym (same_begun id line log o.untouched) ∙ is) in
-      let grown = grows.grown in
-      omega (arith, same_least start log line id o);
-  known = λ task runs.
-      subst (λ n. KnowsFrom n (known_after_log start id task (line ∷ log))) (sym (same_least start log line id o))
-      (subst (KnowsFrom (least start log id)) (sym (same_reported start id task line log o.untouched)) (m.known task (sym (same_running id line log o.untouched) ∙ runs)));
-}
+others_move_on start log line id grows o m = grind (arith, nat_tests, same_least, KnowsFrom, same_reported, same_running)
 
 -- ---- a start ----
 
 failed_by : (id failed conflicts : ℕ) (over : Bool) (reply : Result Reply Denied) → (over ≡ false → failed ≡ conflicts) →
     (is_id id (runner_ended reply) || over) ≡ false →
     cond (is_of_runner id (failed_commit reply)) (failed + 1) failed ≡ cond (is_id id (runner_in_conflict reply)) (conflicts + 1) conflicts
-failed_by id failed conflicts over (Err refusal) on none = on none
-failed_by id failed conflicts over (Ok (Conflict runner key seen now)) on none = ap (λ n. cond (nat_eq runner id) (n + 1) n) (on none)
-failed_by id failed conflicts over (Ok (GaveUp runner attempts key seen now)) on none =
-    let parts = neither (nat_eq runner id) over none in
-    ap (λ b. cond b (failed + 1) failed) parts.0 ∙ on parts.1
-failed_by id failed conflicts over (Ok (Started runner)) on none = on none
-failed_by id failed conflicts over (Ok (Prefetched runner revision reads)) on none = on none
-failed_by id failed conflicts over (Ok (Fetched runner key mod_rev of_rev revision)) on none = on none
-failed_by id failed conflicts over (Ok (Committed runner revision attempts output trace answers)) on none = on (neither (nat_eq runner id) over none).1
-failed_by id failed conflicts over (Ok (Aborted runner text)) on none = on (neither (nat_eq runner id) over none).1
-failed_by id failed conflicts over (Ok (Faulted runner fault)) on none = on (neither (nat_eq runner id) over none).1
-failed_by id failed conflicts over (Ok (Ended runner cause)) on none = on (neither (nat_eq runner id) over none).1
-failed_by id failed conflicts over _ on none = on none
+failed_by id failed conflicts over reply on none = grind (arith, nat_tests, neither)
 
 -- of a run that is not over only conflicts were reported as failures
 none_failed : (id : ℕ) (log : List Line) → is_over id log ≡ false → failed_commits id log ≡ failures id log
@@ -107,20 +80,12 @@ none_failed id (line ∷ log) none = failed_by id (failed_commits id log) (failu
 started_moves_on : (start : Setup) (log : List Line) (task : Task) (id : ℕ) → IsFresh start log id →
     Grows start log (record { event = Start task.program task.level task.limit; reply = Ok (Started id) }) →
     HasMovedOn start (with_line (Start task.program task.level task.limit) (Ok (Started id)) log) id
-started_moves_on start log task id fresh grows =
-    let line : Line = record { event = Start task.program task.level task.limit; reply = Ok (Started id) } in
-    let here : since start id (line ∷ log) ≡ now (store start log).history =
-    ap (λ b. cond b (now (store start log).history) (since start id log)) (same_number id) in
-    record {
-      counter = λ other is. let grown = grows.grown in omega (arith, none_failed id log fresh.not_over ∙ fresh.no_failures, here);
-      known = λ other runs. subst (KnowsFrom (least start (line ∷ log) id)) (sym (fresh.nothing other)) (tt, tt);
-    }
+started_moves_on start log task id fresh grows = grind (arith, nat_tests, same_number, none_failed, KnowsFrom)
 
 -- ---- a step of the runner ----
 
 is_begun : (over : Bool) (o : Option Task) (task : Task) → cond over None o ≡ Some task → o ≡ Some task
-is_begun true o task is = absurd (cc)
-is_begun false o task is = is
+is_begun over o task is = grind (arith, nat_tests)
 
 fetched_moves_on : (start : Setup) (log : List Line) (id : ℕ) (task : Task) (key : List ℕ) (mod_rev of_rev revision : ℕ) → running id log ≡ Some task →
     IsFetch (situation start log id task) key mod_rev of_rev revision →
@@ -161,16 +126,7 @@ prefetched_moves_on start log id task revision reads runs grows m =
 failure_moves_on : (start : Setup) (log : List Line) (id : ℕ) (task : Task) (failed : FailedCommit) → failed.runner ≡ id → running id log ≡ Some task →
     IsRealFailure start log failed → now (store start log).history ≤ HIGHEST_REVISION → HasMovedOn start log id →
     least start log id + 1 ≤ now (store start log).history
-failure_moves_on start log id task failed same runs real low m =
-    let at : running failed.runner log ≡ Some task = subst (λ n. running n log ≡ Some task) (sym same) runs in
-    let is : real.task ≡ task = same_Some real.task task (sym real.runs ∙ at) in
-    let reached : least start log id ≤ now (store start log).history = m.counter task (is_begun (is_over id log) (begun id log) task runs) in
-    let knows : KnowsFrom (least start log id) (known_after_log start failed.runner real.task log) =
-    subst (λ n. KnowsFrom (least start log id) (known_after_log start n real.task log)) (sym same)
-    (subst (λ (t : Task). KnowsFrom (least start log id) (known_after_log start id t log)) (sym is) (m.known task runs)) in
-    conflict_moves_on (least start log id) (store start log).history (known_after_log start failed.runner real.task log).reads
-    (latest_writes real.run.writes) real.named.conflict.seen real.named.compare.index real.named.conflict.seen.key (omega arith) knows.0
-    real.named.conflict.about real.named.conflict.changed
+failure_moves_on start log id task failed same runs real low m = grind (arith, nat_tests, same_Some, is_begun, KnowsFrom, conflict_moves_on)
 
 conflict_by : (start : Setup) (log : List Line) (id : ℕ) (task : Task) (key : List ℕ) (seen now_modified : ℕ) → running id log ≡ Some task →
     least start log id + 1 ≤ now (store start log).history → HasMovedOn start (with_line (Step id) (Ok (Conflict id key seen now_modified)) log) id
@@ -191,22 +147,12 @@ conflict_by start log id task key seen now_modified runs above =
 -- a run that is over knows nothing any more
 over_by : (start : Setup) (log : List Line) (line : Line) (id : ℕ) (task : Task) → is_id id (runner_ended line.reply) ≡ true →
     least start (line ∷ log) id ≤ now (store start (line ∷ log)).history → HasMovedOn start (line ∷ log) id
-over_by start log line id task ended reached = record {
-  counter = λ other is. reached;
-  known = λ other runs.
-      let none : running id (line ∷ log) ≡ None = ap (λ b. cond (b || is_over id log) None (begun id (line ∷ log))) ended in
-      absurd (cc);
-}
+over_by start log line id task ended reached = grind (arith, nat_tests)
 
 gave_up_by : (start : Setup) (log : List Line) (id : ℕ) (task : Task) (attempts : ℕ) (key : List ℕ) (seen now_modified : ℕ) →
     least start log id + 1 ≤ now (store start log).history →
     HasMovedOn start (with_line (Step id) (Ok (GaveUp id attempts key seen now_modified)) log) id
-gave_up_by start log id task attempts key seen now_modified above =
-    let line : Line = record { event = Step id; reply = Ok (GaveUp id attempts key seen now_modified) } in
-    let more : failed_commits id (line ∷ log) ≡ failed_commits id log + 1 =
-    ap (λ b. cond b (failed_commits id log + 1) (failed_commits id log)) (same_number id) in
-    let reached : least start (line ∷ log) id ≤ now (store start log).history = omega (arith, more) in
-    over_by start log line id task (same_number id) reached
+gave_up_by start log id task attempts key seen now_modified above = grind (arith, nat_tests, same_number, over_by)
 
 -- ---- each event ----
 
@@ -218,11 +164,7 @@ about_others id other reply named failed = record { untouched = by_reply other r
 all_move_on : (start : Setup) (log : List Line) (line : Line) (id : ℕ) → Grows start log line → ((other : ℕ) → HasMovedOn start log other) →
     ((other : ℕ) → nat_eq id other ≡ false → IsAboutOthers other line.reply) → HasMovedOn start (line ∷ log) id →
     (other : ℕ) → HasMovedOn start (line ∷ log) other
-all_move_on start log line id grows all about own other =
-    elim (nat_eq id other) as (λ b. nat_eq id other ≡ b → HasMovedOn start (line ∷ log) other) [
-      | true ↦ λ is. subst (HasMovedOn start (line ∷ log)) (equal_numbers id other is) own
-      | false ↦ λ is. others_move_on start log line other grows (about other is) (all other)
-    ] refl
+all_move_on start log line id grows all about own other = grind (arith, nat_tests, equal_numbers, others_move_on)
 
 -- what a line with this reply to a runner's step leads to
 abbrev MovesOn : Setup → List Line → ℕ → Result Reply Denied → Type 0
@@ -233,14 +175,7 @@ MovesOn start log id reply =
 ends_by : (start : Setup) (log : List Line) (id : ℕ) (task : Task) (reply : Reply) → running id log ≡ Some task → is_id id (runner_ended (Ok reply)) ≡ true →
     runner_started (Ok reply) ≡ None → failed_commit (Ok reply) ≡ None → HasMovedOn start log id →
     Grows start log (record { event = Step id; reply = Ok reply }) → HasMovedOn start (with_line (Step id) (Ok reply) log) id
-ends_by start log id task reply runs ended not_started not_failed m grows =
-    let line : Line = record { event = Step id; reply = Ok reply } in
-    let before : least start log id ≤ now (store start log).history = m.counter task (is_begun (is_over id log) (begun id log) task runs) in
-    let same : least start (line ∷ log) id ≡ least start log id =
-    ap (λ (o : Option ℕ). cond (is_id id o) (now (store start log).history) (since start id log) + failed_commits id (line ∷ log)) not_started
-    ∙ ap (λ (o : Option FailedCommit). since start id log + cond (is_of_runner id o) (failed_commits id log + 1) (failed_commits id log)) not_failed in
-    let grown = grows.grown in
-    over_by start log line id task ended (omega (arith, same))
+ends_by start log id task reply runs ended not_started not_failed m grows = grind (arith, nat_tests, is_begun, over_by)
 
 step_moves_on : (start : Setup) (log : List Line) (id : ℕ) (task : Task) (reply : Result Reply Denied) → running id log ≡ Some task →
     StepIsRight (situation start log id task) reply → ((other : ℕ) → HasMovedOn start log other) → MovesOn start log id reply
@@ -307,15 +242,10 @@ event_moves_on start log w event reply f right all =
 -- ---- whole runs ----
 
 store_low : (start : Setup) (log : List Line) (w : World) → Follows start log w → start.revision ≤ HIGHEST_REVISION → now (store start log).history ≤ HIGHEST_REVISION
-store_low start log w f low =
-    subst (λ (r : Replayed). now r.history ≤ HIGHEST_REVISION) f.at.replays (replay_stays_low w.entries (opening start.revision) f.at.legal (omega arith))
+store_low start log w f low = grind (arith, nat_tests, replay_stays_low)
 
 adds_up : (before after : History) → AddsTo before after → now before ≤ now after
-adds_up before after adds =
-    let same : after.opening.number ≡ before.opening.number = ap (λ (o : Opening). o.number) adds.opening in
-    let count : length after.revisions ≡ length adds.added + length before.revisions =
-    ap length adds.revisions ∙ length-append adds.added before.revisions in
-    omega (arith, same, count)
+adds_up before after adds = grind (arith, nat_tests, length-append)
 
 store_grows : (start : Setup) (log : List Line) (w : World) (event : WorldEvent) → Follows start log w → FollowsStep start log event (step event w) →
     now (store start log).history ≤ now (store start (with_line event (step event w).reply log)).history

@@ -1,8 +1,9 @@
 -- What a commit leaves of a key, by the last write of the key.
-use Rattle.std.proofs.Common.{◌≡◌, ℕ, ◌+◌, List, [], ◌∷◌, Option, Some, None, Bool, true, false, cond, refl, sym, ◌∙◌, ap, subst, arith}
+use Rattle.std.proofs.Common.{◌≡◌, ℕ, ◌+◌, List, [], ◌∷◌, Option, Some, None, Bool, true, cond, sym, ◌∙◌, ap, subst, arith}
 use Rattle.std.specs.Prelude.{bytes_eq}
+use Rattle.std.proofs.lemmas.Bool.Decides.{nat_tests}
 use Rattle.stm_history.specs.declared.change.Change.{Change}
-use Rattle.stm_history.specs.History.{History, now, key_now, key_of, change_of, add_revision, after_change, HasDistinctKeys}
+use Rattle.stm_history.specs.History.{History, now, key_now, key_of, change_of, after_change, HasDistinctKeys}
 use Rattle.stm_history.proofs.HistoryLaws.{one_more_revision}
 use Rattle.stm_program.specs.Writes.{last_write, latest_writes}
 use Rattle.stm_program.proofs.WriteLemmas.{bytes_eq-same, or_else, last_write-none, last_write-one, last_write-append}
@@ -24,9 +25,7 @@ last_write-cons key w ws = last_write-append key (w ∷ []) ws ∙ ap (λ o. or_
 
 first_is_last : (here : Bool) (w : Change) (later : Option Change) → (here ≡ true → later ≡ None) →
     cond here (Some w) later ≡ or_else later (cond here (Some w) None)
-first_is_last true w later alone = sym (ap (λ o. or_else o (Some w)) (alone refl))
-first_is_last false w None alone = refl
-first_is_last false w (Some x) alone = refl
+first_is_last here w later alone = grind (arith, nat_tests, or_else)
 
 -- where no key is changed twice, a key's change is its last write
 change_is_last : (key : List ℕ) (ws : List Change) → HasDistinctKeys ws → change_of key ws ≡ last_write key ws
@@ -41,10 +40,7 @@ change_is_last key (w ∷ ws) distinct =
 
 after_changes : (h : History) (cs : List Change) (key : List ℕ) →
     key_now (with_changes h cs) key ≡ after_change (now h + 1) (change_of key cs) (key_now h key)
-after_changes h [] key = refl
-after_changes h (c ∷ cs) key =
-    one_more_revision h (c ∷ cs) key
-    ∙ ap (λ n. after_change n (change_of key (c ∷ cs)) (key_now h key)) (let step : now (add_revision h (c ∷ cs)) ≡ now h + 1 = omega arith in step)
+after_changes h cs key = grind (arith, nat_tests, one_more_revision)
 
 -- the change of a key that its last write is
 abbrev pub change_by : History → Option Change → Option Change

@@ -1,22 +1,21 @@
 -- A run's commits fail only as often as the store's revision grows since its start.
-use Rattle.std.proofs.Common.{◌≡◌, ℕ, ◌+◌, ◌<◌, ◌≤◌, zero, suc, List, [], ◌∷◌, ◌++◌, map, Some, Bool, true, false, cond, refl, sym, subst, arith}
-use Rattle.std.specs.Prelude.{nat_eq, nat_lt, min, fold, ◌&&◌, ◌||◌, is_some, slice_get}
+use Rattle.std.proofs.Common.{◌≡◌, ℕ, ◌+◌, ◌<◌, ◌≤◌, zero, suc, List, [], ◌∷◌, ◌++◌, map, Some, Bool, true, sym, subst, arith}
+use Rattle.std.specs.Prelude.{nat_lt, min, fold, ◌&&◌, ◌||◌, slice_get}
 use Rattle.std.specs.List.{AllByRecursion}
-use Rattle.std.proofs.lemmas.Bool.{ltb-true}
+use Rattle.std.proofs.lemmas.Bool.{ltb-true, Decides.nat_tests}
 use Rattle.stm_history.specs.declared.change.Change.{Change}
 use Rattle.stm_history.specs.declared.key_state.ReadAnswer.{ReadAnswer}
 use Rattle.stm_history.specs.declared.revisions.TheConstants.{HIGHEST_REVISION}
-use Rattle.stm_history.specs.Opening.{Opening, opened_state}
-use Rattle.stm_history.specs.History.{History, now, number_of_last, change_of, mod_of}
+use Rattle.stm_history.specs.Opening.{Opening}
+use Rattle.stm_history.specs.History.{History, now, number_of_last}
 use Rattle.stm_history.proofs.HistoryLaws.{mod_is_reached}
 use Rattle.stm_program.specs.declared.level.Level.{Level}
 use Rattle.stm_outcome.specs.Commits.{revision_read}
-use Rattle.stm_program.specs.Levels.{is_serializable}
 use Rattle.stm_compile.specs.Answers.{answer_now}
 use Rattle.stm_compile.specs.CommitTxn.{first_carried, reread_keys}
 use Rattle.stm_compile.specs.Conflicts.{Seen, seen_by, seen_of_read, seen_of_write, changes_above, IsChangedAbove}
 use Rattle.stm_attempt.specs.Known.{Known}
-use Rattle.stm_attempt.specs.Fetches.{base_of, at_of}
+use Rattle.stm_attempt.specs.Fetches.{at_of}
 use Rattle.stm_world.specs.Task.{Task, answer_at, after_list, after_fetch, after_conflict}
 use Rattle.stm_world.proofs.Served.{one_more, served_all}
 
@@ -36,16 +35,7 @@ KnowsFrom lowest known = AreFrom lowest known.reads × AreFrom lowest known.pref
 
 base_from : (lowest : ℕ) (h : History) (level : Level) (reads : List ReadAnswer) → lowest ≤ now h → AreFrom lowest reads →
     lowest ≤ revision_read h (at_of level reads)
-base_from lowest h level reads reached are = by_level (is_serializable level) reads are
-  where
-    shows : (zero : Bool) (r : ℕ) → lowest ≤ r → lowest ≤ cond zero (now h) r
-    shows true r from = reached
-    shows false r from = from
-
-    by_level : (serializable : Bool) (reads : List ReadAnswer) → AreFrom lowest reads → lowest ≤ revision_read h (cond serializable (base_of reads) 0)
-    by_level true [] are = reached
-    by_level true (a ∷ reads) are = shows (nat_eq a.of_rev 0) a.of_rev are.0.0
-    by_level false reads are = reached
+base_from lowest h level reads reached are = grind (arith, nat_tests)
 
 pub fetched_from : (lowest : ℕ) (h : History) (task : Task) (key : List ℕ) (of_rev : ℕ) (known : Known) → lowest ≤ now h →
     of_rev ≡ revision_read h (at_of task.level known.reads) → KnowsFrom lowest known → KnowsFrom lowest (after_fetch task (answer_at h key of_rev) known)
@@ -94,8 +84,7 @@ least_from lowest least [] from are = from
 least_from lowest least (a ∷ answers) from are = least_from lowest (min least a.revision) answers (let other : lowest ≤ a.revision = are.0.1 in omega arith) are.1
 
 first_from : (lowest : ℕ) (reads : List ReadAnswer) → lowest ≤ HIGHEST_REVISION → AreFrom lowest reads → lowest ≤ first_carried reads
-first_from lowest [] low are = low
-first_from lowest (a ∷ reads) low are = least_from lowest a.revision reads are.0.1 are.1
+first_from lowest reads low are = grind (arith, nat_tests, least_from)
 
 seen_from : (lowest : ℕ) (reads : List ReadAnswer) (writes : List Change) → lowest ≤ HIGHEST_REVISION → AreFrom lowest reads → SeenFrom lowest (seen_by reads writes)
 seen_from lowest reads writes low are =
@@ -111,26 +100,14 @@ seen_at_index P (x ∷ xs) (suc index) seen all found = seen_at_index P xs index
 above_by : (opening : Opening) (r : ℕ) (above here later : Bool) (changes : List Change) (older : List (List Change)) →
     nat_lt r (number_of_last opening (changes ∷ older)) ≡ above → (later ≡ true → r < number_of_last opening older) →
     ((above && here) || later) ≡ true → r < number_of_last opening (changes ∷ older)
-above_by opening r true here later changes older is goes changed = ltb-true r (number_of_last opening (changes ∷ older)) is
-above_by opening r false here later changes older is goes changed =
-    let low : r < number_of_last opening older = goes changed in
-    let step : number_of_last opening (changes ∷ older) ≡ number_of_last opening older + 1 = omega arith in
-    omega arith
+above_by opening r above here later changes older is goes changed = grind (arith, nat_tests, ltb-true)
 
 pub above_all : (opening : Opening) (r : ℕ) (key : List ℕ) (revisions : List (List Change)) → changes_above opening r key revisions ≡ true →
     r < number_of_last opening revisions
-above_all opening r key [] changed =
-    let above : r < mod_of (opened_state opening key) = ltb-true r (mod_of (opened_state opening key)) changed in
-    let reached : mod_of (opened_state opening key) ≤ number_of_last opening [] = mod_is_reached opening key [] in
-    omega arith
-above_all opening r key (changes ∷ older) changed =
-    above_by opening r (nat_lt r (number_of_last opening (changes ∷ older))) (is_some (change_of key changes)) (changes_above opening r key older)
-    changes older refl (above_all opening r key older) changed
+above_all opening r key [] changed = grind (arith, nat_tests, ltb-true, mod_is_reached)
+above_all opening r key (changes ∷ older) changed = grind (arith, nat_tests, above_by, above_all opening r key older)
 
 -- after a conflict the store is above all that the attempt has seen
 pub conflict_moves_on : (lowest : ℕ) (h : History) (reads : List ReadAnswer) (writes : List Change) (seen : Seen) (index : ℕ) (key : List ℕ) →
     lowest ≤ HIGHEST_REVISION → AreFrom lowest reads → slice_get (seen_by reads writes) index ≡ Some seen → IsChangedAbove h seen.at key → lowest + 1 ≤ now h
-conflict_moves_on lowest h reads writes seen index key low are among changed =
-    let from : lowest ≤ seen.at = seen_at_index (λ (s : Seen). lowest ≤ s.at) (seen_by reads writes) index seen (seen_from lowest reads writes low are) among in
-    let above : seen.at < now h = above_all h.opening seen.at key h.revisions changed in
-    omega arith
+conflict_moves_on lowest h reads writes seen index key low are among changed = grind (arith, nat_tests, seen_at_index, seen_from, above_all)

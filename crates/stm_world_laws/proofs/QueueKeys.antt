@@ -1,8 +1,8 @@
 -- The keys of a queue are apart, and how their counts are spelled.
-use Rattle.std.proofs.Common.{◌≡◌, ◌≢◌, ℕ, ◌^◌, ◌<◌, List, [], ◌∷◌, ◌++◌, length, true, false, Ok, Err, refl, sym, ◌∙◌, ap, append_assoc, arith, codes}
-use Rattle.std.specs.Prelude.{ℤ, pos, bytes_eq, get_or, Result}
+use Rattle.std.proofs.Common.{◌≡◌, ◌≢◌, ℕ, ◌^◌, ◌<◌, List, ◌++◌, length, true, false, Ok, Err, refl, sym, ◌∙◌, ap, append_assoc, arith, codes}
+use Rattle.std.specs.Prelude.{ℤ, pos, bytes_eq, Result}
 use Rattle.std.specs.Fmt.{decimal}
-use Rattle.std.proofs.lemmas.Bool.{lt-ltb}
+use Rattle.std.proofs.lemmas.Bool.{lt-ltb, Decides.nat_tests}
 use Rattle.std.proofs.lemmas.List.{append_cancel_left}
 use Rattle.std.proofs.lemmas.Fmt.{decimal_is_IsNumeral}
 use Rattle.stm_program.proofs.WriteLemmas.{bytes_eq-same, bytes_eq-self}
@@ -46,56 +46,36 @@ head_is : (queue : List ℕ) → head_key queue ≡ items_key queue ++ codes "he
 head_is queue = sym (append_assoc queue (codes "/") (codes "head"))
 
 pub keys_differ : (a b : List ℕ) → a ≢ b → bytes_eq a b ≡ false
-keys_differ a b ne =
-    elim (bytes_eq a b) as (λ x. bytes_eq a b ≡ x → x ≡ false) [
-      | true ↦ λ is. absurd (ne (bytes_eq-same a b is))
-      | false ↦ λ is. refl
-    ] refl
+keys_differ a b ne = grind (arith, nat_tests, bytes_eq-same)
 
 pub tail_head_apart : (queue : List ℕ) → bytes_eq (tail_key queue) (head_key queue) ≡ false
-tail_head_apart queue = keys_differ (tail_key queue) (head_key queue) (λ same.
-    let ends : codes "tail" ≡ codes "head" = append_cancel_left (items_key queue) (codes "tail") (codes "head") (sym (tail_is queue) ∙ same ∙ head_is queue) in
-    absurd (omega (arith, ap (λ (l : List ℕ). get_or l 0 0) ends)))
+tail_head_apart queue = grind (arith, nat_tests, keys_differ, append_cancel_left, tail_is, head_is)
 
 pub head_tail_apart : (queue : List ℕ) → bytes_eq (head_key queue) (tail_key queue) ≡ false
-head_tail_apart queue = keys_differ (head_key queue) (tail_key queue) (λ same.
-    let ends : codes "head" ≡ codes "tail" = append_cancel_left (items_key queue) (codes "head") (codes "tail") (sym (head_is queue) ∙ same ∙ tail_is queue) in
-    absurd (omega (arith, ap (λ (l : List ℕ). get_or l 0 0) ends)))
+head_tail_apart queue = grind (arith, nat_tests, keys_differ, append_cancel_left, head_is, tail_is)
 
 pub tail_place_apart : (queue : List ℕ) (n : ℕ) → n < 2 ^ 63 → bytes_eq (tail_key queue) (place_of queue n) ≡ false
-tail_place_apart queue n small = keys_differ (tail_key queue) (place_of queue n) (λ same.
-    no_number_read n (codes "tail") small tail_no_number
-    (append_cancel_left (items_key queue) (decimal n) (codes "tail") (sym same ∙ tail_is queue)))
+tail_place_apart queue n small = grind (arith, nat_tests, keys_differ, no_number_read, tail_no_number, append_cancel_left, tail_is)
 
 pub head_place_apart : (queue : List ℕ) (n : ℕ) → n < 2 ^ 63 → bytes_eq (head_key queue) (place_of queue n) ≡ false
-head_place_apart queue n small = keys_differ (head_key queue) (place_of queue n) (λ same.
-    no_number_read n (codes "head") small head_no_number
-    (append_cancel_left (items_key queue) (decimal n) (codes "head") (sym same ∙ head_is queue)))
+head_place_apart queue n small = grind (arith, nat_tests, keys_differ, no_number_read, head_no_number, append_cancel_left, head_is)
 
 pub place_tail_apart : (queue : List ℕ) (n : ℕ) → n < 2 ^ 63 → bytes_eq (place_of queue n) (tail_key queue) ≡ false
-place_tail_apart queue n small = keys_differ (place_of queue n) (tail_key queue) (λ same.
-    no_number_read n (codes "tail") small tail_no_number
-    (append_cancel_left (items_key queue) (decimal n) (codes "tail") (same ∙ tail_is queue)))
+place_tail_apart queue n small = grind (arith, nat_tests, keys_differ, no_number_read, tail_no_number, append_cancel_left, tail_is)
 
 pub place_head_apart : (queue : List ℕ) (n : ℕ) → n < 2 ^ 63 → bytes_eq (place_of queue n) (head_key queue) ≡ false
-place_head_apart queue n small = keys_differ (place_of queue n) (head_key queue) (λ same.
-    no_number_read n (codes "head") small head_no_number
-    (append_cancel_left (items_key queue) (decimal n) (codes "head") (same ∙ head_is queue)))
+place_head_apart queue n small = grind (arith, nat_tests, keys_differ, no_number_read, head_no_number, append_cancel_left, head_is)
 
 pub places_apart : (queue : List ℕ) (m n : ℕ) → m < 2 ^ 63 → n < 2 ^ 63 → m ≢ n → bytes_eq (place_of queue m) (place_of queue n) ≡ false
-places_apart queue m n small other ne = keys_differ (place_of queue m) (place_of queue n) (λ same.
-    ne (decimal_same m n small other (append_cancel_left (items_key queue) (decimal m) (decimal n) same)))
+places_apart queue m n small other ne = grind (arith, nat_tests, keys_differ, decimal_same, append_cancel_left)
 
 pub decimals_apart : (m n : ℕ) → m < 2 ^ 63 → n < 2 ^ 63 → bytes_eq (decimal m) (decimal n) ≡ false → m ≢ n
-decimals_apart m n small other apart same =
-    let is : bytes_eq (decimal m) (decimal n) ≡ true = ap (λ k. bytes_eq (decimal m) (decimal k)) (sym same) ∙ bytes_eq-self (decimal m) in
-    absurd (cc)
+decimals_apart m n small other apart same = grind (arith, nat_tests, bytes_eq-self)
 
 -- ---- counts
 
 or_zero_long : (t : List ℕ) → 0 < length t → or_zero t ≡ t
-or_zero_long [] long = absurd (omega arith)
-or_zero_long (c ∷ cs) long = refl
+or_zero_long t long = grind (arith, nat_tests)
 
 pub or_zero_decimal : (n : ℕ) → n < 2 ^ 63 → or_zero (decimal n) ≡ decimal n
 or_zero_decimal n small = or_zero_long (decimal n) (decimal_is_IsNumeral n (omega arith)).0.0

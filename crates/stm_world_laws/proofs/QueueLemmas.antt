@@ -1,10 +1,10 @@
 -- Queues over entries: one entry keeps the items in order, and so do all.
-use Rattle.std.proofs.Common.{◌≡◌, ℕ, ◌+◌, ◌^◌, ◌<◌, ◌≤◌, List, [], ◌∷◌, ◌++◌, length, Option, Some, None, Bool, true, false, cond, Ok, Err, refl, sym, ◌∙◌}
+use Rattle.std.proofs.Common.{◌≡◌, ℕ, ◌+◌, ◌^◌, ◌<◌, ◌≤◌, List, [], ◌∷◌, ◌++◌, length, Option, Some, None, Bool, false, cond, refl, sym, ◌∙◌}
 use Rattle.std.proofs.Common.{ap, subst, append_assoc, arith, codes}
 use Rattle.std.proofs.lemmas.List.{append-nil, length-append}
-use Rattle.std.specs.Prelude.{ℤ, pos, ◌+ℤ◌, bytes_eq, nat_le, if◌then◌else◌, Result}
+use Rattle.std.specs.Prelude.{ℤ, bytes_eq, nat_le, if◌then◌else◌, Result}
 use Rattle.std.specs.Fmt.{decimal, digits}
-use Rattle.std.proofs.lemmas.Bool.{ltb-true}
+use Rattle.std.proofs.lemmas.Bool.{ltb-true, Decides.nat_tests}
 use Rattle.std.proofs.lemmas.Int.{ints}
 use Rattle.stm_history.specs.declared.key_state.KeyState.{KeyState}
 use Rattle.stm_history.specs.History.{History, now, key_now, value_of as value_now, after_change, state_after_put, key_of}
@@ -13,12 +13,12 @@ use Rattle.stm_history.specs.declared.change.Change.TheVariants.{Put, Del}
 use Rattle.stm_program.specs.Writes.{last_write}
 use Rattle.stm_program.proofs.WriteLemmas.{bytes_eq-self, or_else, last_write-one}
 use Rattle.stm_steps.specs.declared.fault.Fault.{Fault}
-use Rattle.stm_steps.specs.declared.fault.Fault.TheVariants.{Overflow, TextTooLong}
+use Rattle.stm_steps.specs.declared.fault.Fault.TheVariants.{TextTooLong}
 use Rattle.stm_steps.specs.declared.value.Value.{Value}
 use Rattle.stm_steps.specs.declared.value.Value.TheVariants.{Text}
-use Rattle.stm_steps.specs.Values.{written_number, is_in_range, longest_text}
+use Rattle.stm_steps.specs.Values.{written_number, longest_text}
 use Rattle.stm_steps.specs.declared.run.Run.{Run}
-use Rattle.stm_steps.specs.declared.run.End.TheVariants.{Done as DoneEnd, Aborted as AbortedEnd, Faulted as FaultedEnd}
+use Rattle.stm_steps.specs.declared.run.End.TheVariants.{Done as DoneEnd}
 use Rattle.stm_meaning.specs.Leaves.{value_in}
 use Rattle.stm_compile.specs.Answers.{state_now}
 use Rattle.stm_entries.specs.declared.entry.Entry.{Entry}
@@ -27,11 +27,10 @@ use Rattle.stm_entries.specs.Replay.{replay, replay_entry}
 use Rattle.stm_entries.specs.Replayed.{Replayed}
 use Rattle.stm_recipes.specs.Names.{head_key, tail_key, items_key}
 use Rattle.stm_recipes.specs.Queues.{enqueue_program, dequeue_program}
-use Rattle.stm_recipes.specs.Alone.{Deed, deed_of, aborted, faulted, put_number, put_added, or_zero, put_at, emitting, taken_or_refused}
+use Rattle.stm_recipes.specs.Alone.{deed_of, aborted, faulted, put_added, or_zero, put_at, emitting, taken_or_refused}
 use Rattle.stm_recipes.proofs.QueueRuns.{enqueue_alone, dequeue_alone}
 use Rattle.stm_world_laws.specs.Queues.{IsCount, Absent, Spelled, place_of, IsItem, AreItems, HoldsItems, IsEnqueue, IsDequeue, LeavesQueue, IsOfQueue, Enqueues}
-use Rattle.stm_world_laws.specs.Queues.{Dequeues, Leaves, texts_of, output_of, added_by, taken_by, all_added, all_taken, Kept}
-use Rattle.stm_world_laws.specs.Queues.{QueuesKeepTheirItems}
+use Rattle.stm_world_laws.specs.Queues.{Dequeues, Leaves, texts_of, output_of, added_by, taken_by, all_added, all_taken, Kept, QueuesKeepTheirItems}
 use Rattle.stm_world_laws.proofs.CommitLemmas.{Committed, committed, output_reported, now_is_known}
 use Rattle.stm_world_laws.proofs.KeyLemmas.{last_write-cons, change_by, left_of_key}
 use Rattle.stm_world_laws.proofs.QueueKeys.{decimal_read, tail_head_apart, head_tail_apart, tail_place_apart, head_place_apart, place_tail_apart}
@@ -39,16 +38,10 @@ use Rattle.stm_world_laws.proofs.QueueKeys.{place_head_apart, places_apart, deci
 
 -- ---- counts
 
-zero_spelled : codes "0" ≡ decimal 0
-unfolding digits
-zero_spelled = refl
-
 -- the text that a recipe sees of a count
 count_text : (h : History) (key : List ℕ) (n : ℕ) → n < 2 ^ 63 → IsCount h key n → or_zero (value_now (key_now h key)) ≡ decimal n
-count_text h key n small (Absent none zero) =
-    ap (λ (s : Option KeyState). or_zero (value_now s)) none ∙ zero_spelled ∙ ap decimal (sym zero)
-count_text h key n small (Spelled s is value) =
-    ap (λ (o : Option KeyState). or_zero (value_now o)) is ∙ ap or_zero value ∙ or_zero_decimal n small
+unfolding digits
+count_text h key n small h5 = grind (arith, nat_tests, or_zero_decimal)
 
 count_stays : (before after : History) (key : List ℕ) (n : ℕ) → key_now after key ≡ key_now before key → IsCount before key n → IsCount after key n
 count_stays before after key n same (Absent none zero) = Absent (same ∙ none) zero
@@ -63,16 +56,12 @@ item_stays before after queue n item same i = record { state = i.state; is = sam
 items_stay : (before after : History) (queue : List ℕ) (n top : ℕ) (items : List (List ℕ)) → n + length items ≡ top →
     ((m : ℕ) → n ≤ m → m < top → key_now after (place_of queue m) ≡ key_now before (place_of queue m)) → AreItems before queue n items → AreItems after queue n items
 items_stay before after queue n top [] count same are = tt
-items_stay before after queue n top (item ∷ items) count same are = (
-  item_stays before after queue n item (same n (omega arith) (omega (arith, count))) are.0,
-  items_stay before after queue (n + 1) top items (omega (arith, count)) (λ m low high. same m (omega arith) high) are.1,
-)
+items_stay before after queue n top (item ∷ items) count same are =
+    grind (arith, nat_tests, item_stays, items_stay before after queue (n + 1) top items (omega (arith, count)) (λ m low high. same m (omega arith) high) are.1)
 
 one_more_item : (h : History) (queue : List ℕ) (n top : ℕ) (items : List (List ℕ)) (item : List ℕ) → n + length items ≡ top → AreItems h queue n items →
     IsItem h queue top item → AreItems h queue n (items ++ item ∷ [])
-one_more_item h queue n top [] item count are last =
-    let same : top ≡ n = omega (arith, count) in
-    (subst (λ m. IsItem h queue m item) same last, tt)
+one_more_item h queue n top [] item count are last = grind (arith, nat_tests)
 one_more_item h queue n top (x ∷ items) item count are last =
     (are.0, one_more_item h queue (n + 1) top items item (omega (arith, count)) are.1 last)
 
@@ -88,11 +77,6 @@ record Left (before after : History) (run : Run) : Type 0 where
 abbrev last_of_two : Change → Change → List ℕ → Option Change
 last_of_two first second key = or_else (cond (bytes_eq (key_of second) key) (Some second) None) (cond (bytes_eq (key_of first) key) (Some first) None)
 
-two_writes : (first second : Change) (key : List ℕ) → last_write key (first ∷ second ∷ []) ≡ last_of_two first second key
-two_writes first second key =
-    last_write-cons key first (second ∷ [])
-    ∙ ap (λ o. or_else o (cond (bytes_eq (key_of first) key) (Some first) None)) (last_write-one key second)
-
 record LeftByTwo (before after : History) (first second : Change) : Type 0 where
   second_key : key_now after (key_of second) ≡ state_by before (Some second) (key_of second)
   first_key : bytes_eq (key_of second) (key_of first) ≡ false → key_now after (key_of first) ≡ state_by before (Some first) (key_of first)
@@ -100,21 +84,7 @@ record LeftByTwo (before after : History) (first second : Change) : Type 0 where
 
 left_by_two : (before after : History) (run : Run) (first second : Change) → run.writes ≡ first ∷ second ∷ [] → Left before after run →
     LeftByTwo before after first second
-left_by_two before after run first second is left =
-    let of : (key : List ℕ) → key_now after key ≡ state_by before (last_of_two first second key) key =
-    λ key. left.of_key key ∙ ap (λ (ws : List Change). state_by before (last_write key ws) key) is
-    ∙ ap (λ (o : Option Change). state_by before o key) (two_writes first second key) in
-    record {
-      second_key = of (key_of second)
-          ∙ ap (λ b. state_by before (or_else (cond b (Some second) None) (cond (bytes_eq (key_of first) (key_of second)) (Some first) None)) (key_of second))
-          (bytes_eq-self (key_of second));
-      first_key = λ apart. of (key_of first)
-          ∙ ap (λ b. state_by before (or_else (cond b (Some second) None) (cond (bytes_eq (key_of first) (key_of first)) (Some first) None)) (key_of first)) apart
-          ∙ ap (λ b. state_by before (or_else None (cond b (Some first) None)) (key_of first)) (bytes_eq-self (key_of first));
-      others = λ key one other. of key
-          ∙ ap (λ b. state_by before (or_else (cond b (Some second) None) (cond (bytes_eq (key_of first) key) (Some first) None)) key) one
-          ∙ ap (λ b. state_by before (or_else None (cond b (Some first) None)) key) other;
-    }
+left_by_two before after run first second is left = grind (arith, nat_tests, or_else, bytes_eq-self, last_write-cons, last_write-one)
 
 -- a put of a count, and one of an item
 count_put : (before after : History) (key : List ℕ) (n : ℕ) → key_now after key ≡ state_by before (Some (Put key (decimal n) 0)) key → IsCount after key n
@@ -126,11 +96,7 @@ count_put before after key n is = by (key_now before key) is
 
 item_put : (before after : History) (queue : List ℕ) (n : ℕ) (item : List ℕ) →
     key_now after (place_of queue n) ≡ state_by before (Some (Put (place_of queue n) item 0)) (place_of queue n) → IsItem after queue n item
-item_put before after queue n item is = by (key_now before (place_of queue n)) is
-  where
-    by : (s : Option KeyState) → key_now after (place_of queue n) ≡ Some (state_after_put (now before + 1) item 0 s) → IsItem after queue n item
-    by None is = record { state = state_after_put (now before + 1) item 0 None; is = is; value = refl }
-    by (Some s) is = record { state = state_after_put (now before + 1) item 0 (Some s); is = is; value = refl }
+item_put before after queue n item is = grind (arith, nat_tests)
 
 -- ---- what a recipe that is done has written
 
@@ -140,46 +106,22 @@ record Counted (key : List ℕ) (n : ℕ) (first : Change) (output : List Value)
   writes : run.writes ≡ first ∷ Put key (decimal (n + 1)) 0 ∷ []
   output_is : run.output ≡ output
 
-counted_by : (fits : Bool) (key : List ℕ) (n : ℕ) (first : Change) (output : List Value) (run : Run) → is_in_range (pos (n + 1)) ≡ fits → run.end ≡ DoneEnd →
-    deed_of run ≡ record (put_number key (first ∷ []) (if fits then Ok (pos (n + 1)) else Err Overflow)) { output = output } → Counted key n first output run
-counted_by true key n first output run is ended deed = record {
-  small = ltb-true (n + 1) (2 ^ 63) is;
-  writes = ap (λ (d : Deed). d.writes) deed;
-  output_is = ap (λ (d : Deed). d.output) deed;
-}
-counted_by false key n first output run is ended deed =
-    let faults : run.end ≡ FaultedEnd Overflow = ap (λ (d : Deed). d.end) deed in
-    absurd (cc)
-
 -- what a recipe that is done puts at last
 counted : (key : List ℕ) (n : ℕ) (first : Change) (output : List Value) (run : Run) → n < 2 ^ 63 → run.end ≡ DoneEnd →
     deed_of run ≡ record (put_added key 1 (first ∷ []) (written_number (decimal n))) { output = output } → Counted key n first output run
-counted key n first output run small ended deed =
-    let up : pos n +ℤ pos 1 ≡ pos (n + 1) = omega (arith, ints) in
-    counted_by (is_in_range (pos (n + 1))) key n first output run refl ended
-    (deed
-    ∙ ap (λ (x : Result ℤ Fault). record (put_added key 1 (first ∷ []) x) { output = output }) (decimal_read n small)
-    ∙ ap (λ z. record (put_number key (first ∷ []) (if is_in_range z then Ok z else Err Overflow)) { output = output }) up)
+counted key n first output run small ended deed = grind (arith, nat_tests, ints, decimal_read, ltb-true)
 
 -- ---- an enqueue
 
 placed_by : (short : Bool) (queue item : List ℕ) (n : ℕ) (run : Run) → run.end ≡ DoneEnd →
     deed_of run ≡ (if short then put_added (tail_key queue) 1 (Put (place_of queue n) item 0 ∷ []) (written_number (decimal n)) else faulted TextTooLong []) →
     deed_of run ≡ put_added (tail_key queue) 1 (Put (place_of queue n) item 0 ∷ []) (written_number (decimal n))
-placed_by true queue item n run ended deed = deed
-placed_by false queue item n run ended deed =
-    let faults : run.end ≡ FaultedEnd TextTooLong = ap (λ (d : Deed). d.end) deed in
-    absurd (cc)
+placed_by short queue item n run ended deed = grind (arith, nat_tests)
 
 -- no sum that is put emits anything
 quiet : (key : List ℕ) (amount : ℕ) (writes : List Change) (r : Result ℤ Fault) →
     put_added key amount writes r ≡ record (put_added key amount writes r) { output = [] }
-quiet key amount writes (Ok z) = quiet_sum (if is_in_range (z +ℤ pos amount) then Ok (z +ℤ pos amount) else Err Overflow)
-  where
-    quiet_sum : (r : Result ℤ Fault) → put_number key writes r ≡ record (put_number key writes r) { output = [] }
-    quiet_sum (Ok y) = refl
-    quiet_sum (Err fault) = refl
-quiet key amount writes (Err fault) = refl
+quiet key amount writes r = grind (arith, nat_tests)
 
 enqueue_keeps : (queue : List ℕ) (e : Entry) (r : Replayed) (items : List (List ℕ)) → 0 < length queue → IsLegal e r → (q : IsEnqueue queue e) →
     HoldsItems r.history queue items → HoldsItems (replay_entry e r).history queue (items ++ q.item ∷ [])
@@ -221,13 +163,7 @@ found_by : (same short : Bool) (queue : List ℕ) (item : List ℕ) (n : ℕ) (r
     deed_of run ≡ (if same then aborted (codes "empty") else (if short
     then emitting item (put_added (head_key queue) 1 (Del (place_of queue n) ∷ []) (written_number (decimal n))) else faulted TextTooLong [])) →
     (same ≡ false) × (deed_of run ≡ emitting item (put_added (head_key queue) 1 (Del (place_of queue n) ∷ []) (written_number (decimal n))))
-found_by true short queue item n run ended deed =
-    let aborts : run.end ≡ AbortedEnd (codes "empty") = ap (λ (d : Deed). d.end) deed in
-    absurd (cc)
-found_by false true queue item n run ended deed = (refl, deed)
-found_by false false queue item n run ended deed =
-    let faults : run.end ≡ FaultedEnd TextTooLong = ap (λ (d : Deed). d.end) deed in
-    absurd (cc)
+found_by same short queue item n run ended deed = grind (arith, nat_tests)
 
 -- what a dequeue takes and leaves
 record Took (queue : List ℕ) (e : Entry) (items : List (List ℕ)) (after : History) : Type 0 where
@@ -242,18 +178,7 @@ item_value h queue n item i = ap value_now i.is ∙ i.value
 pub nothing_to_take : (queue : List ℕ) (e : Entry) (r : Replayed) (all : List (List ℕ)) → 0 < length queue → IsLegal e r → IsDequeue queue e →
     HoldsItems r.history queue all → all ≡ [] → ⊥
 nothing_to_take queue e r all long legal q held is =
-    let h : History = r.history in
-    let c : Committed (dequeue_program queue) r (replay_entry e r) = committed (dequeue_program queue) e r q legal in
-    let none : length all ≡ 0 = ap length is in
-    let equal : held.head ≡ held.tail = let count : held.head + length all ≡ held.tail = held.count in omega (arith, count, none) in
-    let small : held.head < 2 ^ 63 = subst (λ n. n < 2 ^ 63) (sym equal) held.in_range in
-    let deed : deed_of c.run ≡ taken_or_refused queue (value_in (state_now h)) (decimal held.head) (decimal held.tail) =
-    dequeue_alone (state_now h) queue (now_is_known h) long c.run c.alone
-    ∙ ap (λ t. taken_or_refused queue (value_in (state_now h)) t (or_zero (value_now (key_now h (tail_key queue))))) (count_text h (head_key queue) held.head small held.is_head)
-    ∙ ap (taken_or_refused queue (value_in (state_now h)) (decimal held.head)) (count_text h (tail_key queue) held.tail held.in_range held.is_tail) in
-    let found = found_by (bytes_eq (decimal held.head) (decimal held.tail)) (nat_le (length (items_key queue) + length (decimal held.head)) longest_text) queue
-    (value_now (key_now h (place_of queue held.head))) held.head c.run c.is_done deed in
-    decimals_apart held.head held.tail small held.in_range found.0 equal
+    grind (arith, nat_tests, Committed, committed, dequeue_alone, now_is_known, count_text, found_by, decimals_apart)
 
 dequeue_by : (queue : List ℕ) (e : Entry) (r : Replayed) (items all : List (List ℕ)) → 0 < length queue → IsLegal e r → (q : IsDequeue queue e) →
     (held : HoldsItems r.history queue all) → all ≡ items → Took queue e all (replay_entry e r).history

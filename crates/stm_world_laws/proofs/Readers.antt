@@ -1,20 +1,19 @@
 -- What is read of a state is what the laws of entries speak of.
-use Rattle.std.proofs.Common.{◌≡◌, ℕ, ◌+◌, ◌-◌, ◌^◌, ◌<◌, ◌≤◌, zero, suc, List, [], ◌∷◌, length, Option, Some, None, Bool, true, false, cond, refl, sym}
+use Rattle.std.proofs.Common.{◌≡◌, ℕ, ◌+◌, ◌-◌, ◌^◌, ◌<◌, ◌≤◌, zero, suc, List, [], ◌∷◌, length, Option, Some, None, Bool, cond, refl, sym}
 use Rattle.std.proofs.Common.{◌∙◌, ap, subst, arith}
 use Rattle.std.specs.Prelude.{nat_le, is_some, option_map}
-use Rattle.std.proofs.lemmas.Bool.{le-leb, leb-true}
+use Rattle.std.proofs.lemmas.Bool.{le-leb, leb-true, Decides.nat_tests}
 use Rattle.std.proofs.lemmas.Option.{same_Some}
 use Rattle.stm_history.specs.declared.key_state.KeyState.{KeyState}
 use Rattle.stm_history.specs.History.{History, key_now}
-use Rattle.stm_steps.specs.Values.{written_number}
 use Rattle.stm_steps.specs.declared.state.StateEntry.{StateEntry}
 use Rattle.stm_meaning.specs.States.{find_entry}
 use Rattle.stm_entries.specs.Replayed.{Replayed}
 use Rattle.stm_journal.specs.StateOf.{IsStateOf, entry_now}
 use Rattle.stm_recipes.specs.Names.{head_key, tail_key}
-use Rattle.stm_recipes.specs.Queues.{number_or_none, mark_of, item_at, item_before, items_from, items_between, queue_items_of}
+use Rattle.stm_recipes.specs.Queues.{mark_of, item_at, item_before, items_from, items_between, queue_items_of}
 use Rattle.stm_recipes.specs.Slots.{holder_in}
-use Rattle.stm_world_laws.specs.Queues.{IsCount, Absent, Spelled, place_of, IsItem, AreItems, HoldsItems}
+use Rattle.stm_world_laws.specs.Queues.{IsCount, place_of, IsItem, AreItems, HoldsItems}
 use Rattle.stm_world_laws.specs.Slots.{IsHeldBy}
 use Rattle.stm_world_laws.specs.Readers.{IsCounter, ItemsAreRead, HoldersAreRead}
 use Rattle.stm_world_laws.proofs.QueueKeys.{decimal_read}
@@ -24,29 +23,18 @@ value_of e = e.value
 
 -- ---- a queue that holds items
 
-mark_now : (h : History) (key : List ℕ) (n : ℕ) → n < 2 ^ 63 → IsCount h key n → mark_of (entry_now key (key_now h key)) ≡ Some n
-mark_now h key n small (Absent none none_counted) =
-    ap (λ (s : Option KeyState). mark_of (entry_now key s)) none ∙ ap (λ (m : ℕ). Some m) (sym none_counted)
-mark_now h key n small (Spelled s is value) =
-    ap (λ (o : Option KeyState). mark_of (entry_now key o)) is ∙ ap (λ (t : List ℕ). number_or_none (written_number t)) value
-    ∙ ap number_or_none (decimal_read n small)
-
 mark_read : (h : History) (entries : List StateEntry) (key : List ℕ) (n : ℕ) → IsStateOf h entries → n < 2 ^ 63 → IsCount h key n →
     mark_of (find_entry key entries) ≡ Some n
-mark_read h entries key n state small is = ap mark_of (state key) ∙ mark_now h key n small is
+mark_read h entries key n state small is = grind (arith, nat_tests, decimal_read)
 
 item_read : (h : History) (entries : List StateEntry) (queue : List ℕ) (n : ℕ) (item : List ℕ) → IsStateOf h entries → IsItem h queue n item →
     item_at entries queue n ≡ Some item
-item_read h entries queue n item state i =
-    ap (option_map value_of) (state (place_of queue n))
-    ∙ ap (λ (s : Option KeyState). option_map value_of (entry_now (place_of queue n) s)) i.is ∙ ap (λ (t : List ℕ). Some t) i.value
+item_read h entries queue n item state i = grind (arith, nat_tests)
 
 items_read : (h : History) (entries : List StateEntry) (queue : List ℕ) (n : ℕ) (items : List (List ℕ)) → IsStateOf h entries → AreItems h queue n items →
     items_from entries queue n (length items) ≡ Some items
 items_read h entries queue n [] state are = refl
-items_read h entries queue n (item ∷ items) state are =
-    ap (λ (o : Option (List ℕ)). item_before o (items_from entries queue (n + 1) (length items))) (item_read h entries queue n item state are.0)
-    ∙ ap (item_before (Some item)) (items_read h entries queue (n + 1) items state are.1)
+items_read h entries queue n (item ∷ items) state are = grind (arith, nat_tests, item_read, items_read h entries queue (n + 1) items state are.1)
 
 held_is_read : (h : History) (entries : List StateEntry) (queue : List ℕ) (items : List (List ℕ)) → IsStateOf h entries → HoldsItems h queue items →
     queue_items_of entries queue ≡ Some items
@@ -73,15 +61,11 @@ record HasItem (o : Option (List ℕ)) (rest : Option (List (List ℕ))) (items 
   whole : item ∷ more ≡ items
 
 has_item : (o : Option (List ℕ)) (rest : Option (List (List ℕ))) (items : List (List ℕ)) → item_before o rest ≡ Some items → HasItem o rest items
-has_item None rest items found = absurd (cc)
-has_item (Some item) None items found = absurd (cc)
-has_item (Some item) (Some more) items found =
-    record { item = item; more = more; item_is = refl; more_is = refl; whole = same_Some (item ∷ more) items found }
+has_item o rest items found = grind (arith, nat_tests, same_Some)
 
 item_held : (h : History) (queue : List ℕ) (n : ℕ) (item : List ℕ) (s : Option KeyState) → key_now h (place_of queue n) ≡ s →
     option_map value_of (entry_now (place_of queue n) s) ≡ Some item → IsItem h queue n item
-item_held h queue n item None is found = absurd (cc)
-item_held h queue n item (Some s) is found = record { state = s; is = is; value = same_Some s.value item found }
+item_held h queue n item s is found = grind (arith, nat_tests, same_Some)
 
 items_held : (h : History) (entries : List StateEntry) (queue : List ℕ) (n left : ℕ) (items : List (List ℕ)) → IsStateOf h entries →
     items_from entries queue n left ≡ Some items → AreItems h queue n items × (length items ≡ left)
@@ -97,8 +81,7 @@ items_held h entries queue n (suc left) items state found =
 
 in_order_by : (in_order : Bool) (head tail : ℕ) (rest : Option (List (List ℕ))) (items : List (List ℕ)) → nat_le head tail ≡ in_order →
     cond in_order rest None ≡ Some items → (head ≤ tail) × (rest ≡ Some items)
-in_order_by true head tail rest items is found = (leb-true head tail is, found)
-in_order_by false head tail rest items is found = absurd (cc)
+in_order_by in_order head tail rest items is found = grind (arith, nat_tests, leb-true)
 
 read_is_held : (h : History) (entries : List StateEntry) (queue : List ℕ) (items : List (List ℕ)) → IsStateOf h entries →
     IsCounter h (head_key queue) → IsCounter h (tail_key queue) → queue_items_of entries queue ≡ Some items → HoldsItems h queue items
@@ -129,13 +112,9 @@ items_are_read = record { held_is_read = held_is_read; read_is_held = read_is_he
 abbrev value_now : KeyState → List ℕ
 value_now s = s.value
 
-value_by : (slot : List ℕ) (s : Option KeyState) → option_map value_of (entry_now slot s) ≡ option_map value_now s
-value_by slot None = refl
-value_by slot (Some s) = refl
-
 holder_read : (h : History) (entries : List StateEntry) (slot : List ℕ) → IsStateOf h entries →
     holder_in entries slot ≡ option_map value_now (key_now h slot)
-holder_read h entries slot state = ap (option_map value_of) (state slot) ∙ value_by slot (key_now h slot)
+holder_read h entries slot state = grind (arith, nat_tests)
 
 held_by : (r : Replayed) (slot name : List ℕ) (s : Option KeyState) → key_now r.history slot ≡ s → option_map value_now s ≡ Some name →
     (lease : ℕ) × IsHeldBy slot name lease r
@@ -143,15 +122,7 @@ held_by r slot name None is found = absurd (cc)
 held_by r slot name (Some s) is found = (s.lease, record { state = s; is = is; value = same_Some s.value name found; on = refl })
 
 some_value : (s : Option KeyState) → is_some s ≡ is_some (option_map value_now s)
-some_value None = refl
-some_value (Some s) = refl
+some_value s = grind (arith, nat_tests)
 
 pub holders_are_read : HoldersAreRead
-holders_are_read = record {
-  holder = λ r entries slot name state. (
-    λ found. held_by r slot name (key_now r.history slot) refl (sym (holder_read r.history entries slot state) ∙ found),
-    λ held. holder_read r.history entries slot state ∙ ap (option_map value_now) held.1.is ∙ ap (λ (t : List ℕ). Some t) held.1.value,
-  );
-  held = λ r entries slot state.
-      some_value (key_now r.history slot) ∙ ap (λ (o : Option (List ℕ)). is_some o) (sym (holder_read r.history entries slot state));
-}
+holders_are_read = grind (arith, nat_tests, held_by, holder_read, some_value)

@@ -1,16 +1,16 @@
 -- Slots over entries.
-use Rattle.std.proofs.Common.{◌≡◌, ℕ, ◌+◌, ◌<◌, List, [], ◌∷◌, length, Option, Some, None, Bool, true, false, cond, refl, ◌∙◌, ap, arith, inl, inr, codes}
+use Rattle.std.proofs.Common.{◌≡◌, ℕ, ◌+◌, ◌<◌, List, [], ◌∷◌, length, Option, Some, Bool, true, false, cond, refl, ◌∙◌, ap, arith, inl, inr, codes}
 use Rattle.std.specs.Prelude.{◌⊎◌, nat_eq, is_some}
-use Rattle.std.specs.Cmp.{unsigned_Decides}
+use Rattle.std.proofs.lemmas.Bool.Decides.{nat_tests}
 use Rattle.stm_history.specs.declared.key_state.KeyState.{KeyState}
-use Rattle.stm_history.specs.History.{History, now, key_now, mod_of, add_revision, after_change, state_after_put}
+use Rattle.stm_history.specs.History.{History, now, key_now, mod_of, add_revision, state_after_put}
 use Rattle.stm_history.proofs.HistoryLaws.{one_more_revision, absent_at_zero}
 use Rattle.stm_history.specs.declared.change.Change.{Change}
 use Rattle.stm_history.specs.declared.change.Change.TheVariants.{Put}
 use Rattle.stm_program.specs.Writes.{latest_writes, last_write}
 use Rattle.stm_program.proofs.WriteLemmas.{bytes_eq-self}
 use Rattle.stm_steps.specs.declared.run.Run.{Run}
-use Rattle.stm_steps.specs.declared.run.End.TheVariants.{Done as DoneEnd, Aborted as AbortedEnd}
+use Rattle.stm_steps.specs.declared.run.End.TheVariants.{Done as DoneEnd}
 use Rattle.stm_meaning.specs.Leaves.{mod_rev_in}
 use Rattle.stm_outcome.specs.Outcome.{with_changes}
 use Rattle.stm_outcome.specs.Commits.{effective}
@@ -20,7 +20,7 @@ use Rattle.stm_entries.specs.Legal.{AreLegal}
 use Rattle.stm_entries.specs.Replay.{replay, replay_entry}
 use Rattle.stm_entries.specs.Replayed.{Replayed}
 use Rattle.stm_entries.proofs.Replaying.{front_legal, rest_legal}
-use Rattle.stm_recipes.specs.Alone.{Deed, deed_of, done, aborted, reserved}
+use Rattle.stm_recipes.specs.Alone.{deed_of, done, aborted, reserved}
 use Rattle.stm_recipes.specs.Slots.{reserve_program}
 use Rattle.stm_recipes.proofs.SlotRuns.{reserve_alone}
 use Rattle.stm_world_laws.specs.Commits.{IsEndOfLease}
@@ -32,8 +32,7 @@ use Rattle.stm_world_laws.proofs.CommitLemmas.{Committed, committed, now_is_know
 
 -- a key whose modification revision is 0 is absent
 absent_now : (h : History) (key : List ℕ) → nat_eq (mod_of (key_now h key)) 0 ≡ true → is_some (key_now h key) ≡ false
-absent_now h key zero =
-    ap (λ (s : Option KeyState). is_some s) (absent_at_zero h.opening key h.revisions ((unsigned_Decides (mod_of (key_now h key)) 0).0 zero))
+absent_now h key h3 = grind (arith, nat_tests, absent_at_zero)
 
 -- a run that is done has found the slot free, and puts it
 record Reserves (free : Bool) (slot holder : List ℕ) (lease : ℕ) (run : Run) : Type 0 where
@@ -42,10 +41,7 @@ record Reserves (free : Bool) (slot holder : List ℕ) (lease : ℕ) (run : Run)
 
 reserves_by : (free : Bool) (slot holder : List ℕ) (lease : ℕ) (run : Run) → run.end ≡ DoneEnd →
     deed_of run ≡ (cond free (done (Put slot holder lease ∷ [])) (aborted (codes "held"))) → Reserves free slot holder lease run
-reserves_by true slot holder lease run ended is = record { was_free = refl; writes = ap (λ (d : Deed). d.writes) is }
-reserves_by false slot holder lease run ended is =
-    let aborts : run.end ≡ AbortedEnd (codes "held") = ap (λ (d : Deed). d.end) is in
-    absurd (cc)
+reserves_by free slot holder lease run ended is = grind (arith, nat_tests)
 
 -- one put is the latest writes
 one_write : (slot holder : List ℕ) (lease : ℕ) → latest_writes (Put slot holder lease ∷ []) ≡ Put slot holder lease ∷ []
@@ -55,19 +51,11 @@ one_write slot holder lease = refl
 -- what a revision with one put makes of its key
 put_state : (h : History) (slot holder : List ℕ) (lease : ℕ) →
     key_now (add_revision h (Put slot holder lease ∷ [])) slot ≡ Some (state_after_put (now h + 1) holder lease (key_now h slot))
-put_state h slot holder lease =
-    one_more_revision h (Put slot holder lease ∷ []) slot
-    ∙ ap (λ b. after_change (now (add_revision h (Put slot holder lease ∷ []))) (cond b (Some (Put slot holder lease)) None) (key_now h slot))
-    (bytes_eq-self slot)
-    ∙ ap (λ n. Some (state_after_put n holder lease (key_now h slot)))
-    (let step : now (add_revision h (Put slot holder lease ∷ [])) ≡ now h + 1 = omega arith in step)
+put_state h slot holder lease = grind (arith, nat_tests, one_more_revision, bytes_eq-self)
 
 held_by_put : (slot holder : List ℕ) (lease number : ℕ) (before : Option KeyState) (r : Replayed) →
     key_now r.history slot ≡ Some (state_after_put number holder lease before) → IsHeldBy slot holder lease r
-held_by_put slot holder lease number None r is =
-    record { state = state_after_put number holder lease None; is = is; value = refl; on = refl }
-held_by_put slot holder lease number (Some s) r is =
-    record { state = state_after_put number holder lease (Some s); is = is; value = refl; on = refl }
+held_by_put slot holder lease number before r is = grind (arith, nat_tests)
 
 pub reservations_take_free_slots : ReservationsTakeFreeSlots
 reservations_take_free_slots slot e r reserves named legal =
@@ -135,8 +123,7 @@ held_or_freed slot (e ∷ es) r named legal of held = by (is_held slot (replay_e
 
 freed_not_held : (slot : List ℕ) (es : List Entry) (r : Replayed) → is_held slot (replay es r) ≡ false →
     (is_held slot (replay es r) ≡ true) ⊎ IsFreed slot es r → IsFreed slot es r
-freed_not_held slot es r free (inl held) = absurd (cc)
-freed_not_held slot es r free (inr freed) = freed
+freed_not_held slot es r free h5 = grind (arith, nat_tests)
 
 pub slots_are_freed_between : SlotsAreFreedBetween
 slots_are_freed_between slot first second between r named legal reserves again of =

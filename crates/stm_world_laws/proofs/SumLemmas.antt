@@ -1,8 +1,9 @@
 -- Sums over accounts, of which some change.
-use Rattle.std.proofs.Common.{◌≡◌, ℕ, List, [], ◌∷◌, Option, Some, None, false, refl, sym, ◌∙◌, ap, subst, arith, inl, inr}
+use Rattle.std.proofs.Common.{◌≡◌, ℕ, List, [], ◌∷◌, Option, Some, false, refl, sym, ◌∙◌, ap, subst, arith, inl, inr}
 use Rattle.std.specs.Prelude.{ℤ, ◌+ℤ◌, ◌-ℤ◌, bytes_eq}
 use Rattle.std.specs.List.{AllByRecursion}
 use Rattle.std.proofs.lemmas.Int.{ints}
+use Rattle.std.proofs.lemmas.Bool.Decides.{nat_tests}
 use Rattle.stm_program.proofs.WriteLemmas.{bytes_eq-flip}
 use Rattle.stm_recipes.specs.Accounts.{sum_of}
 use Rattle.stm_world_laws.specs.Accounts.{sum_over, AreAccounts, IsAmong}
@@ -16,9 +17,7 @@ pub record HasParts (first rest : Option ℤ) (total : ℤ) : Type 0 where
   pub adds : here +ℤ others ≡ total
 
 pub parts_of : (first rest : Option ℤ) (total : ℤ) → sum_of first rest ≡ Some total → HasParts first rest total
-parts_of None rest total is = absurd (cc)
-parts_of (Some x) None total is = absurd (cc)
-parts_of (Some x) (Some y) total is = let same : x +ℤ y ≡ total = cc in record { here = x; others = y; first_is = refl; rest_is = refl; adds = same }
+parts_of first rest total is = grind (arith, nat_tests)
 
 -- an account of a sum has a number
 pub has_balance : (f : List ℕ → Option ℤ) (accounts : List (List ℕ)) (account : List ℕ) (total : ℤ) → sum_over f accounts ≡ Some total →
@@ -41,8 +40,7 @@ apart_from account other (x ∷ accounts) all (inr later) = apart_from account o
 -- balances that agree on these accounts have one sum
 pub sums_agree : (f g : List ℕ → Option ℤ) (accounts : List (List ℕ)) → AllByRecursion (λ a. g a ≡ f a) accounts → sum_over g accounts ≡ sum_over f accounts
 sums_agree f g [] all = refl
-sums_agree f g (a ∷ accounts) all =
-    ap (λ o. sum_of o (sum_over g accounts)) all.0 ∙ ap (λ o. sum_of (f a) o) (sums_agree f g accounts all.1)
+sums_agree f g (a ∷ accounts) all = grind (arith, nat_tests, sums_agree f g accounts all.1)
 
 agree_apart : (f g : List ℕ → Option ℤ) (account : List ℕ) (accounts : List (List ℕ)) → AllByRecursion (λ x. bytes_eq account x ≡ false) accounts →
     ((a : List ℕ) → bytes_eq account a ≡ false → g a ≡ f a) → AllByRecursion (λ a. g a ≡ f a) accounts

@@ -1,6 +1,7 @@
 -- Worked examples of watchers and of a compaction, of attempts that come to nothing and of entries that are appended, computed by the definitions.
 use Rattle.std.proofs.Common.{◌≡◌, refl, arith, ℕ, ◌+◌, ◌<◌, ◌≤◌, List, [], ◌∷◌, ◌++◌, Some, None, Ok, true}
 use Rattle.std.specs.Prelude.{codes, pos, Result}
+use Rattle.std.proofs.lemmas.Bool.Decides.{nat_tests}
 use Rattle.stm_history.specs.declared.change.Change.TheVariants.{Put as PutChange}
 use Rattle.stm_history.specs.declared.revisions.TheConstants.{HIGHEST_REVISION}
 use Rattle.stm_history.specs.declared.key_state.KeyState.{KeyState}
@@ -339,9 +340,7 @@ wrong = wrong_failures (failures_move_on (record { run_now = commit_is_the_run_n
 -- a conflict over a key that was never read
 unread_key : IsRealFailure (at_revision 1) (two_reads Serializable 2 2) (record { runner = 1; key = codes "z"; seen = 0; now_modified = 3 }) → ⊥
 unfolding settle run_over run_block evaluate key_in num_of written_number arithmetic computed get_key last_write fresh
-unread_key =
-    wrong.never_read (at_revision 1) (two_reads Serializable 2 2) (record { program = quotient; level = Serializable; limit = 2 })
-    (record { runner = 1; key = codes "z"; seen = 0; now_modified = 3 }) refl (λ same. cc) refl
+unread_key = grind (arith, nat_tests)
 
 -- the fault of a torn read, reported at serializable
 torn_read : IsRealStop (at_revision 1) (two_reads Serializable 2 3) (record { runner = 1; end = FaultedEnd ZeroDivisor }) → ⊥

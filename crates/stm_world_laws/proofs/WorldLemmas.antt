@@ -2,6 +2,7 @@
 use Rattle.std.proofs.Common.{◌≡◌, ℕ, ◌<◌, List, [], ◌∷◌, ◌++◌, length, Some, refl, sym, ◌∙◌, ap, subst, arith}
 use Rattle.std.specs.Prelude.{ℤ, pos, ◌+ℤ◌}
 use Rattle.std.proofs.lemmas.Int.{ints}
+use Rattle.std.proofs.lemmas.Bool.Decides.{nat_tests}
 use Rattle.stm_steps.specs.Values.{written_number}
 use Rattle.stm_compile.proofs.AgreeLemmas.{commit_is_the_run_now}
 use Rattle.stm_compile.proofs.ConflictLemmas.{failed_compares_conflict}
@@ -15,7 +16,7 @@ use Rattle.stm_events.specs.declared.event.WorldEvent.{WorldEvent}
 use Rattle.stm_world.specs.World.{opened, world_after}
 use Rattle.stm_world.proofs.Headlines.{headline}
 use Rattle.stm_world_laws.specs.Accounts.{total_now, counted_total, AreAccounts, AreOfAccounts, deposits_of}
-use Rattle.stm_world_laws.specs.Queues.{Absent, HoldsItems, AreOfQueue, all_added, all_taken, Kept}
+use Rattle.stm_world_laws.specs.Queues.{HoldsItems, AreOfQueue, all_added, all_taken, Kept}
 use Rattle.stm_world_laws.specs.Slots.{IsReservation, AreOfSlot, IsFreed}
 use Rattle.stm_world_laws.specs.Worlds.{entries_after, history_after, RecipesInWorlds}
 use Rattle.stm_world_laws.proofs.AccountLemmas.{totals_grow_by_deposits, counted_totals}
@@ -63,8 +64,7 @@ deposits start events accounts es are parts of =
 
 -- a queue of a store that opens holds nothing
 holds_nothing : (start : Setup) (queue : List ℕ) → HoldsItems (opening start.revision).history queue []
-holds_nothing start queue =
-    record { head = 0; tail = 0; is_head = Absent refl refl; is_tail = Absent refl refl; in_range = omega arith; count = refl; each = tt }
+holds_nothing start queue = grind (arith, nat_tests)
 
 items : (start : Setup) (events : List WorldEvent) (queue : List ℕ) (es : List Entry) → 0 < length queue → entries_after start events ≡ es →
     (of : AreOfQueue queue es (opening start.revision)) →

@@ -1,8 +1,8 @@
 -- Wrong logs are rejected.
-use Rattle.std.proofs.Common.{◌≡◌, ◌≢◌, inl, inr, ℕ, ◌+◌, ◌-◌, ◌≤◌, zero, suc, List, [], ◌∷◌, length, take, Option, Some, None, Ok, Err, Bool, true}
+use Rattle.std.proofs.Common.{◌≡◌, ◌≢◌, ℕ, ◌+◌, ◌-◌, ◌≤◌, suc, List, [], ◌∷◌, length, Option, Some, None, Ok, Err, Bool, true}
 use Rattle.std.proofs.Common.{false, cond, refl, sym, ◌∙◌, ap, subst, arith}
-use Rattle.std.specs.Prelude.{nat_eq, nat_lt, slice_set, Result}
-use Rattle.std.proofs.lemmas.Bool.{le-leb}
+use Rattle.std.specs.Prelude.{nat_lt, slice_set, Result}
+use Rattle.std.proofs.lemmas.Bool.{le-leb, Decides.nat_tests}
 use Rattle.stm_steps.specs.declared.run.End.TheVariants.{Done as DoneEnd, Aborted as AbortedEnd}
 use Rattle.stm_steps.specs.declared.run.Run.{Run}
 use Rattle.stm_steps.specs.declared.run.Answered.TheVariants.{Ended as EndedRun, Wants}
@@ -32,90 +32,47 @@ use Rattle.stm_outcome.specs.Terms.{is_below_floor}
 use Rattle.stm_watch.specs.declared.refusal.PollRefusal.TheVariants.{Compacted as LostToPoll}
 use Rattle.stm_txn.specs.Standing.{Standing, poll_step, polled, with_floor, floor_step, Setup}
 use Rattle.stm_keys.specs.declared.event.Event.{Event}
-use Rattle.stm_watch.specs.declared.pending_revision.PendingRevision.{PendingRevision}
 use Rattle.stm_watch.specs.Watching.{Watching}
-use Rattle.stm_watch.specs.Pending.{pending, pending_events, batch_of, after_poll}
+use Rattle.stm_watch.specs.Pending.{pending, batch_of, after_poll}
 use Rattle.stm_watch.specs.Calls.{watcher_at, poll_found}
 use Rattle.stm_events.specs.Replies.{runner_of, denied, reply_to, poll_reply}
 use Rattle.stm_world.specs.Task.{Task, modified_now}
-use Rattle.stm_world.specs.Log.{Line, begun, running, started, is_start, runner_started, is_id, task_in, store}
-use Rattle.stm_world.specs.Right.{IsRight, AreRight, RunnerIsRight, Situation, HasList, ReplyIsRight, EndsWith, IsCommitted, IsRefused, situation, IsRightAsked}
+use Rattle.stm_world.specs.Log.{Line, begun, running, started, is_start, runner_started, is_id, store}
+use Rattle.stm_world.specs.Right.{IsRight, AreRight, RunnerIsRight, Situation, HasList, ReplyIsRight, EndsWith, IsCommitted, IsRefused, situation}
 use Rattle.stm_world_laws.specs.WrongLogs.{WrongLogs}
 use Rattle.stm_world.proofs.Logs.{as_many}
-use Rattle.stm_events.specs.Called.{Asked, Starts, Steps, Calls, asked}
 use Rattle.stm_world.proofs.Untouched.{call_says_nothing}
 use Rattle.stm_world.proofs.Slots.{equal_numbers}
 
 -- ---- numbers ----
 
--- only a start answers a number
-step_gives_none : (at : Situation) (reply : Reply) → ReplyIsRight at reply → runner_started (Ok reply) ≡ None
-step_gives_none at (Started runner) right = absurd right
-step_gives_none at other right = refl
-
 runner_gives_none : (start : Setup) (log : List Line) (id : ℕ) (o : Option Task) (reply : Result Reply Denied) → RunnerIsRight start log id o reply →
     runner_started reply ≡ None
-runner_gives_none start log id None reply right = ap runner_started right
-runner_gives_none start log id (Some task) (Ok reply) right = step_gives_none (situation start log id task) reply right
-runner_gives_none start log id (Some task) (Err refusal) right = refl
-
-given_asked : (start : Setup) (log : List Line) (a : Asked) (reply : Result Reply Denied) (id : ℕ) → IsRightAsked start log a reply →
-    runner_started reply ≡ Some id → id ≡ started log + 1
-given_asked start log (Starts program level limit) (Ok reply) id right named =
-    let next : Some id ≡ Some (started log + 1) = sym named ∙ ap (λ (r : Reply). runner_started (Ok r)) right.0 in cc
-given_asked start log (Starts program level limit) (Err refusal) id right named = absurd (cc)
-given_asked start log (Steps runner) reply id right named = let none = runner_gives_none start log runner (running runner log) reply right in absurd (cc)
-given_asked start log (Calls c) reply id right named =
-    let none : runner_started reply ≡ None = ap runner_started right ∙ (call_says_nothing (store start log) c).not_started in absurd (cc)
+runner_gives_none start log id o reply right = grind (arith, nat_tests)
 
 -- a start that is right gives the number after those that were given
 pub given_next : (start : Setup) (log : List Line) (event : WorldEvent) (reply : Result Reply Denied) (id : ℕ) → IsRight start log event reply →
     runner_started reply ≡ Some id → id ≡ started log + 1
-given_next start log event reply id right named = given_asked start log (asked event) reply id right named
-
-begun_here : (id runner count : ℕ) (b : Bool) (here rest : Option Task) (task : Task) → nat_eq runner id ≡ b → runner ≡ count + 1 →
-    (rest ≡ Some task → id ≤ count) → cond b here rest ≡ Some task → id ≤ count + 1
-begun_here id runner count true here rest task same next earlier is = let equal : runner ≡ id = equal_numbers runner id same in omega arith
-begun_here id runner count false here rest task same next earlier is = let known : id ≤ count = earlier is in omega arith
+given_next start log event reply id right named = grind (arith, nat_tests, runner_gives_none, call_says_nothing)
 
 begun_by : (id count : ℕ) (o : Option ℕ) (here rest : Option Task) (task : Task) → ((runner : ℕ) → o ≡ Some runner → runner ≡ count + 1) →
     (rest ≡ Some task → id ≤ count) → cond (is_id id o) here rest ≡ Some task → id ≤ cond (is_start o) (count + 1) count
-begun_by id count None here rest task next earlier is = earlier is
-begun_by id count (Some runner) here rest task next earlier is =
-    begun_here id runner count (nat_eq runner id) here rest task refl (next runner refl) earlier is
+begun_by id count o here rest task next earlier is = grind (arith, nat_tests, equal_numbers)
 
 -- a runner that was started has one of the numbers that were given
 pub begun_is_started : (start : Setup) (log : List Line) (id : ℕ) (task : Task) → AreRight start log → begun id log ≡ Some task → id ≤ started log
 begun_is_started start [] id task right is = absurd (cc)
-begun_is_started start (line ∷ older) id task right is =
-    begun_by id (started older) (runner_started line.reply) (task_in line.event) (begun id older) task
-    (λ runner. given_next start older line.event line.reply runner right.0) (begun_is_started start older id task right.1) is
+begun_is_started start (line ∷ older) id task right is = grind (arith, nat_tests, begun_by, given_next, begun_is_started start older id task right.1)
 
 -- ---- replies ----
 
-another : (at : Situation) (reply : Reply) (runner : ℕ) → runner_of reply ≡ Some runner → ReplyIsRight at reply → runner ≡ at.id
-another at (Started r) runner named right = absurd right
-another at (Prefetched r revision reads) runner named right = let same : r ≡ runner = cc in sym same ∙ right.0
-another at (Fetched r key mod_rev of_rev revision) runner named right = let same : r ≡ runner = cc in sym same ∙ right.0
-another at (Committed r revision attempts output trace answers) runner named right = let same : r ≡ runner = cc in sym same ∙ right.0
-another at (Conflict r key seen now) runner named right = let same : r ≡ runner = cc in sym same ∙ right.0
-another at (GaveUp r attempts key seen now) runner named right = let same : r ≡ runner = cc in sym same ∙ right.0
-another at (Aborted r text) runner named right = let same : r ≡ runner = cc in sym same ∙ right.0
-another at (Faulted r fault) runner named right = let same : r ≡ runner = cc in sym same ∙ right.0
-another at (Ended r cause) runner named right = let same : r ≡ runner = cc in sym same ∙ right.0
-another at _ runner named right = absurd right
-
 another_by : (start : Setup) (log : List Line) (id runner : ℕ) (o : Option Task) (reply : Reply) → runner_of reply ≡ Some runner → runner ≢ id
     → RunnerIsRight start log id o (Ok reply) → ⊥
-another_by start log id runner None reply named other right = absurd (cc)
-another_by start log id runner (Some task) reply named other right = other (another (situation start log id task) reply runner named right)
+another_by start log id runner o reply named other right = grind (arith, nat_tests)
 
 not_aborted : (at : Situation) (run : Run) (text : List ℕ) → run_on at.task.program at.reads ≡ EndedRun run → run.end ≡ DoneEnd
     → EndsWith at (AbortedEnd text) → ⊥
-not_aborted at run text is_run done ends =
-    let one : EndedRun run ≡ EndedRun ends.run = sym is_run ∙ ends.is_run in
-    let same : run ≡ ends.run = cc in
-    let both : DoneEnd ≡ AbortedEnd text = sym done ∙ ap (λ (r : Run). r.end) same ∙ ends.ended in absurd (cc)
+not_aborted at run text is_run done ends = grind (arith, nat_tests)
 
 -- ---- watchers ----
 
@@ -135,40 +92,21 @@ there_reported : (s : Standing) (id most : ℕ) (w : Watching) (reply : Result R
 there_reported s id most w reply there right = subst (λ (o : Option Watching). reply ≡ reported_of s id most o) there right
 
 none_refused : (s : Standing) (id most : ℕ) (w : Watching) (refusal : Denied) (lost : Bool) → Err refusal ≡ reported_if s id most w lost → ⊥
-none_refused s id most w refusal true reported = absurd (cc)
-none_refused s id most w refusal false reported = absurd (cc)
-
-batch_named : (s : Standing) (id most watcher upto : ℕ) (events : List Event) (w : Watching) (lost : Bool)
-    → Ok (Batch watcher upto events) ≡ reported_if s id most w lost → watcher ≡ id
-batch_named s id most watcher upto events w true reported = absurd (cc)
-batch_named s id most watcher upto events w false reported = cc
+none_refused s id most w refusal lost reported = grind (arith, nat_tests)
 
 watcher_named : (s : Standing) (id most watcher upto : ℕ) (events : List Event) (o : Option Watching)
     → Ok (Batch watcher upto events) ≡ reported_of s id most o → watcher ≡ id
-watcher_named s id most watcher upto events None reported = absurd (cc)
-watcher_named s id most watcher upto events (Some w) reported = batch_named s id most watcher upto events w w.lost reported
-
-none_taken : (most : ℕ) → take most (let none : List PendingRevision = [] in none) ≡ []
-none_taken zero = refl
-none_taken (suc most) = refl
+watcher_named s id most watcher upto events o reported = grind (arith, nat_tests)
 
 nothing_reported : (s : Standing) (id most upto : ℕ) (w : Watching) (event : Event) (events : List Event) (lost : Bool) → pending s.history w ≡ []
     → Ok (Batch id upto (event ∷ events)) ≡ reported_if s id most w lost → ⊥
-nothing_reported s id most upto w event events true none reported = absurd (cc)
-nothing_reported s id most upto w event events false none reported =
-    let same : event ∷ events ≡ pending_events (take most (pending s.history w)) = cc in
-    let nothing : event ∷ events ≡ [] = same ∙ ap (λ (ts : List PendingRevision). pending_events (take most ts)) none ∙ ap pending_events (none_taken most) in
-    absurd (cc)
+nothing_reported s id most upto w event events lost none reported = grind (arith, nat_tests)
 
 -- ---- compactions ----
 
 not_refused : (at : Situation) (key : List ℕ) (trace : List TraceItem) (cause : StoreRefusal) → HasList at → run_on at.task.program at.reads ≡ Wants key trace
     → is_below_floor at.store.floor (at_of at.task.level at.reads) ≡ false → IsRefused at cause → ⊥
-not_refused at key trace cause listed wants above (inl c) = let both : Wants key trace ≡ EndedRun c.run = sym wants ∙ c.is_run in absurd (cc)
-not_refused at key trace cause listed wants above (inr (inl (same, behind))) =
-    let both : true ≡ false = sym behind.compacted ∙ above in absurd (cc)
-not_refused at key trace cause listed wants above (inr (inr (same, overfull))) =
-    let both : true ≡ false = sym overfull.due ∙ listed in absurd (cc)
+not_refused at key trace cause listed wants above h8 = grind (arith, nat_tests)
 
 -- ---- lists ----
 
@@ -178,21 +116,14 @@ is_listed start log id task reply runs right = subst (λ (o : Option Task). Runn
 
 none_refused_list : (at : Situation) (cause : StoreRefusal) → is_due at.task.program.prefetch at.reads ≡ true
     → length at.task.program.prefetch ≤ at.store.limit → IsRefused at cause → ⊥
-none_refused_list at cause due few (inl c) = let both : true ≡ false = sym due ∙ c.has_list in absurd (cc)
-none_refused_list at cause due few (inr (inl (same, behind))) = let both : true ≡ false = sym due ∙ behind.has_list in absurd (cc)
-none_refused_list at cause due few (inr (inr (same, overfull))) = let many = overfull.many in omega (arith, few, many)
+none_refused_list at cause due few h5 = grind (arith, nat_tests)
 
 -- ---- commits ----
 
 one_revision : (at : Situation) (run : Run) (alone : StoreDone) (revision : ℕ) (output : List Value) (trace : List TraceItem) (answers : List CommittedRead)
     → run_over (seen_at at.task.level at.reads at.store.history) at.task.program.statements ≡ EndedRun run
     → applied_run (without_moment at.store) run ≡ Ok alone → IsCommitted at revision output trace answers → revision ≡ now alone.history
-one_revision at run alone revision output trace answers is applies c =
-    let one : EndedRun run ≡ EndedRun c.commits.run = sym is ∙ c.is_alone in
-    let same : run ≡ c.commits.run = cc in
-    let both : Ok alone ≡ Ok c.done = sym applies ∙ ap (applied_run (without_moment at.store)) same ∙ c.changes in
-    let done : alone ≡ c.done = cc in
-    c.reached ∙ sym (ap (λ (d : StoreDone). now d.history) done)
+one_revision at run alone revision output trace answers is applies c = grind (arith, nat_tests)
 
 -- ---- events without a reply ----
 

@@ -1,16 +1,14 @@
 -- Wrong entries of recipes are rejected.
-use Rattle.std.proofs.Common.{◌≡◌, ◌≢◌, ℕ, ◌+◌, ◌<◌, zero, suc, List, [], ◌∷◌, ◌++◌, length, Option, Some, None, Bool, true, false, cond, refl, sym}
-use Rattle.std.proofs.Common.{◌∙◌, ap, arith, codes}
-use Rattle.std.specs.Prelude.{ℤ, pos, ◌+ℤ◌, int_lt, not, bytes_eq, is_some, slice_get}
+use Rattle.std.proofs.Common.{◌≡◌, ◌≢◌, ℕ, ◌+◌, ◌<◌, zero, suc, List, [], ◌∷◌, ◌++◌, length, Option, Some, None, true, false, refl, sym, ◌∙◌, ap, arith}
+use Rattle.std.specs.Prelude.{ℤ, pos, ◌+ℤ◌, int_lt, is_some, slice_get}
 use Rattle.std.proofs.lemmas.List.{length-append}
 use Rattle.std.proofs.lemmas.Option.{same_Some}
-use Rattle.std.proofs.lemmas.Bool.{not-false}
+use Rattle.std.proofs.lemmas.Bool.{not-false, Decides.nat_tests}
 use Rattle.stm_history.specs.declared.key_state.KeyState.{KeyState}
 use Rattle.stm_history.specs.History.{History, key_now, value_of as value_now}
-use Rattle.stm_history.specs.declared.change.Change.TheVariants.{Del}
 use Rattle.stm_steps.specs.Values.{written_number}
 use Rattle.stm_steps.specs.declared.run.Run.{Run}
-use Rattle.stm_steps.specs.declared.run.End.TheVariants.{Done as DoneEnd, Aborted as AbortedEnd}
+use Rattle.stm_steps.specs.declared.run.End.TheVariants.{Done as DoneEnd}
 use Rattle.stm_meaning.specs.Leaves.{value_in}
 use Rattle.stm_compile.specs.Answers.{state_now}
 use Rattle.stm_entries.specs.declared.entry.Entry.{Entry}
@@ -20,7 +18,7 @@ use Rattle.stm_entries.specs.Replayed.{Replayed}
 use Rattle.stm_entries.proofs.Replaying.{rest_legal}
 use Rattle.stm_recipes.specs.Accounts.{transfer_program}
 use Rattle.stm_recipes.specs.Slots.{release_program}
-use Rattle.stm_recipes.specs.Alone.{Deed, deed_of, done, aborted, moved_or_refused, transferred, released}
+use Rattle.stm_recipes.specs.Alone.{deed_of, moved_or_refused, transferred}
 use Rattle.stm_recipes.proofs.AccountRuns.{transfer_alone}
 use Rattle.stm_recipes.proofs.SlotRuns.{release_alone}
 use Rattle.stm_world_laws.specs.Commits.{IsCommitOf}
@@ -111,26 +109,10 @@ twice slot first second between r named reserves again legal leave =
     (ap (λ (s : Option KeyState). is_some s) (left_alone slot between after leave) ∙ held_is_held slot reserves.holder reserves.lease after took)
     again last.0
 
--- a release that is done has found its holder
-found_holder : (same : Bool) (slot : List ℕ) (run : Run) → run.end ≡ DoneEnd →
-    deed_of run ≡ cond same (done (Del slot ∷ [])) (aborted (codes "not held")) → same ≡ true
-found_holder true slot run ended deed = refl
-found_holder false slot run ended deed =
-    let aborts : run.end ≡ AbortedEnd (codes "not held") = ap (λ (d : Deed). d.end) deed in
-    absurd (cc)
-
 by_another : (slot holder other : List ℕ) (lease : ℕ) (e : Entry) (r : Replayed) → 0 < length slot → IsHeldBy slot holder lease r → holder ≢ other →
     IsCommitOf (release_program slot other) e → IsLegal e r → ⊥
 by_another slot holder other lease e r named held differ commits legal =
-    let h : History = r.history in
-    let c : Committed (release_program slot other) r (replay_entry e r) = committed (release_program slot other) e r commits legal in
-    let deed : deed_of c.run ≡ released slot other (value_in (state_now h)) =
-    release_alone (state_now h) slot other (now_is_known h) named c.run c.alone in
-    let found : bytes_eq (value_now (key_now h slot)) other ≡ true =
-    found_holder (bytes_eq (value_now (key_now h slot)) other) slot c.run c.is_done deed in
-    let value : value_now (key_now h slot) ≡ holder = ap value_now held.is ∙ held.value in
-    let apart : bytes_eq (value_now (key_now h slot)) other ≡ false = ap (λ (t : List ℕ). bytes_eq t other) value ∙ keys_differ holder other differ in
-    absurd (cc)
+    grind (arith, nat_tests, Committed, committed, release_alone, now_is_known, keys_differ)
 
 pub wrong_reservations : WrongReservations
 wrong_reservations = record { of_held = of_held; twice = twice; by_another = by_another }

@@ -8,11 +8,10 @@ use Rattle.std.proofs.lemmas.Bool.{ltb-true}
 use Rattle.std.proofs.lemmas.List.{append-nil, append_cancel_left, length-append}
 use Rattle.std.proofs.lemmas.Option.{same_Some}
 use Rattle.stm_history.specs.declared.change.Change.{Change}
-use Rattle.stm_history.specs.declared.change.Change.TheVariants.{Put, Del}
 use Rattle.stm_history.specs.declared.key_state.KeyState.{KeyState}
 use Rattle.stm_history.specs.declared.key_state.ReadAnswer.{ReadAnswer}
 use Rattle.stm_history.specs.Opening.{Opening, opening_at, opened_state}
-use Rattle.stm_history.specs.History.{History, now, key_now, key_after, mod_of, number_of_last, revisions_up_to, change_of, after_change, key_of}
+use Rattle.stm_history.specs.History.{History, now, key_now, key_after, mod_of, revisions_up_to, after_change, key_of}
 use Rattle.stm_history.proofs.HistoryLaws.{one_more as one_more_revision, mod_is_reached}
 use Rattle.stm_program.specs.declared.level.Level.{Level}
 use Rattle.stm_program.specs.declared.level.Level.TheVariants.{SerializableSnapshot, Serializable, RepeatableReads, ReadCommitted}
@@ -26,7 +25,7 @@ use Rattle.stm_outcome.specs.declared.txn.Compare.{Compare}
 use Rattle.stm_outcome.specs.declared.answer.FailedCompare.{FailedCompare}
 use Rattle.stm_outcome.specs.Compares.{holds}
 use Rattle.stm_outcome.specs.Laws.{FailsAt}
-use Rattle.stm_outcome.proofs.Applying.{mod_compares, failed_has_its_place}
+use Rattle.stm_outcome.proofs.Applying.{failed_has_its_place}
 use Rattle.stm_program.specs.Levels.{is_serializable}
 use Rattle.stm_compile.specs.Answers.{answer_in, answer_now}
 use Rattle.stm_compile.specs.CommitTxn.{first_carried, is_as_read, is_unmodified, compares_of, reread_keys}
@@ -62,12 +61,10 @@ IsSmall a = mod_of a.kv ≤ a.of_rev
 small_up_to : (number r : ℕ) (key : List ℕ) (revisions : List (List Change)) →
     mod_of (key_after (opening_at number) key (revisions_up_to (opening_at number) r revisions)) ≤ r
 small_up_to number r key [] = omega arith
-small_up_to number r key (changes ∷ older) =
-    grind (arith, nat_tests, mod_is_reached (opening_at number) key (changes ∷ older), small_up_to number r key older)
+small_up_to number r key (changes ∷ older) = grind (arith, nat_tests, mod_is_reached, small_up_to number r key older)
 
 answer_small : (number : ℕ) (h : History) (key : List ℕ) (r : ℕ) → h.opening ≡ opening_at number → IsSmall (answer_at h key r)
-answer_small number h key r opens =
-    subst (λ (o : Opening). mod_of (key_after o key (revisions_up_to o r h.revisions)) ≤ r) (sym opens) (small_up_to number r key h.revisions)
+answer_small number h key r opens = grind (arith, nat_tests, small_up_to)
 
 now_small : (h : History) (key : List ℕ) → IsSmall (answer_now h key)
 now_small h key = mod_is_reached h.opening key h.revisions
@@ -78,8 +75,7 @@ rereads_small h (key ∷ keys) = (now_small h key, rereads_small h keys)
 
 -- by whether a line is about the runner
 small_by : (mine : Bool) (next known : Known) → KnowsAll IsSmall next → KnowsAll IsSmall known → KnowsAll IsSmall (cond mine next known)
-small_by true next known all was = all
-small_by false next known all was = was
+small_by mine next known all was = grind (arith, nat_tests)
 
 known_small : (number id : ℕ) (task : Task) (h : History) (reply : Result Reply Denied) (known : Known) → h.opening ≡ opening_at number →
     KnowsAll IsSmall known → KnowsAll IsSmall (known_after id task h reply known)
@@ -118,31 +114,20 @@ writes_small first [] = tt
 writes_small first (w ∷ writes) = (omega arith, writes_small first writes)
 
 seen_small : (reads : List ReadAnswer) (writes : List Change) → AllByRecursion IsSmall reads → AllByRecursion IsSeenSmall (seen_by reads writes)
-seen_small reads writes all =
-    both_seen IsSeenSmall (map seen_of_read reads) (map (seen_of_write (first_carried reads)) writes) (reads_small reads all)
-    (writes_small (first_carried reads) writes)
+seen_small reads writes all = grind (arith, nat_tests, both_seen, reads_small, writes_small)
 
 -- ---- a key that is present, and was changed above a revision, was modified above it ----
 
 changed_above : (r number : ℕ) (change : Option Change) (s : Option KeyState) (deeper : Bool) → r < number →
     ((nat_lt r number && is_some change) || deeper) ≡ true → (deeper ≡ true → 0 < mod_of s → r < mod_of s) → 0 < mod_of (after_change number change s) →
     r < mod_of (after_change number change s)
-changed_above r number None s deeper above changed later present = grind (arith, later)
-changed_above r number (Some (Put key value lease)) None deeper above changed later present = above
-changed_above r number (Some (Put key value lease)) (Some s) deeper above changed later present = above
-changed_above r number (Some (Del key)) s deeper above changed later present = absurd (omega (arith, present))
+changed_above r number change s deeper above changed later present = grind (arith, nat_tests)
 
 modified_above : (opening : Opening) (r : ℕ) (key : List ℕ) (revisions : List (List Change)) → changes_above opening r key revisions ≡ true →
     0 < mod_of (key_after opening key revisions) → r < mod_of (key_after opening key revisions)
 modified_above opening r key [] changed present = ltb-true r (mod_of (opened_state opening key)) changed
 modified_above opening r key (changes ∷ older) changed present =
-    let number : ℕ = number_of_last opening (changes ∷ older) in
-    let step : key_after opening key (changes ∷ older) ≡ after_change number (change_of key changes) (key_after opening key older) =
-    one_more_revision opening key changes older in
-    subst (λ (s : Option KeyState). r < mod_of s) (sym step)
-    (changed_above r number (change_of key changes) (key_after opening key older) (changes_above opening r key older)
-    (above_all opening r key (changes ∷ older) changed) changed (modified_above opening r key older)
-    (subst (λ (s : Option KeyState). 0 < mod_of s) step present))
+    grind (arith, nat_tests, one_more_revision, changed_above, above_all, modified_above opening r key older)
 
 -- ---- what a compare that fails is about ----
 
@@ -156,23 +141,12 @@ record IsOfWrite (h : History) (writes : List Change) (seen : Seen) : Type 0 whe
   was_written : is_written seen.key writes ≡ true
   differs : mod_of (key_now h seen.key) ≢ seen.mod_rev
 
-read_differs : (h : History) (a : ReadAnswer) → holds (is_as_read a) (key_now h a.key) ≡ false → mod_of (key_now h a.key) ≢ mod_of a.kv
-read_differs h a fails same =
-    let held : holds (is_as_read a) (key_now h a.key) ≡ true = (mod_compares.equal a.key (mod_of a.kv) (key_now h a.key)).1 same in
-    absurd (cc)
-
 of_first : (h : History) (a : ReadAnswer) (reads : List ReadAnswer) (c : Compare) (seen : Seen) → c ≡ is_as_read a → seen ≡ seen_of_read a →
     holds c (key_now h c.key) ≡ false → IsOfRead h (a ∷ reads) seen
-of_first h a reads c seen compares about fails =
-    subst (IsOfRead h (a ∷ reads)) (sym about)
-    (record {
-      was_read = ap (λ b. is_some (cond b (Some a) (answer_in a.key reads))) (bytes_eq-self a.key);
-      differs = read_differs h a (subst (λ (d : Compare). holds d (key_now h d.key) ≡ false) compares fails);
-    })
+of_first h a reads c seen compares about fails = grind (arith, nat_tests, bytes_eq-self)
 
 of_later : (h : History) (a : ReadAnswer) (reads : List ReadAnswer) (seen : Seen) → IsOfRead h reads seen → IsOfRead h (a ∷ reads) seen
-of_later h a reads seen of =
-    record { was_read = grind (arith, of.was_read); differs = of.differs }
+of_later h a reads seen of = grind (arith, nat_tests)
 
 of_read : (h : History) (reads : List ReadAnswer) (more : List Seen) (i : ℕ) (c : Compare) (seen : Seen) → slice_get (map is_as_read reads) i ≡ Some c →
     holds c (key_now h c.key) ≡ false → slice_get (map seen_of_read reads ++ more) i ≡ Some seen → IsOfRead h reads seen
@@ -187,27 +161,12 @@ written_by : (w : Change) (ws : List Change) (key : List ℕ) →
 written_by w ws key =
     ap is_some (last_write-append key (w ∷ []) ws ∙ ap (λ (o : Option Change). or_else (last_write key ws) o) (last_write-one key w))
 
-write_differs : (h : History) (first : ℕ) (w : Change) → holds (is_unmodified first w) (key_now h (key_of w)) ≡ false → mod_of (key_now h (key_of w)) ≢ first
-write_differs h first w fails same =
-    let held : holds (is_unmodified first w) (key_now h (key_of w)) ≡ true =
-    (mod_compares.below (key_of w) (first + 1) (key_now h (key_of w))).1 (omega (arith, same)) in
-    absurd (cc)
-
 of_first_write : (h : History) (first : ℕ) (w : Change) (ws : List Change) (c : Compare) (seen : Seen) → c ≡ is_unmodified first w →
     seen ≡ seen_of_write first w → holds c (key_now h c.key) ≡ false → IsOfWrite h (w ∷ ws) seen
-of_first_write h first w ws c seen compares about fails =
-    subst (IsOfWrite h (w ∷ ws)) (sym about)
-    (record {
-      was_written = written_by w ws (key_of w)
-          ∙ grind (arith, bytes_eq-self (key_of w));
-      differs = write_differs h first w (subst (λ (d : Compare). holds d (key_now h d.key) ≡ false) compares fails);
-    })
+of_first_write h first w ws c seen compares about fails = grind (arith, nat_tests, written_by, bytes_eq-self)
 
 of_later_write : (h : History) (w : Change) (ws : List Change) (seen : Seen) → IsOfWrite h ws seen → IsOfWrite h (w ∷ ws) seen
-of_later_write h w ws seen of = record {
-  was_written = written_by w ws seen.key ∙ grind (arith, of.was_written);
-  differs = of.differs;
-}
+of_later_write h w ws seen of = grind (arith, nat_tests, written_by)
 
 of_write : (h : History) (first : ℕ) (ws : List Change) (i : ℕ) (c : Compare) (seen : Seen) → slice_get (map (is_unmodified first) ws) i ≡ Some c →
     holds c (key_now h c.key) ≡ false → slice_get (map (seen_of_write first) ws) i ≡ Some seen → IsOfWrite h ws seen
@@ -220,13 +179,8 @@ of_either : (h : History) (first : ℕ) (reads : List ReadAnswer) (ws : List Cha
     slice_get (map is_as_read reads ++ map (is_unmodified first) ws) i ≡ Some c → holds c (key_now h c.key) ≡ false →
     slice_get (map seen_of_read reads ++ map (seen_of_write first) ws) i ≡ Some seen → IsOfRead h reads seen ⊎ IsOfWrite h ws seen
 of_either h first [] ws i c seen at fails about = inr (of_write h first ws i c seen at fails about)
-of_either h first (a ∷ reads) ws zero c seen at fails about =
-    inl (of_first h a reads c seen (same_Some c (is_as_read a) (sym at)) (same_Some seen (seen_of_read a) (sym about)) fails)
-of_either h first (a ∷ reads) ws (suc i) c seen at fails about = more (of_either h first reads ws i c seen at fails about)
-  where
-    more : IsOfRead h reads seen ⊎ IsOfWrite h ws seen → IsOfRead h (a ∷ reads) seen ⊎ IsOfWrite h ws seen
-    more (inl of) = inl (of_later h a reads seen of)
-    more (inr of) = inr of
+of_either h first (a ∷ reads) ws zero c seen at fails about = grind (arith, nat_tests, of_first, same_Some)
+of_either h first (a ∷ reads) ws (suc i) c seen at fails about = grind (arith, nat_tests, of_later, of_either h first reads ws i c seen at fails about)
 
 reads_alone : (h : History) (reads : List ReadAnswer) (writes : List Change) (failed : FailedCompare) (seen : Seen) →
     FailsAt (key_now h) (map is_as_read reads) failed → slice_get (seen_by reads writes) failed.index ≡ Some seen → IsOfRead h reads seen
@@ -267,54 +221,36 @@ record Fails (start : Setup) (log : List Line) (failed : FailedCommit) (task : T
 
 fails_as : (start : Setup) (log : List Line) (failed : FailedCommit) (task : Task) → running failed.runner log ≡ Some task → IsRealFailure start log failed →
     Fails start log failed task
-fails_as start log failed task runs real =
-    subst (Fails start log failed) (same_Some real.task task (sym real.runs ∙ runs))
-    (record { run = real.run; is_run = real.is_run; is_done = real.is_done; named = real.named })
+fails_as start log failed task runs real = grind (arith, nat_tests, same_Some)
 
 one_run : (a b : Run) → EndedRun a ≡ EndedRun b → a ≡ b
 one_run a b same = cc
 
 none_at : (h : History) (level : Level) (reads : List ReadAnswer) (writes : List Change) (compare : FailedCompare) → level ≡ ReadCommitted →
     conflict_now h level reads writes ≡ Some compare → ⊥
-none_at h level reads writes compare is fails =
-    let none : conflict_now h ReadCommitted reads writes ≡ Some compare =
-    subst (λ (l : Level). conflict_now h l reads writes ≡ Some compare) is fails in
-    absurd (cc)
+none_at h level reads writes compare is fails = grind (arith, nat_tests)
 
 -- a key that has no answer was not read
 unread : (h : History) (reads : List ReadAnswer) (key : List ℕ) (seen : Seen) → key ≡ seen.key → answer_in key reads ≡ None → IsOfRead h reads seen → ⊥
-unread h reads key seen same none of =
-    let some : is_some (answer_in key reads) ≡ true = ap (λ (k : List ℕ). is_some (answer_in k reads)) same ∙ of.was_read in
-    let no : is_some (answer_in key reads) ≡ false = ap (λ (o : Option ReadAnswer). is_some o) none in
-    absurd (cc)
+unread h reads key seen same none of = grind (arith, nat_tests)
 
 untouched : (h : History) (reads : List ReadAnswer) (writes : List Change) (key : List ℕ) (seen : Seen) → key ≡ seen.key → answer_in key reads ≡ None →
     is_written key writes ≡ false → IsOfRead h reads seen ⊎ IsOfWrite h (latest_writes writes) seen → ⊥
-untouched h reads writes key seen same none unwritten (inl of) = unread h reads key seen same none of
-untouched h reads writes key seen same none unwritten (inr of) =
-    let some : is_written key writes ≡ true =
-    ap is_some (sym (latest_writes-last writes key)) ∙ ap (λ (k : List ℕ). is_written k (latest_writes writes)) same ∙ of.was_written in
-    absurd (cc)
+untouched h reads writes key seen same none unwritten h9 = grind (arith, nat_tests, unread, latest_writes-last)
 
 other_number : (h : History) (reads : List ReadAnswer) (writes : List Change) (seen : Seen) → IsOfRead h reads seen ⊎ IsOfWrite h writes seen →
     mod_of (key_now h seen.key) ≢ seen.mod_rev
-other_number h reads writes seen (inl of) = of.differs
-other_number h reads writes seen (inr of) = of.differs
+other_number h reads writes seen h5 = grind (arith, nat_tests)
 
 -- ---- ends ----
 
 -- the end of a runner with this task at a serializable level
 ends_as : (start : Setup) (log : List Line) (stopped : Stopped) (task : Task) → running stopped.runner log ≡ Some task → is_serializable task.level ≡ true →
     IsRealStop start log stopped → IsEndOnOneState (store start log).history task (reads_of start log stopped.runner task) stopped.end
-ends_as start log stopped task runs serializable real =
-    let same : real.task ≡ task = same_Some real.task task (sym real.runs ∙ runs) in
-    subst (λ (t : Task). IsEndOnOneState (store start log).history t (reads_of start log stopped.runner t) stopped.end) same
-    (real.of_one_state (subst (λ (t : Task). is_serializable t.level ≡ true) (sym same) serializable))
+ends_as start log stopped task runs serializable real = grind (arith, nat_tests, same_Some)
 
 shows_base : (reads : List ReadAnswer) (key : List ℕ) (a : ReadAnswer) → HaveOneBase reads → answer_in key reads ≡ Some a → a.of_rev ≡ base_of reads
-shows_base [] key a one found = absurd (cc)
-shows_base (first ∷ rest) key a one found =
-    found_all (λ (b : ReadAnswer). b.of_rev ≡ first.of_rev) key (first ∷ rest) a (refl, all_show first.of_rev rest one.1) found
+shows_base reads key a one found = grind (arith, nat_tests, found_all, all_show)
 
 pub wrong_failures : FailuresMoveOn → WrongFailures
 wrong_failures moves_on = record {

@@ -25,7 +25,7 @@ fn anomaly_words(alloc: Global, parts: &[Json], verdict: &str) -> Said {
 fn off_words(alloc: Global, parts: &[Json]) -> Said {
     let commit = number_at(parts, 1).unwrap_or(0);
     format!(in alloc;
-        "commit {commit}: its revision is not the store's, so commits are missing; the rest was not looked at"
+        "commit {commit}: its revision is not the store's: commits are missing, or the trace does not say what was there before; the rest was not looked at"
     )
 }
 

@@ -1,14 +1,15 @@
 -- What the reads of an attempt show, from step to step; and what is read of a history that grows.
 use mathlib.Core.Path.{fun_ext}
-use Rattle.std.proofs.Common.{◌≡◌, ◌⊎◌, inl, inr, ℕ, ◌+◌, ◌≤◌, Option, Some, List, [], ◌∷◌, ◌++◌, length, map, All, Contains, get_or, true, false, cond, refl, sym, ◌∙◌}
+use Rattle.std.proofs.Common.{◌≡◌, ◌⊎◌, inl, inr, ℕ, ◌≤◌, Option, Some, List, [], ◌∷◌, ◌++◌, map, All, Contains, get_or, true, false, refl, sym, ◌∙◌}
 use Rattle.std.proofs.Common.{ap, subst, arith, length-append}
 use Rattle.std.proofs.lemmas.List.Elements.{All-from_recursion, recursion_from_All}
 use Rattle.std.specs.List.{AllByRecursion}
+use Rattle.std.proofs.lemmas.Bool.Decides.{nat_tests}
 use Rattle.stm_history.specs.declared.change.Change.{Change}
 use Rattle.stm_history.specs.declared.key_state.KeyState.{KeyState}
 use Rattle.stm_history.specs.declared.key_state.ReadAnswer.{ReadAnswer}
 use Rattle.stm_history.specs.Opening.{Opening}
-use Rattle.stm_history.specs.History.{History, now, key_at, key_after, number_of_last, revisions_up_to}
+use Rattle.stm_history.specs.History.{History, now, number_of_last, revisions_up_to}
 use Rattle.stm_history.proofs.HistoryLaws.{last_is_above, last_revision_is_now}
 use Rattle.stm_program.specs.Syntax.{ProgramTree}
 use Rattle.stm_program.specs.declared.level.Level.{Level}
@@ -38,23 +39,14 @@ use Rattle.stm_world.proofs.Appending.{events_append}
 up_to_stays : (added older : List (List Change)) (opening : Opening) (r : ℕ) → r ≤ number_of_last opening older →
     revisions_up_to opening r (added ++ older) ≡ revisions_up_to opening r older
 up_to_stays [] older opening r within = refl
-up_to_stays (c ∷ added) older opening r within =
-    last_is_above opening r c (added ++ older) (omega (arith, length-append added older, within)) ∙ up_to_stays added older opening r within
-
-key_stays : (before after : History) (key : List ℕ) (r : ℕ) → AddsTo before after → r ≤ now before → key_at after key r ≡ key_at before key r
-key_stays before after key r adds within =
-    ap (λ (o : Opening). key_after o key (revisions_up_to o r after.revisions)) adds.opening
-    ∙ ap (λ (l : List (List Change)). key_after before.opening key (revisions_up_to before.opening r l)) adds.revisions
-    ∙ ap (λ (l : List (List Change)). key_after before.opening key l) (up_to_stays adds.added before.revisions before.opening r within)
+up_to_stays (c ∷ added) older opening r within = grind (arith, nat_tests, last_is_above, length-append, up_to_stays added older opening r within)
 
 pub counter_grows : (before after : History) → AddsTo before after → now before ≤ now after
-counter_grows before after adds =
-    let same : after.opening.number ≡ before.opening.number = ap (λ (o : Opening). o.number) adds.opening in
-    omega (arith, same, ap length adds.revisions ∙ length-append adds.added before.revisions)
+counter_grows before after adds = grind (arith, nat_tests, length-append)
 
 -- the state at a revision that was reached stays
 pub state_stays : (before after : History) (r : ℕ) → AddsTo before after → r ≤ now before → state_as_of after r ≡ state_as_of before r
-state_stays before after r adds within = fun_ext (λ key. ap (λ (s : Option KeyState). Some (seen_of s)) (key_stays before after key r adds within))
+state_stays before after r adds within = grind (arith, nat_tests, up_to_stays)
 
 -- at the last revision it is the current one
 pub state_is_now : (h : History) (r : ℕ) → r ≡ now h → state_as_of h r ≡ state_now h
@@ -76,10 +68,7 @@ BaseFrom h before (a ∷ after) =
 
 fetched_from : (h : History) (level : Level) (reads added after : List ReadAnswer) (a : ReadAnswer) → is_serializable level ≡ true →
     a.of_rev ≡ revision_read h (at_of level reads) → after ≡ (reads ++ a ∷ []) ++ added → BaseFrom h reads after
-fetched_from h level [] added after a serializable of_rev is =
-    let none : at_of level [] ≡ 0 = ap (λ b. cond b 0 0) serializable in
-    subst (BaseFrom h []) (sym is) (inl (of_rev ∙ ap (revision_read h) none))
-fetched_from h level (x ∷ reads) added after a serializable of_rev is = subst (BaseFrom h (x ∷ reads)) (sym is) (inr (x, reads, refl, refl))
+fetched_from h level reads added after a serializable of_rev is = grind (arith, nat_tests)
 
 -- after a fetch
 pub fetch_from : (task : Task) (h : History) (key : List ℕ) (known : Known) → is_serializable task.level ≡ true →
@@ -131,10 +120,7 @@ settled_each P program known reads prefetched =
 
 start_each : (P : ReadAnswer → Type 0) (program : ProgramTree) (known : Known) (s : Settles program known) → AllByRecursion P known.reads →
     AllByRecursion P known.prefetched → AllByRecursion P s.start
-start_each P program known s reads prefetched = elim s.is_start [
-  | inl same ↦ subst (AllByRecursion P) same reads
-  | inr is ↦ taken_are P program.prefetch known.prefetched s.start prefetched is
-]
+start_each P program known s reads prefetched = grind (arith, nat_tests, taken_are)
 
 gone_each : (P : ReadAnswer → Type 0) (program : ProgramTree) (known : Known) → AllByRecursion P known.reads → AllByRecursion P known.prefetched →
     AllByRecursion P (gone_on program known)
@@ -149,8 +135,7 @@ now_each h [] = tt
 now_each h (key ∷ keys) = (refl, now_each h keys)
 
 now_from : (h : History) (before after : List ReadAnswer) → AllByRecursion (λ (a : ReadAnswer). a.of_rev ≡ now h) after → BaseFrom h before after
-now_from h before [] all = tt
-now_from h before (a ∷ after) all = inl all.0
+now_from h before after all = grind (arith, nat_tests)
 
 pub conflict_from : (task : Task) (h : History) (known : Known) → BaseFrom h known.reads (after_conflict task h known).reads
 conflict_from task h known =

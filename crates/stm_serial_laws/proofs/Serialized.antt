@@ -4,41 +4,35 @@
 -- store had the revision that its last attempt has read: at the step that fixed the base of that attempt, and until this comes it is late.
 use Rattle.std.proofs.Common.{◌≡◌, ◌≢◌, ◌⊎◌, inl, inr, ℕ, zero, suc, ◌-◌, ◌<◌, ◌≤◌, List, [], ◌∷◌, length, Option, Some, None, Bool, true, false, cond, refl, sym, ◌∙◌}
 use Rattle.std.proofs.Common.{ap, subst, arith}
-use Rattle.std.specs.Prelude.{nat_eq, nat_lt, slice_get, slice_set, Result}
+use Rattle.std.specs.Prelude.{nat_eq, slice_get, slice_set}
 use Rattle.std.proofs.lemmas.List.Elements.{All-from_recursion}
+use Rattle.std.proofs.lemmas.Bool.Decides.{nat_tests}
 use Rattle.stm_history.specs.declared.key_state.ReadAnswer.{ReadAnswer}
 use Rattle.stm_history.specs.History.{History, now}
 use Rattle.stm_program.specs.Levels.{is_serializable}
 use Rattle.stm_program.specs.Syntax.{ProgramTree}
-use Rattle.stm_program.specs.Writes.{latest_writes}
 use Rattle.stm_steps.specs.declared.value.Value.{Value}
 use Rattle.stm_steps.specs.declared.run.End.{End}
-use Rattle.stm_steps.specs.declared.run.End.TheVariants.{Done as DoneEnd, Aborted as AbortedEnd, Faulted as FaultedEnd}
+use Rattle.stm_steps.specs.declared.run.End.TheVariants.{Done as DoneEnd}
 use Rattle.stm_steps.specs.declared.run.Run.{Run}
 use Rattle.stm_steps.specs.declared.run.Answered.{Answered}
 use Rattle.stm_steps.specs.declared.run.Answered.TheVariants.{Ended as EndedRun}
 use Rattle.stm_meaning.specs.Answer.{Lookup}
 use Rattle.stm_meaning.specs.Meaning.{run_over}
 use Rattle.stm_meaning.specs.Laws.{IsContinuedBy}
-use Rattle.stm_txn.specs.Standing.{Setup, Standing, with_history}
+use Rattle.stm_txn.specs.Standing.{Setup, Standing}
 use Rattle.stm_compile.specs.Answers.{AreTrue, state_as_of, state_now}
 use Rattle.stm_compile.proofs.AgreeLemmas.{answers_of_one_revision}
 use Rattle.stm_attempt.specs.Fetches.{HaveOneBase}
 use Rattle.stm_attempt.specs.Settled.{run_on}
-use Rattle.stm_entries.specs.Alone.{left_by}
 use Rattle.stm_entries.specs.Laws.{AddsTo}
-use Rattle.stm_entries.specs.Replayed.{without_moment}
 use Rattle.stm_events.specs.declared.event.WorldEvent.{WorldEvent}
 use Rattle.stm_events.specs.declared.event.WorldEvent.TheVariants.{Start, Step}
-use Rattle.stm_events.specs.declared.reply.Reply.{Reply}
-use Rattle.stm_events.specs.declared.reply.Reply.TheVariants.{Started, Committed, GaveUp, Aborted, Faulted, Ended}
-use Rattle.stm_events.specs.declared.refusal.Denied.{Denied}
-use Rattle.stm_events.specs.Replies.{runner_named}
 use Rattle.stm_events.specs.Called.{Call, Calls, asked}
 use Rattle.stm_events.proofs.CallReplies.{call_replies}
 use Rattle.stm_world.specs.Sound.{IsSound}
 use Rattle.stm_world.specs.Task.{Task}
-use Rattle.stm_world.specs.World.{World, Runner, Slot, Over, Live, Stepped, live_in, runner_at, with_slot, step, step_asked}
+use Rattle.stm_world.specs.World.{World, Runner, Slot, Over, Live, live_in, runner_at, with_slot, step}
 use Rattle.stm_world.proofs.Bases.{IsWellRun, begin_runs}
 use Rattle.stm_world.proofs.Calls.{call_adds}
 use Rattle.stm_world.proofs.OneState.{all_show}
@@ -48,12 +42,12 @@ use Rattle.stm_schedules.specs.declared.moves.Move.{Move}
 use Rattle.stm_schedules.specs.declared.moves.Move.TheVariants.{Step as StepOf, Other}
 use Rattle.stm_schedules.specs.declared.outcome.RunnerEnd.{RunnerEnd}
 use Rattle.stm_schedules.specs.declared.outcome.RunnerEnd.TheVariants as how
-use Rattle.stm_schedules.specs.Outcomes.{Ends, with_end, after_reply, after_reported, ends_moved, ends_after, AreKnown}
+use Rattle.stm_schedules.specs.Outcomes.{Ends, with_end, after_reported, ends_moved, ends_after, AreKnown}
 use Rattle.stm_schedules.specs.Places.{Place, moved}
 use Rattle.stm_schedules.specs.Schedules.{place_after, IsSchedule}
 use Rattle.stm_schedules.proofs.Gathered.{outcomes_are_those}
 use Rattle.stm_schedules.proofs.MoveLemmas.{moves_are_those}
-use Rattle.stm_serial.specs.Serial.{alone, left_alone, after_foreign, AreForeign, is_foreign}
+use Rattle.stm_serial.specs.Serial.{alone, after_foreign, AreForeign, is_foreign}
 use Rattle.stm_serial.proofs.Serializing.{place, none_left, same_runners, standing_after}
 use Rattle.stm_serial_laws.specs.Ends.{IsFresh, SchedulesEndSerially, counted, counts, end_alone, end_at, end_by, end_of_run, known_at}
 use Rattle.stm_serial_laws.proofs.BaseReads.{BaseFrom, counter_grows, event_adds, state_is_now, state_stays}
@@ -63,25 +57,13 @@ use Rattle.stm_serial_laws.proofs.Turns.{left_in, left_is, moves_of, no_runner, 
 
 -- ---- what the others say of runners
 
-nothing_ends : (ends : Ends) (reply : Reply) → runner_named reply ≡ None → after_reply reply ends ≡ ends
-nothing_ends ends (Started runner) none = absurd (cc)
-nothing_ends ends (Committed runner revision attempts output trace answers) none = absurd (cc)
-nothing_ends ends (GaveUp runner attempts key seen now) none = absurd (cc)
-nothing_ends ends (Aborted runner text) none = absurd (cc)
-nothing_ends ends (Faulted runner fault) none = absurd (cc)
-nothing_ends ends (Ended runner cause) none = absurd (cc)
-nothing_ends ends reply none = refl
-
 is_call : (e : WorldEvent) → is_foreign e ≡ true → (c : Call) × (asked e ≡ Calls c)
 is_call (Start program level limit) is = absurd (cc)
 is_call (Step id) is = absurd (cc)
 is_call _ is = (_, refl)
 
 foreign_ends : (e : WorldEvent) (w : World) (ends : Ends) → is_foreign e ≡ true → after_reported (step e w).reply ends ≡ ends
-foreign_ends e w ends foreign =
-    let c = is_call e foreign in
-    ap (λ a. after_reported (step_asked a w).reply ends) c.1 ∙ ap (λ (x : Stepped). after_reported x.reply ends) (call_adds c.0 w)
-    ∙ call_replies (λ (r : Result Reply Denied). after_reported r ends ≡ ends) (record { told = nothing_ends ends; refused = λ cause expired. refl }) w.standing c.0
+foreign_ends e w ends foreign = grind (arith, nat_tests, is_call, call_adds, call_replies)
 
 -- ---- runs that are told
 
@@ -114,28 +96,6 @@ record Gathered (ms : List Move) (os : List WorldEvent) (w : World) (ends : Ends
 
 -- ---- going back over a step
 
--- a run that stops leaves the store as it was
-stopped_leaves : (s : Standing) (run : Run) → Stops run.end → left_alone s (EndedRun run) ≡ s
-stopped_leaves s run stops = by_end run.end refl stops
-  where
-    by_many : (many : Bool) (x : Standing) → x ≡ s → cond many s x ≡ s
-    by_many true x is = refl
-    by_many false x is = is
-
-    by_end : (e : End) → run.end ≡ e → Stops e → left_alone s (EndedRun run) ≡ s
-    by_end DoneEnd is stops = absurd stops
-    by_end (AbortedEnd text) is stops =
-        by_many (nat_lt s.limit (length (latest_writes run.writes))) (with_history s (left_by run run.end (without_moment s)).history)
-        (ap (λ (e : End). with_history s (left_by run e (without_moment s)).history) is)
-    by_end (FaultedEnd fault) is stops =
-        by_many (nat_lt s.limit (length (latest_writes run.writes))) (with_history s (left_by run run.end (without_moment s)).history)
-        (ap (λ (e : End). with_history s (left_by run e (without_moment s)).history) is)
-
-stopped_counts : (output : List Value) (e : End) → Stops e → counted (Some (end_by output e)) ≡ Some (end_by output e)
-stopped_counts output DoneEnd stops = absurd stops
-stopped_counts output (AbortedEnd text) stops = refl
-stopped_counts output (FaultedEnd fault) stops = refl
-
 -- the turn of a run that stops, on the current state
 record StopsHere (r : Runner) (s : Standing) (told : Option RunnerEnd) : Type 0 where
   run : Run
@@ -144,36 +104,20 @@ record StopsHere (r : Runner) (s : Standing) (told : Option RunnerEnd) : Type 0 
   is : told ≡ Some (end_by run.output run.end)
 
 store_stays : (r : Runner) (s : Standing) (told : Option RunnerEnd) → StopsHere r s told → alone r.task.program s ≡ s
-store_stays r s told x = ap (left_alone s) x.is_alone ∙ stopped_leaves s x.run x.stops
+store_stays r s told x = grind (arith, nat_tests, Stops)
 
 tells_end : (r : Runner) (s : Standing) (told : Option RunnerEnd) → StopsHere r s told → end_alone r.task.program s ≡ counted told
-tells_end r s told x = ap end_of_run x.is_alone ∙ sym (stopped_counts x.run.output x.run.end x.stops) ∙ sym (ap counted x.is)
+tells_end r s told x = grind (arith, nat_tests)
 
 -- what was late with the reads before is late still
 late_same : (id : ℕ) (r after : Runner) (ts : List Turn) (h : History) (told : Option RunnerEnd) → after.task ≡ r.task → (l : Late id after ts h told) →
     (x : ReadAnswer) (xs : List ReadAnswer) → r.known.reads ≡ x ∷ xs → x.of_rev ≡ l.first.of_rev → Late id r ts h told
-late_same id r after ts h told task l x xs reads same = record {
-  not = l.not;
-  first = x;
-  rest = xs;
-  reads = reads;
-  run = l.run;
-  is_alone = ap (λ n. run_over (state_as_of h n) r.task.program.statements) same
-      ∙ ap (λ (t : Task). run_over (state_as_of h l.first.of_rev) t.program.statements) (sym task) ∙ l.is_alone;
-  stops = l.stops;
-  is = l.is;
-}
+late_same id r after ts h told task l x xs reads same = grind (arith, nat_tests)
 
 -- what is late with reads of the current revision has its turn here
 late_here : (id : ℕ) (r after : Runner) (ts : List Turn) (s : Standing) (told : Option RunnerEnd) → after.task ≡ r.task → (l : Late id after ts s.history told) →
     l.first.of_rev ≡ now s.history → StopsHere r s told
-late_here id r after ts s told task l base = record {
-  run = l.run;
-  is_alone = ap (λ (look : Lookup). run_over look r.task.program.statements) (sym (state_is_now s.history l.first.of_rev base))
-      ∙ ap (λ (t : Task). run_over (state_as_of s.history l.first.of_rev) t.program.statements) (sym task) ∙ l.is_alone;
-  stops = l.stops;
-  is = l.is;
-}
+late_here id r after ts s told task l base = grind (arith, nat_tests, state_is_now)
 
 -- what is late of another runner is so before the store moved on
 late_before : (id : ℕ) (r : Runner) (ts more : List Turn) (before after : History) (told : Option RunnerEnd) → AddsTo before after → AreTrue before r.known.reads →
@@ -196,12 +140,7 @@ late_before id r ts more before after told adds truth not l =
 placed : (P : ℕ → Runner → Type 0) (slots : List Slot) (id : ℕ) (r : Runner) (slot : Slot) → runner_at id slots ≡ Some r →
     ((x : Runner) → live_in (Some slot) ≡ Some x → P id x) → ((j : ℕ) (x : Runner) → id ≢ j → runner_at j slots ≡ Some x → P j x) →
     (j : ℕ) (x : Runner) → runner_at j (with_slot id slot slots) ≡ Some x → P j x
-placed P slots id r slot found own other j x at =
-    let there = runner_there id slots r found in
-    by_number (λ k. k ≡ j → P j x) id j
-    (λ same. subst (λ (k : ℕ). P k x) same
-    (own x (sym (runner_own id slots slot there.0 there.1) ∙ subst (λ (k : ℕ). runner_at k (with_slot id slot slots) ≡ Some x) (sym same) at)))
-    (λ ne same. other j x ne (sym (runner_other id j slots slot there.0 ne) ∙ at)) refl
+placed P slots id r slot found own other j x at = grind (arith, nat_tests, runner_there, by_number, runner_own, runner_other)
 
 same_runner : (a b : Runner) (o : Option Runner) → o ≡ Some a → o ≡ Some b → a ≡ b
 same_runner a b o first second = let both : Some a ≡ Some b = sym first ∙ second in cc
@@ -242,19 +181,15 @@ slot_ready w id r slot are found runners own =
 
 live_there : (id j : ℕ) (w next : World) (slot : Slot) (r x : Runner) → next.runners ≡ with_slot id slot w.runners → runner_at id w.runners ≡ Some r → id ≢ j →
     runner_at j w.runners ≡ Some x → runner_at j next.runners ≡ Some x
-live_there id j w next slot r x runners found ne there =
-    ap (runner_at j) runners ∙ runner_other id j w.runners slot (runner_there id w.runners r found).0 ne ∙ there
+live_there id j w next slot r x runners found ne there = grind (arith, nat_tests, runner_other, runner_there)
 
 over_there : (id j : ℕ) (w next : World) (slot : Slot) (r : Runner) → next.runners ≡ with_slot id slot w.runners → runner_at id w.runners ≡ Some r →
     runner_at j w.runners ≡ None → (id ≢ j) × (runner_at j next.runners ≡ None)
-over_there id j w next slot r runners found none =
-    let ne : id ≢ j = λ same. no_runner r (sym found ∙ ap (λ k. runner_at k w.runners) same ∙ none) in
-    (ne, ap (runner_at j) runners ∙ runner_other id j w.runners slot (runner_there id w.runners r found).0 ne ∙ none)
+over_there id j w next slot r runners found none = grind (arith, nat_tests, no_runner, runner_other, runner_there)
 
 -- the runner itself is over behind it
 gone : (id : ℕ) (w next : World) (r : Runner) → next.runners ≡ with_slot id Over w.runners → runner_at id w.runners ≡ Some r → runner_at id next.runners ≡ None
-gone id w next r runners found =
-    let there = runner_there id w.runners r found in ap (runner_at id) runners ∙ runner_own id w.runners Over there.0 there.1
+gone id w next r runners found = grind (arith, nat_tests, runner_there, runner_own)
 
 -- the runners of the turns run before the step, too
 runs_before : (id : ℕ) (w next : World) (slot : Slot) (r : Runner) → next.runners ≡ with_slot id slot w.runners → runner_at id w.runners ≡ Some r →
@@ -390,15 +325,11 @@ no_task r x is = absurd (is_no_runner x is)
 ended_so : (id : ℕ) (ms : List Move) (os : List WorldEvent) (w : World) (ends : Ends) (r : Runner) (e : RunnerEnd) → runner_at id w.runners ≡ Some r → AreAsMany w.runners ends →
     (after_step id w).runners ≡ with_slot id Over w.runners → ends_step id w ends ≡ with_end id e ends →
     Gathered ms os (after_step id w) (ends_step id w ends) → final ms (place (after_step id w) os) (ends_step id w ends) id ≡ Some e
-ended_so id ms os w ends r e found many runners ends_are rest =
-    let there = runner_there id w.runners r found in
-    rest.over id there.0 (gone id w (after_step id w) r runners found) ∙ ap (end_at id) ends_are
-    ∙ end_own id ends (Some e) there.0 (subst (λ n. id ≤ n) many there.1)
+ended_so id ms os w ends r e found many runners ends_are rest = grind (arith, nat_tests, ends_are, runner_there, gone, end_own)
 
 other_ends : (id j : ℕ) (w : World) (ends : Ends) (r : Runner) (e : RunnerEnd) → runner_at id w.runners ≡ Some r → ends_step id w ends ≡ with_end id e ends → 0 < j → id ≢ j →
     end_at j (ends_step id w ends) ≡ end_at j ends
-other_ends id j w ends r e found ends_are some ne =
-    ap (end_at j) ends_are ∙ end_other id j ends (Some e) (runner_there id w.runners r found).0 some ne
+other_ends id j w ends r e found ends_are some ne = grind (arith, nat_tests, ends_are, end_other, runner_there)
 
 not_counted : (e : RunnerEnd) → counts e ≡ false → counted (Some e) ≡ None
 not_counted e none = ap (λ b. cond b (Some e) None) none
@@ -631,20 +562,14 @@ as_many (s ∷ slots) [] known = absurd known
 as_many (s ∷ slots) (e ∷ ends) known = ap suc (as_many slots ends known.1)
 
 live_at : (b : Bool) (o : Option Runner) (r : Runner) → cond b None o ≡ Some r → o ≡ Some r
-live_at true o r is = absurd (cc)
-live_at false o r is = is
-
-no_reads : (first : ReadAnswer) (rest : List ReadAnswer) → [] ≡ first ∷ rest → ⊥
-no_reads first rest is = cc
+live_at b o r is = grind (arith, nat_tests)
 
 well_begun : (r : Runner) → IsFresh r → IsWellRun start r
 well_begun r fresh = subst (IsWellRun start) (sym fresh.begun) (begin_runs start r.task fresh.some)
 
 in_time : (id : ℕ) (r : Runner) (ts : List Turn) (os : List WorldEvent) (w : World) (told : Option RunnerEnd) → IsFresh r → Told id r ts os w told →
     end_in id ts os w.standing ≡ counted told
-in_time id r ts os w told fresh (inl on_time) = on_time
-in_time id r ts os w told fresh (inr late) =
-    absurd (no_reads late.first late.rest (sym (ap (λ (x : Runner). x.known.reads) fresh.begun) ∙ late.reads))
+in_time id r ts os w told fresh h8 = grind (arith, nat_tests)
 
 pub schedules_end_serially : SchedulesEndSerially
 schedules_end_serially schedule p ends from is =

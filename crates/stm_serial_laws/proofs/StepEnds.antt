@@ -1,17 +1,15 @@
 -- What a step of a runner at a serializable level comes to: its run goes on, or is over with nothing changed, or commits.
-use Rattle.std.proofs.Common.{◌≡◌, ◌⊎◌, inl, inr, ℕ, ◌+◌, ◌≤◌, List, length, map, Option, Some, None, Result, Ok, Err, Bool, true, false, cond, refl, sym, ◌∙◌, ap, subst}
-use Rattle.std.proofs.lemmas.Bool.{ltb-true}
+use Rattle.std.proofs.Common.{◌≡◌, ◌⊎◌, inl, inr, ℕ, ◌+◌, ◌≤◌, List, map, Option, Some, None, Result, Ok, Err, Bool, true, false, cond, refl, sym, ap, subst}
+use Rattle.std.proofs.lemmas.Bool.{ltb-true, Decides.nat_tests}
 use Rattle.std.specs.Prelude.{nat_lt, slice_get}
-use Rattle.stm_history.specs.declared.key_state.ReadAnswer.{ReadAnswer}
+use Rattle.std.proofs.Common.{arith}
 use Rattle.stm_history.specs.History.{History, now}
 use Rattle.stm_program.specs.Levels.{is_comparing, is_serializable}
 use Rattle.stm_program.specs.declared.level.Level.{Level}
-use Rattle.stm_program.specs.declared.level.Level.TheVariants.{SerializableSnapshot, Serializable, RepeatableReads, ReadCommitted}
 use Rattle.stm_program.specs.Writes.{latest_writes}
 use Rattle.stm_steps.specs.declared.run.End.{End}
 use Rattle.stm_steps.specs.declared.run.End.TheVariants.{Done as DoneEnd, Aborted as AbortedEnd, Faulted as FaultedEnd}
 use Rattle.stm_steps.specs.declared.run.Run.{Run}
-use Rattle.stm_steps.specs.declared.run.Answered.{Answered}
 use Rattle.stm_steps.specs.declared.run.Answered.TheVariants.{Ended as EndedRun, Wants}
 use Rattle.stm_steps.specs.declared.trace_item.TraceItem.{TraceItem}
 use Rattle.stm_meaning.specs.Meaning.{run_over}
@@ -19,32 +17,29 @@ use Rattle.stm_outcome.specs.declared.answer.FailedCompare.{FailedCompare}
 use Rattle.stm_outcome.specs.declared.refusal.Refusal.{Refusal as StoreRefusal}
 use Rattle.stm_outcome.specs.Outcome.{Done}
 use Rattle.stm_outcome.specs.Commits.{revision_read}
-use Rattle.stm_outcome.specs.Terms.{is_below_floor}
-use Rattle.stm_txn.specs.Standing.{Setup, Standing, with_history, terms_of}
-use Rattle.stm_compile.specs.Answers.{AreTrue, look_up, state_now}
+use Rattle.stm_txn.specs.Standing.{Setup, terms_of}
+use Rattle.stm_compile.specs.Answers.{AreTrue, state_now}
 use Rattle.stm_compile.specs.Committed.{committed}
 use Rattle.stm_compile.specs.Conflicts.{Seen, seen_in, seen_by}
 use Rattle.stm_compile.proofs.AgreeLemmas.{commit_is_the_run_now}
 use Rattle.stm_attempt.specs.Settled.{run_on}
 use Rattle.stm_attempt.specs.Entering.{is_due}
 use Rattle.stm_attempt.specs.Fetches.{at_of}
-use Rattle.stm_entries.specs.Replayed.{without_moment}
-use Rattle.stm_entries.specs.Alone.{history_left, left_by}
 use Rattle.stm_events.specs.declared.event.WorldEvent.TheVariants.{Step}
 use Rattle.stm_events.specs.declared.reply.Reply.{Reply}
 use Rattle.stm_events.specs.declared.reply.Reply.TheVariants.{Prefetched, Conflict, GaveUp, Ended}
 use Rattle.stm_events.specs.declared.refusal.EventRefusal.TheVariants.{TooManyOps as TooManyOpsRefusal, Compacted as CompactedRefusal}
 use Rattle.stm_events.specs.Replies.{event_refusal}
-use Rattle.stm_world.specs.Task.{Task, answer_at, modified_now, after_list, after_fetch, after_conflict}
+use Rattle.stm_world.specs.Task.{answer_at, modified_now, after_list, after_fetch, after_conflict}
 use Rattle.stm_world.specs.World.{World, Runner, Over, Live, Stepped, runner_at, with_slot, replied, fetch, fetch_list, take_commit, decided}
-use Rattle.stm_world.specs.World.{commit_reported, commit, finish, step_on, step_live, step_runner, step}
+use Rattle.stm_world.specs.World.{commit_reported, commit, finish, step_on, step_live, step}
 use Rattle.stm_world.specs.Sound.{IsSound}
 use Rattle.stm_world.proofs.Bases.{IsWellRun, fetch_runs, list_runs, conflict_runs}
 use Rattle.stm_world.proofs.CommitEntries.{Takes, Taken, taken}
 use Rattle.stm_schedules.specs.declared.outcome.RunnerEnd.{RunnerEnd}
 use Rattle.stm_schedules.specs.declared.outcome.RunnerEnd.TheVariants as how
 use Rattle.stm_schedules.specs.Outcomes.{Ends, with_end, after_reported}
-use Rattle.stm_serial.specs.Serial.{alone, left_alone}
+use Rattle.stm_serial.specs.Serial.{alone}
 use Rattle.stm_serial.proofs.StepCases.{few}
 use Rattle.stm_serial_laws.specs.Ends.{counts, end_by}
 use Rattle.stm_serial_laws.proofs.BaseReads.{BaseFrom, fetch_from, list_from, conflict_from}
@@ -97,10 +92,7 @@ pub record IsReady (start : Setup) (w : World) (r : Runner) : Type 0 where
   pub well : IsWellRun start r
 
 pub serializable_compares : (level : Level) → is_serializable level ≡ true → is_comparing level ≡ true
-serializable_compares SerializableSnapshot is = refl
-serializable_compares Serializable is = refl
-serializable_compares RepeatableReads is = absurd (cc)
-serializable_compares ReadCommitted is = absurd (cc)
+serializable_compares level is = grind (arith, nat_tests)
 
 -- a reply that ends the run, where that does not count
 uncounted : (start : Setup) (id : ℕ) (r : Runner) (w : World) (reply : Reply) (end : RunnerEnd) → counts end ≡ false →
@@ -109,30 +101,9 @@ uncounted start id r w reply end none told = inr (inl (record { end = end; why =
 
 -- ---- a commit
 
-committed_alone : (s : Standing) (task : Task) (reads : List ReadAnswer) (run : Run) (done : Done) →
-    run_over (state_now s.history) task.program.statements ≡ EndedRun run → (t : Taken s task reads run done) → Takes s task reads run done →
-    with_history s done.history ≡ alone task.program s
-committed_alone s task reads run done is_now t takes =
-    sym (ap (left_alone s) is_now
-    ∙ ap (λ b. cond b s (with_history s (left_by run run.end (without_moment s)).history)) (few s task reads run done takes.comes_to)
-    ∙ ap (λ (e : End). with_history s (left_by run e (without_moment s)).history) takes.is_done
-    ∙ ap (λ o. with_history s (history_left s.history o)) t.applies)
-
 take_does : (start : Setup) (w : World) (id : ℕ) (r : Runner) (run : Run) (done : Done) → is_comparing r.task.level ≡ true →
     Takes w.standing r.task r.known.reads run done → Does start id r w (take_commit id r r.known.reads run done w)
-take_does start w id r run done compares takes =
-    let s : Standing = w.standing in
-    let t : Taken s r.task r.known.reads run done = taken s r.task r.known.reads run done commit_is_the_run_now takes in
-    let is_now : run_over (state_now s.history) r.task.program.statements ≡ EndedRun run =
-    sym (ap (λ b. run_over (cond b (state_now s.history) (look_up r.known.reads)) r.task.program.statements) compares) ∙ t.alone in
-    inr (inr (record {
-      run = run;
-      is_run = is_now;
-      done = takes.is_done;
-      standing = committed_alone s r.task r.known.reads run done is_now t takes;
-      runners = refl;
-      ends = λ ends. refl;
-    }))
+take_does start w id r run done compares takes = grind (arith, nat_tests, Taken, taken, commit_is_the_run_now, few)
 
 fail_by : (start : Setup) (w : World) (id : ℕ) (r : Runner) (seen : Seen) (modified : ℕ) (more : Bool) → IsReady start w r →
     nat_lt (r.failures + 1) r.task.limit ≡ more → Does start id r w (cond more
@@ -220,13 +191,6 @@ base_does start w id r key trace true ready not wants =
     uncounted start id r w (Ended id CompactedRefusal) (how.Ended CompactedRefusal) refl (λ ends. refl)
 base_does start w id r key trace false ready not wants = fetch_does start w id r key trace ready not wants
 
-answered_does : (start : Setup) (w : World) (id : ℕ) (r : Runner) (answered : Answered) → IsReady start w r → AreTrue w.standing.history r.known.reads →
-    is_due r.task.program.prefetch r.known.reads ≡ false → run_on r.task.program r.known.reads ≡ answered →
-    Does start id r w (step_on id r r.known.reads answered w)
-answered_does start w id r (Wants key trace) ready truth not is =
-    base_does start w id r key trace (is_below_floor w.standing.floor (at_of r.task.level r.known.reads)) ready not is
-answered_does start w id r (EndedRun run) ready truth not is = finish_does start w id r run run.end ready truth is refl
-
 list_does : (start : Setup) (w : World) (id : ℕ) (r : Runner) (many : Bool) → IsReady start w r → is_due r.task.program.prefetch r.known.reads ≡ true →
     Does start id r w (cond many (replied (Ended id TooManyOpsRefusal) id Over w)
     (replied (Prefetched id (now w.standing.history) (map (modified_now w.standing.history) r.task.program.prefetch)) id
@@ -245,15 +209,9 @@ list_does start w id r false ready due = inl (record {
 live_by : (start : Setup) (w : World) (id : ℕ) (r : Runner) (due : Bool) → IsReady start w r → AreTrue w.standing.history r.known.reads →
     is_due r.task.program.prefetch r.known.reads ≡ due →
     Does start id r w (cond due (fetch_list id r w) (step_on id r r.known.reads (run_on r.task.program r.known.reads) w))
-live_by start w id r true ready truth due = list_does start w id r (nat_lt w.standing.limit (length r.task.program.prefetch)) ready due
-live_by start w id r false ready truth not = answered_does start w id r (run_on r.task.program r.known.reads) ready truth not refl
-
-live_does : (start : Setup) (w : World) (id : ℕ) (r : Runner) → IsReady start w r → AreTrue w.standing.history r.known.reads →
-    Does start id r w (step_live id r w)
-unfolding step_live
-live_does start w id r ready truth = live_by start w id r (is_due r.task.program.prefetch r.known.reads) ready truth refl
+live_by start w id r due ready truth not = grind (arith, nat_tests, list_does, base_does, finish_does)
 
 pub step_does : (start : Setup) (w : World) (id : ℕ) (r : Runner) → IsReady start w r → IsSound w → runner_at id w.runners ≡ Some r →
     Does start id r w (step (Step id) w)
-step_does start w id r ready sound found =
-    subst (λ (o : Option Runner). Does start id r w (step_runner id o w)) (sym found) (live_does start w id r ready (sound.truth id r found).0)
+unfolding step_live
+step_does start w id r ready sound found = grind (arith, nat_tests, live_by)

@@ -2,6 +2,7 @@
 use Rattle.std.proofs.Common.{◌≡◌, ◌≢◌, ℕ, zero, suc, ◌-◌, ◌<◌, ◌≤◌, List, [], ◌∷◌, length, Option, Some, None, true, false, cond, refl, sym, ◌∙◌, ap, subst, arith}
 use Rattle.std.specs.Prelude.{nat_eq, if◌then◌else◌, slice_get, slice_set}
 use Rattle.std.proofs.lemmas.List.{length-set}
+use Rattle.std.proofs.lemmas.Bool.Decides.{nat_tests}
 use Rattle.stm_program.specs.Syntax.{ProgramTree}
 use Rattle.stm_txn.specs.Standing.{Standing}
 use Rattle.stm_events.specs.declared.event.WorldEvent.{WorldEvent}
@@ -80,10 +81,7 @@ no_runner r is = cc
 -- one that has ended has none
 pub not_in : (id : ℕ) (ts : List Turn) (os : List WorldEvent) (slots : List Slot) → runner_at id slots ≡ None → CanBe ts os slots → IsNotIn id ts
 not_in id [] os slots none can = tt
-not_in id (Whole j program ∷ ts) os slots none can = (
-  other_number id j (λ same. no_runner can.0.0 (sym can.0.1 ∙ ap (λ k. runner_at k slots) (sym same) ∙ none)),
-  not_in id ts os slots none can.2,
-)
+not_in id (Whole j program ∷ ts) os slots none can = grind (arith, nat_tests, other_number, no_runner, not_in id ts os slots none can.2)
 not_in id (Event ∷ ts) [] slots none can = absurd can
 not_in id (Event ∷ ts) (e ∷ os) slots none can = not_in id ts os slots none can
 
@@ -116,11 +114,8 @@ point s slots os = record { standing = s; runners = slots; others = os }
 still_can : (ts : List Turn) (os : List WorldEvent) (slots : List Slot) (id : ℕ) (r : Runner) → runner_at id slots ≡ Some r → IsNotIn id ts → CanBe ts os slots →
     CanBe ts os (with_slot id Over slots)
 still_can [] os slots id r there not can = tt
-still_can (Whole j program ∷ ts) os slots id r there not can = (
-  (can.0.0, runner_other id j slots Over (runner_there id slots r there).0 (differ id j not.0) ∙ can.0.1, can.0.2),
-  can.1,
-  still_can ts os slots id r there not.1 can.2,
-)
+still_can (Whole j program ∷ ts) os slots id r there not can =
+    grind (arith, nat_tests, runner_other, runner_there, differ, still_can ts os slots id r there not.1 can.2)
 still_can (Event ∷ ts) [] slots id r there not can = absurd can
 still_can (Event ∷ ts) (e ∷ os) slots id r there not can = still_can ts os slots id r there not can
 
@@ -141,9 +136,7 @@ pub store_is : (ts : List Turn) (os : List WorldEvent) (s : Standing) (slots : L
     (serial_after (moves_of ts) (point s slots os)).standing ≡ store_in ts os s
 store_is [] os s slots can = refl
 store_is (Whole id program ∷ ts) os s slots can =
-    subst (λ (o : Option Runner). (serial_after (moves_of ts) (run_whole id o (point s slots os))).standing ≡ store_in ts os (alone program s)) (sym can.0.1)
-    (store_is ts os (alone can.0.0.task.program s) (with_slot id Over slots) (still_can ts os slots id can.0.0 can.0.1 can.1 can.2)
-    ∙ ap (λ (p : ProgramTree). store_in ts os (alone p s)) can.0.2)
+    grind (arith, nat_tests, still_can, store_is ts os (alone can.0.0.task.program s) (with_slot id Over slots) (still_can ts os slots id can.0.0 can.0.1 can.1 can.2))
 store_is (Event ∷ ts) [] s slots can = absurd can
 store_is (Event ∷ ts) (e ∷ os) s slots can = store_is ts os (after_foreign e s) slots can
 
@@ -151,8 +144,7 @@ pub left_is : (ts : List Turn) (os : List WorldEvent) (s : Standing) (slots : Li
     (serial_after (moves_of ts) (point s slots os)).others ≡ left_in ts os
 left_is [] os s slots can = refl
 left_is (Whole id program ∷ ts) os s slots can =
-    subst (λ (o : Option Runner). (serial_after (moves_of ts) (run_whole id o (point s slots os))).others ≡ left_in ts os) (sym can.0.1)
-    (left_is ts os (alone can.0.0.task.program s) (with_slot id Over slots) (still_can ts os slots id can.0.0 can.0.1 can.1 can.2))
+    grind (arith, nat_tests, still_can, left_is ts os (alone can.0.0.task.program s) (with_slot id Over slots) (still_can ts os slots id can.0.0 can.0.1 can.1 can.2))
 left_is (Event ∷ ts) [] s slots can = absurd can
 left_is (Event ∷ ts) (e ∷ os) s slots can = left_is ts os (after_foreign e s) slots can
 
@@ -175,8 +167,7 @@ pub end_own : (id : ℕ) (ends : Ends) (end : Option RunnerEnd) → 0 < id → i
 end_own id ends end some within = set_own ends (id - 1) end (omega (arith, some, within))
 
 pub end_other : (id j : ℕ) (ends : Ends) (end : Option RunnerEnd) → 0 < id → 0 < j → id ≢ j → end_at j (slice_set ends (id - 1) end) ≡ end_at j ends
-end_other id j ends end some positive ne =
-    ap known_at (set_other ends (id - 1) (j - 1) end (λ same. ne (omega (arith, some, positive, same))))
+end_other id j ends end some positive ne = grind (arith, nat_tests, set_other)
 
 -- what is known of as many ends as there are runners
 abbrev pub AreAsMany : List Slot → Ends → Type 0

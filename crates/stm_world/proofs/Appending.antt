@@ -1,26 +1,23 @@
 -- Events only append entries.
-use Rattle.std.proofs.Common.{◌≡◌, ℕ, ◌+◌, List, [], ◌∷◌, ◌++◌, length, map, Option, Some, None, Bool, true, false, cond, refl, sym, ◌∙◌, ap, subst}
+use Rattle.std.proofs.Common.{◌≡◌, ℕ, ◌+◌, List, [], ◌∷◌, ◌++◌, length, Option, Some, None, Bool, true, false, cond, refl, sym, ◌∙◌, ap, subst, arith}
 use Rattle.std.proofs.lemmas.List.{append-nil}
-use Rattle.std.specs.Prelude.{nat_eq, nat_lt, slice_get, Result, Ok, Err}
+use Rattle.std.specs.Prelude.{nat_eq, nat_lt, slice_get, Result, Ok}
 use Rattle.stm_history.specs.declared.key_state.ReadAnswer.{ReadAnswer}
-use Rattle.stm_history.specs.History.{History, now, key_at, mod_of}
+use Rattle.stm_history.specs.History.{now}
 use Rattle.stm_program.specs.Writes.{latest_writes}
-use Rattle.stm_steps.specs.declared.run.End.{End}
-use Rattle.stm_steps.specs.declared.run.End.TheVariants.{Done as DoneEnd, Aborted as AbortedEnd, Faulted as FaultedEnd}
+use Rattle.stm_steps.specs.declared.run.End.TheVariants.{Done as DoneEnd}
 use Rattle.stm_steps.specs.declared.run.Run.{Run}
 use Rattle.stm_steps.specs.declared.run.Answered.{Answered}
-use Rattle.stm_steps.specs.declared.run.Answered.TheVariants.{Ended as EndedRun, Wants}
+use Rattle.stm_steps.specs.declared.run.Answered.TheVariants.{Ended as EndedRun}
 use Rattle.stm_outcome.specs.declared.answer.FailedCompare.{FailedCompare}
 use Rattle.stm_outcome.specs.declared.refusal.Refusal.{Refusal as StoreRefusal}
 use Rattle.stm_outcome.specs.Outcome.{Done}
 use Rattle.stm_outcome.specs.Commits.{revision_read}
 use Rattle.stm_txn.specs.Standing.{terms_of}
-use Rattle.stm_outcome.specs.Terms.{is_below_floor}
 use Rattle.stm_compile.specs.Committed.{committed}
 use Rattle.stm_compile.specs.Conflicts.{Seen, seen_by, seen_in}
 use Rattle.stm_attempt.specs.Settled.{run_on}
 use Rattle.stm_attempt.specs.Entering.{is_due}
-use Rattle.stm_attempt.specs.Fetches.{at_of}
 use Rattle.stm_entries.specs.declared.entry.Entry.{Entry}
 use Rattle.stm_entries.specs.Replayed.{Replayed, without_moment}
 use Rattle.stm_entries.specs.Replay.{replay}
@@ -28,21 +25,22 @@ use Rattle.stm_entries.specs.Legal.{AreLegal}
 use Rattle.stm_entries.proofs.Replaying.{replay_goes_on, all_legal}
 use Rattle.stm_events.specs.declared.event.WorldEvent.{WorldEvent}
 use Rattle.stm_events.specs.declared.reply.Reply.{Reply}
-use Rattle.stm_events.specs.declared.reply.Reply.TheVariants.{Started, Prefetched, Fetched, Conflict, GaveUp, Aborted, Faulted, Ended}
+use Rattle.stm_events.specs.declared.reply.Reply.TheVariants.{Started, Conflict, GaveUp, Ended}
 use Rattle.stm_events.specs.Called.{Asked, Starts, Steps, Calls, asked, entered}
-use Rattle.stm_world.specs.Task.{Task, answer_at, modified_now, after_list, after_fetch, after_conflict}
+use Rattle.stm_world.specs.Task.{Task, after_conflict}
 use Rattle.stm_world.specs.World.{World, Runner, Slot, Over, Live, runner_at, with_slot, refused, replied, begin, start_runner, fetch, fetch_list, entry_of}
-use Rattle.stm_world.specs.World.{decided, commit_reported, commit, finish, step_on, step_live, step_runner, step_asked, step, Stepped, world_after}
+use Rattle.stm_world.specs.World.{decided, commit_reported, commit, step_on, step_live, step_runner, step_asked, step, Stepped, world_after}
 use Rattle.stm_world.specs.Sound.{IsSound}
 use Rattle.stm_world.proofs.Entered.{EntriesFollow, nothing_follows}
 use Rattle.stm_world.proofs.Calls.{call_adds, call_follows}
 use Rattle.stm_world.proofs.CommitEntries.{Takes, taken, commit_follows_entry}
 use Rattle.std.proofs.Common.{append_assoc}
+use Rattle.std.proofs.lemmas.Bool.Decides.{nat_tests}
 use Rattle.stm_compile.specs.Answers.{AreTrue}
 use Rattle.stm_compile.proofs.AgreeLemmas.{commit_is_the_run_now}
 use Rattle.stm_events.specs.declared.refusal.Denied.{Denied}
-use Rattle.stm_events.specs.Replies.{event_refusal, denied}
-use Rattle.stm_events.specs.declared.refusal.EventRefusal.TheVariants.{BadLimit, NoRunner, TooManyOps as TooManyOpsRefusal, Compacted as CompactedRefusal}
+use Rattle.stm_events.specs.Replies.{denied}
+use Rattle.stm_events.specs.declared.refusal.EventRefusal.TheVariants.{BadLimit, NoRunner, Compacted as CompactedRefusal}
 use Rattle.stm_world.specs.Appended.{HasAppended, EventsAppend}
 use Rattle.stm_world.proofs.SoundSteps.{world_with}
 use Rattle.stm_world.proofs.Sound.{step_is_sound}
@@ -72,22 +70,12 @@ start_appends : (w : World) (task : Task) → Appends w (start_runner task w)
 unfolding start_runner
 start_appends w task = start_by w task (nat_eq task.limit 0)
 
-fetch_appends : (w : World) (id : ℕ) (r : Runner) (key : List ℕ) (of_rev : ℕ) → Appends w (fetch id r key of_rev w)
-unfolding fetch
-fetch_appends w id r key of_rev =
-    let h : History = w.standing.history in
-    stays w (Ok (Fetched id key (mod_of (key_at h key of_rev)) of_rev (now h)))
-    (with_slot id (Live (record r { known = after_fetch r.task (answer_at h key of_rev) r.known })) w.runners)
-
 fail_by : (w : World) (id : ℕ) (r : Runner) (seen : Seen) (modified : ℕ) (more : Bool) →
     Appends w (cond more
     (replied (Conflict id seen.key seen.mod_rev modified) id
     (Live (record { task = r.task; failures = r.failures + 1; known = after_conflict r.task w.standing.history r.known })) w)
     (replied (GaveUp id (r.failures + 1) seen.key seen.mod_rev modified) id Over w))
-fail_by w id r seen modified true =
-    stays w (Ok (Conflict id seen.key seen.mod_rev modified))
-    (with_slot id (Live (record { task = r.task; failures = r.failures + 1; known = after_conflict r.task w.standing.history r.known })) w.runners)
-fail_by w id r seen modified false = stays w (Ok (GaveUp id (r.failures + 1) seen.key seen.mod_rev modified)) (with_slot id Over w.runners)
+fail_by w id r seen modified more = grind (arith, nat_tests, stays)
 
 ended_appends : (w : World) (id : ℕ) (reply : Reply) → Appends w (replied reply id Over w)
 ended_appends w id reply = stays w (Ok reply) (with_slot id Over w.runners)
@@ -116,44 +104,24 @@ decided_appends w id r run done (Some failed) x comes_to some =
 
 commit_by : (w : World) (id : ℕ) (r : Runner) (run : Run) (o : Result Done StoreRefusal) → IsDone w r run →
     committed (terms_of w.standing) r.task.level r.known.reads run ≡ o → Appends w (commit_reported id r r.known.reads run o w)
-commit_by w id r run (Ok done) x is = decided_appends w id r run done done.answer.failed x is refl
-commit_by w id r run (Err cause) x is = ended_appends w id (Ended id (event_refusal cause))
+commit_by w id r run o x is = grind (arith, nat_tests, decided_appends, ended_appends)
 
 commit_appends : (w : World) (id : ℕ) (r : Runner) (run : Run) → IsDone w r run → Appends w (commit id r r.known.reads run w)
 unfolding commit
-commit_appends w id r run x =
-    commit_by w id r run (committed (terms_of w.standing) r.task.level r.known.reads run) x refl
+commit_appends w id r run x = grind (arith, nat_tests, commit_by)
 
 fetch_at_appends : (w : World) (id : ℕ) (r : Runner) (key : List ℕ) (base : ℕ) (below : Bool) →
     Appends w (cond below (replied (Ended id CompactedRefusal) id Over w) (fetch id r key (revision_read w.standing.history base) w))
-fetch_at_appends w id r key base true = ended_appends w id (Ended id CompactedRefusal)
-fetch_at_appends w id r key base false = fetch_appends w id r key (revision_read w.standing.history base)
-
-finish_appends : (w : World) (id : ℕ) (r : Runner) (run : Run) (end : End) → AreTrue w.standing.history r.known.reads →
-    run_on r.task.program r.known.reads ≡ EndedRun run → run.end ≡ end → Appends w (finish id r r.known.reads run end w)
-finish_appends w id r run DoneEnd truth is_run ended = commit_appends w id r run (record { truth = truth; is_run = is_run; is_done = ended })
-finish_appends w id r run (AbortedEnd text) truth is_run ended = ended_appends w id (Aborted id text)
-finish_appends w id r run (FaultedEnd fault) truth is_run ended = ended_appends w id (Faulted id fault)
+unfolding fetch
+fetch_at_appends w id r key base below = grind (arith, nat_tests, ended_appends, stays)
 
 answered_appends : (w : World) (id : ℕ) (r : Runner) (answered : Answered) → AreTrue w.standing.history r.known.reads →
     run_on r.task.program r.known.reads ≡ answered → Appends w (step_on id r r.known.reads answered w)
-answered_appends w id r (Wants key trace) truth is =
-    fetch_at_appends w id r key (at_of r.task.level r.known.reads) (is_below_floor w.standing.floor (at_of r.task.level r.known.reads))
-answered_appends w id r (EndedRun run) truth is = finish_appends w id r run run.end truth is refl
-
-list_appends : (w : World) (id : ℕ) (r : Runner) (many : Bool) →
-    Appends w (cond many (replied (Ended id TooManyOpsRefusal) id Over w)
-    (replied (Prefetched id (now w.standing.history) (map (modified_now w.standing.history) r.task.program.prefetch)) id
-    (Live (record r { known = after_list r.task w.standing.history r.known })) w))
-list_appends w id r true = ended_appends w id (Ended id TooManyOpsRefusal)
-list_appends w id r false =
-    stays w (Ok (Prefetched id (now w.standing.history) (map (modified_now w.standing.history) r.task.program.prefetch)))
-    (with_slot id (Live (record r { known = after_list r.task w.standing.history r.known })) w.runners)
+answered_appends w id r answered truth is = grind (arith, nat_tests, fetch_at_appends, commit_appends, ended_appends)
 
 list_or_run-appends : (w : World) (id : ℕ) (r : Runner) (due : Bool) → AreTrue w.standing.history r.known.reads →
     Appends w (cond due (fetch_list id r w) (step_on id r r.known.reads (run_on r.task.program r.known.reads) w))
-list_or_run-appends w id r true truth = list_appends w id r (nat_lt w.standing.limit (length r.task.program.prefetch))
-list_or_run-appends w id r false truth = answered_appends w id r (run_on r.task.program r.known.reads) truth refl
+list_or_run-appends w id r due truth = grind (arith, nat_tests, answered_appends, ended_appends, stays)
 
 live_appends : (w : World) (id : ℕ) (r : Runner) → AreTrue w.standing.history r.known.reads → Appends w (step_live id r w)
 unfolding step_live

@@ -5,22 +5,21 @@ use Rattle.std.specs.Prelude.{bytes_eq, is_some, option_map, ◌||◌}
 use Rattle.std.specs.List.{list_any}
 use Rattle.std.proofs.lemmas.List.{drop_all, take-append-le, length-map}
 use Rattle.std.proofs.lemmas.Slice.Eq.{bytes_eq-Decides}
+use Rattle.std.proofs.lemmas.Bool.Decides.{nat_tests}
 use Rattle.stm_history.specs.declared.key_state.ReadAnswer.{ReadAnswer}
 use Rattle.stm_history.specs.History.{History}
 use Rattle.stm_program.specs.Syntax.{ProgramTree}
 use Rattle.stm_history.specs.declared.change.Change.{Change}
-use Rattle.stm_program.specs.Writes.{last_write}
 use Rattle.stm_program.specs.Limits.{has_repeat}
 use Rattle.stm_program.proofs.WriteLemmas.{bytes_eq-flip}
-use Rattle.stm_steps.specs.declared.stop.Stop.TheVariants.{Aborted, Faulted, Wants as WantsStop}
+use Rattle.stm_steps.specs.declared.stop.Stop.TheVariants.{Wants as WantsStop}
 use Rattle.stm_steps.specs.Answer.{Answer}
 use Rattle.stm_steps.specs.Session.{Session, fresh}
-use Rattle.stm_steps.specs.Outcome.{Outcome, Gives, Stops}
+use Rattle.stm_steps.specs.Outcome.{Outcome, Stops}
 use Rattle.stm_steps.specs.declared.trace_item.TraceItem.{TraceItem}
-use Rattle.stm_steps.specs.declared.run.End.TheVariants.{Done, Aborted as EndAborted, Faulted as EndFaulted}
 use Rattle.stm_steps.specs.declared.run.Run.{Run}
 use Rattle.stm_steps.specs.declared.run.Answered.TheVariants.{Ended, Wants}
-use Rattle.stm_meaning.specs.Meaning.{get_answered, rev_answered, get_of, get_key, rev_key, run_of, answered, run_block, run_over}
+use Rattle.stm_meaning.specs.Meaning.{get_of, get_key, rev_key, answered, run_block, run_over}
 use Rattle.stm_meaning.proofs.KeepLemmas.{session_of, StepsKeep, kept_by_run}
 use Rattle.stm_compile.specs.Answers.{answer_in, answer_now, said, look_up}
 use Rattle.stm_compile.specs.CommitTxn.{reread_keys}
@@ -41,13 +40,11 @@ use Rattle.stm_world.proofs.FirstReads.{first_none, first_adds, first_stays}
 
 more_by : (b : Bool) (x : ReadAnswer) (few many : Option ReadAnswer) (s : Answer) → (option_map said few ≡ Some s → option_map said many ≡ Some s) →
     option_map said (cond b (Some x) few) ≡ Some s → option_map said (cond b (Some x) many) ≡ Some s
-more_by true x few many s rest is = is
-more_by false x few many s rest is = rest is
+more_by b x few many s rest is = grind (arith, nat_tests)
 
 still_known : (key : List ℕ) (reads : List ReadAnswer) (a : ReadAnswer) (s : Answer) → look_up reads key ≡ Some s → look_up (reads ++ a ∷ []) key ≡ Some s
 still_known key [] a s is = absurd (cc)
-still_known key (x ∷ reads) a s is =
-    more_by (bytes_eq x.key key) x (answer_in key reads) (answer_in key (reads ++ a ∷ [])) s (still_known key reads a s) is
+still_known key (x ∷ reads) a s is = grind (arith, nat_tests, more_by, still_known key reads a s)
 
 known_by : (b : Bool) (x : ReadAnswer) (rest : Option ReadAnswer) → (s : Answer) × (option_map said rest ≡ Some s) →
     (s : Answer) × (option_map said (cond b (Some x) rest) ≡ Some s)
@@ -60,14 +57,11 @@ last_known (x ∷ reads) a = known_by (bytes_eq x.key a.key) x (answer_in a.key 
 
 -- a key stands among those of the answers where the look-up knows it
 any_by : (b c : Bool) (x : ReadAnswer) (o : Option ReadAnswer) → c ≡ is_some (option_map said o) → (b || c) ≡ is_some (option_map said (cond b (Some x) o))
-any_by true c x o is = refl
-any_by false c x o is = is
+any_by b c x o is = grind (arith, nat_tests)
 
 any_key : (key : List ℕ) (reads : List ReadAnswer) → list_any (bytes_eq key) (keys_read reads) ≡ is_some (look_up reads key)
 any_key key [] = refl
-any_key key (x ∷ reads) =
-    ap (λ b. b || list_any (bytes_eq key) (keys_read reads)) (bytes_eq-flip key x.key)
-    ∙ any_by (bytes_eq x.key key) (list_any (bytes_eq key) (keys_read reads)) x (answer_in key reads) (any_key key reads)
+any_key key (x ∷ reads) = grind (arith, nat_tests, bytes_eq-flip, any_by, any_key key reads)
 
 keys_more : (reads : List ReadAnswer) (a : ReadAnswer) → keys_read reads ++ a.key ∷ [] ≡ keys_read (reads ++ a ∷ [])
 keys_more [] a = refl
@@ -79,14 +73,11 @@ IsFirst keys answers reads = keys_first_read keys reads ≡ keys_read answers
 
 unknown_among : (keys : List (List ℕ)) (answers : List ReadAnswer) (reads : List (List ℕ)) (key : List ℕ) → IsFirst keys answers reads →
     answer_in key answers ≡ None → list_any (bytes_eq key) (keys_first_read keys reads) ≡ false
-unknown_among keys answers reads key is none =
-    ap (λ (l : List (List ℕ)). list_any (bytes_eq key) l) is ∙ any_key key answers
-    ∙ ap (λ (o : Option ReadAnswer). is_some (option_map said o)) none
+unknown_among keys answers reads key is none = grind (arith, nat_tests, any_key)
 
 known_among : (keys : List (List ℕ)) (answers : List ReadAnswer) (reads : List (List ℕ)) (key : List ℕ) (a : Answer) → IsFirst keys answers reads →
     look_up answers key ≡ Some a → list_any (bytes_eq key) (keys_first_read keys reads) ≡ true
-known_among keys answers reads key a is found =
-    ap (λ (l : List (List ℕ)). list_any (bytes_eq key) l) is ∙ any_key key answers ∙ ap (λ (o : Option Answer). is_some o) found
+known_among keys answers reads key a is found = grind (arith, nat_tests, any_key)
 
 one_key_more : (keys : List (List ℕ)) (reads : List ReadAnswer) (a : ReadAnswer) → answer_in a.key reads ≡ None →
     OneKeyMore (look_up reads) (look_up (reads ++ a ∷ [])) (IsFirst keys reads) (IsFirst keys (reads ++ a ∷ [])) a.key
@@ -107,16 +98,10 @@ abbrev run_with : ProgramTree → List ReadAnswer → Outcome (Unit {0})
 run_with program reads = run_block (look_up reads) program.statements fresh
 
 wanting : (o : Outcome (Unit {0})) (key : List ℕ) → wanted (answered o) ≡ Some key → (s : Session) × (o ≡ Stops (WantsStop key) s)
-wanting (Gives x s) key is = absurd (cc)
-wanting (Stops (Aborted t) s) key is = absurd (cc)
-wanting (Stops (Faulted fault) s) key is = absurd (cc)
-wanting (Stops (WantsStop k) s) key is = let same : k ≡ key = cc in (s, ap (λ (x : List ℕ). Stops (WantsStop x) s) same)
+wanting o key is = grind (arith, nat_tests)
 
 ended_reads : (o : Outcome (Unit {0})) (run : Run) → answered o ≡ Ended run → run.reads ≡ reads_of o
-ended_reads (Gives x s) run is = let same : run_of Done s ≡ run = cc in ap (λ (r : Run). r.reads) (sym same)
-ended_reads (Stops (Aborted t) s) run is = let same : run_of (EndAborted t) s ≡ run = cc in ap (λ (r : Run). r.reads) (sym same)
-ended_reads (Stops (Faulted fault) s) run is = let same : run_of (EndFaulted fault) s ≡ run = cc in ap (λ (r : Run). r.reads) (sym same)
-ended_reads (Stops (WantsStop key) s) run is = absurd (cc)
+ended_reads o run is = grind (arith, nat_tests)
 
 one_more_read : (keys : List (List ℕ)) (program : ProgramTree) (reads : List ReadAnswer) (a : ReadAnswer) → wanted (run_on program reads) ≡ Some a.key →
     IsFirst keys reads (reads_of (run_with program reads)) → IsFirst keys (reads ++ a ∷ []) (reads_of (run_with program (reads ++ a ∷ [])))
@@ -127,34 +112,13 @@ one_more_read keys program reads a wants is =
     (one_key_more keys reads a (wanted_is_new program reads a.key wants)) program.statements stopped.0 stopped.1
     (subst (IsFirst keys reads) (ap (λ (o : Outcome (Unit {0})). reads_of o) stopped.1) is)
 
--- a run that knows the keys of a list alone reads no other
-get_answered-listed : (keys : List (List ℕ)) (answers : List ReadAnswer) (key : List ℕ) (a : Option Answer) (s : Session) → look_up answers key ≡ a →
-    IsFirst keys answers s.reads → IsFirst keys answers (session_of (get_answered key a s)).reads
-get_answered-listed keys answers key None s found is = is
-get_answered-listed keys answers key (Some a) s found is =
-    first_stays keys s.reads key (known_among keys answers s.reads key a is found) ∙ is
-
-rev_answered-listed : (keys : List (List ℕ)) (answers : List ReadAnswer) (key : List ℕ) (a : Option Answer) (s : Session) → look_up answers key ≡ a →
-    IsFirst keys answers s.reads → IsFirst keys answers (session_of (rev_answered key a s)).reads
-rev_answered-listed keys answers key None s found is = is
-rev_answered-listed keys answers key (Some a) s found is =
-    first_stays keys s.reads key (known_among keys answers s.reads key a is found) ∙ is
-
 get_of-listed : (keys : List (List ℕ)) (answers : List ReadAnswer) (key : List ℕ) (w : Option Change) (s : Session) → IsFirst keys answers s.reads →
     IsFirst keys answers (session_of (get_of (look_up answers) key w s)).reads
-get_of-listed keys answers key (Some w) s is = is
-get_of-listed keys answers key None s is = get_answered-listed keys answers key (look_up answers key) s refl is
+get_of-listed keys answers key w s is = grind (arith, nat_tests, first_stays, known_among)
 
 steps_read_listed : (keys : List (List ℕ)) (answers : List ReadAnswer) → StepsKeep (look_up answers) (λ s. IsFirst keys answers s.reads)
 unfolding get_key rev_key
-steps_read_listed keys answers = record {
-  set = λ v x s is. is;
-  turn = λ s is. is;
-  emit = λ x s is. is;
-  write = λ w s long is. is;
-  get = λ key s long is. get_of-listed keys answers key (last_write key s.writes) s is;
-  rev = λ key s long is. rev_answered-listed keys answers key (look_up answers key) s refl is;
-}
+steps_read_listed keys answers = grind (arith, nat_tests, get_of-listed, first_stays, known_among)
 
 listed_read : (keys : List (List ℕ)) (program : ProgramTree) (answers : List ReadAnswer) → keys_read answers ≡ keys →
     IsFirst keys answers (reads_of (run_with program answers))
@@ -173,8 +137,7 @@ reads_after keys program before (a ∷ reads) asked is =
 -- ---- no key is asked for twice ----
 
 apart_by : (b : Bool) (x : ReadAnswer) (o : Option ReadAnswer) → cond b (Some x) o ≡ None → (b ≡ false) × (o ≡ None)
-apart_by true x o none = absurd (cc)
-apart_by false x o none = (refl, none)
+apart_by b x o none = grind (arith, nat_tests)
 
 still_none : (key : List ℕ) (reads : List ReadAnswer) (a : ReadAnswer) → answer_in key reads ≡ None → bytes_eq a.key key ≡ false →
     answer_in key (reads ++ a ∷ []) ≡ None
@@ -200,13 +163,9 @@ distinct_after program before (a ∷ reads) asked distinct =
 
 asked_after : (program : ProgramTree) (before reads : List ReadAnswer) (a : ReadAnswer) → AskedAfter program before reads →
     wanted (run_on program (before ++ reads)) ≡ Some a.key → AskedAfter program before (reads ++ a ∷ [])
-asked_after program before [] a asked wants =
-    (subst (λ (l : List ReadAnswer). wanted (run_on program l) ≡ Some a.key) (append-nil before) wants, tt)
-asked_after program before (x ∷ reads) a asked wants = (
-  asked.0,
-  asked_after program (before ++ x ∷ []) reads a asked.1
-      (subst (λ (l : List ReadAnswer). wanted (run_on program l) ≡ Some a.key) (sym (append_assoc before (x ∷ []) reads)) wants),
-)
+asked_after program before [] a asked wants = grind (arith, nat_tests, append-nil)
+asked_after program before (x ∷ reads) a asked wants =
+    grind (arith, nat_tests, asked_after program (before ++ x ∷ []) reads a asked.1 (subst (λ (l : List ReadAnswer). wanted (run_on program l) ≡ Some a.key) (sym (append_assoc before (x ∷ []) reads)) wants))
 
 -- ---- after the list
 
@@ -222,39 +181,18 @@ dropped_more (suc n) (x ∷ reads) a within = dropped_more n reads a (omega (ari
 
 -- reads that begin with a list which is not due have all of it
 list_within : (keys : List (List ℕ)) (reads : List ReadAnswer) → BeginsWithList keys reads → is_due keys reads ≡ false → length keys ≤ length reads
-list_within [] [] begins not = omega arith
-list_within (key ∷ keys) [] begins not = absurd (cc)
-list_within keys (a ∷ reads) begins not =
-    let all : List (List ℕ) = map (λ (x : ReadAnswer). x.key) (a ∷ reads) in
-    let same : length all ≡ length (keys ++ begins.others) = ap (λ (l : List (List ℕ)). length l) begins.first in
-    let parts : length (keys ++ begins.others) ≡ length keys + length begins.others = length-append keys begins.others in
-    let count : length all ≡ length (a ∷ reads) = length-map (a ∷ reads) (λ (x : ReadAnswer). x.key) in
-    omega (arith, same, parts, count)
-
-none_after : (program : ProgramTree) (n : ℕ) → AskedAfter program (take n []) (drop n [])
-none_after program zero = tt
-none_after program (suc n) = tt
+list_within keys reads begins not = grind (arith, nat_tests, length-append, length-map)
 
 pub none_asked : (program : ProgramTree) → AreAsked program []
-none_asked program = none_after program (length program.prefetch)
+none_asked program = grind (arith, nat_tests)
 
 -- the answers to a list alone
 all_listed : (program : ProgramTree) (answers : List ReadAnswer) → map (λ (a : ReadAnswer). a.key) answers ≡ program.prefetch → AreAsked program answers
-all_listed program answers is =
-    let n : ℕ = length program.prefetch in
-    let count : length answers ≡ n =
-    sym (length-map answers (λ (a : ReadAnswer). a.key)) ∙ ap (λ (l : List (List ℕ)). length l) is in
-    subst (λ (l : List ReadAnswer). AskedAfter program (take n answers) l) (sym (drop_all n answers (omega (arith, count)))) tt
+all_listed program answers is = grind (arith, nat_tests, length-map, drop_all)
 
 one_more_asked : (program : ProgramTree) (reads : List ReadAnswer) (a : ReadAnswer) → length program.prefetch ≤ length reads → AreAsked program reads →
     wanted (run_on program reads) ≡ Some a.key → AreAsked program (reads ++ a ∷ [])
-one_more_asked program reads a within asked wants =
-    let n : ℕ = length program.prefetch in
-    let whole : wanted (run_on program (take n reads ++ drop n reads)) ≡ Some a.key =
-    ap (λ (l : List ReadAnswer). wanted (run_on program l)) (rejoined n reads) ∙ wants in
-    subst (λ (l : List ReadAnswer). AskedAfter program (take n (reads ++ a ∷ [])) l) (sym (dropped_more n reads a within))
-    (subst (λ (l : List ReadAnswer). AskedAfter program l (drop n reads ++ a ∷ [])) (sym (take-append-le n reads (a ∷ []) within))
-    (asked_after program (take n reads) (drop n reads) a asked whole))
+one_more_asked program reads a within asked wants = grind (arith, nat_tests, rejoined, dropped_more, take-append-le, asked_after)
 
 is_for : (o : Option (List ℕ)) (answers : List ReadAnswer) (a : ReadAnswer) → answer_for o answers ≡ Some a → o ≡ Some a.key
 is_for None answers a is = absurd (cc)
@@ -277,13 +215,11 @@ settled_asked program known within asked =
 
 start_asked : (program : ProgramTree) (known : Known) (start : List ReadAnswer) → AreAsked program known.reads →
     (known.reads ≡ start) ⊎ (answers_of_all program.prefetch known.prefetched ≡ Some start) → AreAsked program start
-start_asked program known start asked (inl same) = subst (AreAsked program) same asked
-start_asked program known start asked (inr is) = all_listed program start (taken_keys program.prefetch known.prefetched start is)
+start_asked program known start asked h5 = grind (arith, nat_tests, all_listed, taken_keys)
 
 start_listed : (program : ProgramTree) (known : Known) (start : List ReadAnswer) → BeginsWithList program.prefetch known.reads →
     (known.reads ≡ start) ⊎ (answers_of_all program.prefetch known.prefetched ≡ Some start) → BeginsWithList program.prefetch start
-start_listed program known start begins (inl same) = subst (BeginsWithList program.prefetch) same begins
-start_listed program known start begins (inr is) = list_begins program.prefetch start (taken_keys program.prefetch known.prefetched start is)
+start_listed program known start begins h5 = grind (arith, nat_tests, list_begins, taken_keys)
 
 -- what was asked for, or is the list, goes on so
 gone_asked : (program : ProgramTree) (known : Known) → BeginsWithList program.prefetch known.reads → AreAsked program known.reads →
@@ -349,23 +285,13 @@ front_of (key ∷ keys) others = ap (λ (l : List (List ℕ)). key ∷ l) (front
 
 pub asked_are_distinct : (program : ProgramTree) (reads : List ReadAnswer) → has_repeat program.prefetch ≡ false → BeginsWithList program.prefetch reads →
     AreAsked program reads → HaveDistinctKeys reads
-asked_are_distinct program [] once begins asked = tt
-asked_are_distinct program (a ∷ reads) once begins asked =
-    let n : ℕ = length program.prefetch in
-    let all : List ReadAnswer = a ∷ reads in
-    let front : map (λ (x : ReadAnswer). x.key) (take n all) ≡ program.prefetch =
-    taken_keys_of n all ∙ ap (λ (l : List (List ℕ)). take n l) begins.first ∙ front_of program.prefetch begins.others in
-    let distinct : HaveDistinctKeys (take n all) = once-have_distinct (take n all) (ap has_repeat front ∙ once) in
-    subst HaveDistinctKeys (rejoined n all) (distinct_after program (take n all) (drop n all) asked distinct)
+asked_are_distinct program reads once begins asked = grind (arith, nat_tests, taken_keys_of, front_of, once-have_distinct, rejoined, distinct_after)
 
 -- ---- what was read is what the run reads
 
 front_keys : (keys : List (List ℕ)) (reads : List ReadAnswer) → BeginsWithList keys reads → is_due keys reads ≡ false →
     map (λ (a : ReadAnswer). a.key) (take (length keys) reads) ≡ keys
-front_keys [] [] begins not = refl
-front_keys (key ∷ keys) [] begins not = absurd (cc)
-front_keys keys (a ∷ reads) begins not =
-    taken_keys_of (length keys) (a ∷ reads) ∙ ap (λ (l : List (List ℕ)). take (length keys) l) begins.first ∙ front_of keys begins.others
+front_keys keys reads begins not = grind (arith, nat_tests, taken_keys_of, front_of)
 
 pub answers_are_the_reads : AnswersAreTheReads
 unfolding run_over

@@ -1,15 +1,14 @@
 -- What an attempt at a serializable level knows is of one revision, and what any attempt has read was asked for.
-use Rattle.std.proofs.Common.{◌≡◌, ◌≢◌, ℕ, zero, suc, ◌<◌, ◌≤◌, List, [], ◌∷◌, ◌++◌, map, true, false, refl, ap, subst, arith}
+use Rattle.std.proofs.Common.{◌≡◌, ◌≢◌, ℕ, ◌<◌, ◌≤◌, List, [], ◌∷◌, ◌++◌, map, true, false, refl, subst, arith}
 use Rattle.std.specs.List.{AllByRecursion}
 use Rattle.std.proofs.lemmas.List.Elements.{All-from_recursion}
+use Rattle.std.proofs.lemmas.Bool.Decides.{nat_tests}
 use Rattle.stm_history.specs.declared.key_state.ReadAnswer.{ReadAnswer}
-use Rattle.stm_history.specs.Opening.{Opening}
 use Rattle.stm_history.specs.History.{History, now}
 use Rattle.stm_outcome.specs.Commits.{revision_read}
 use Rattle.stm_txn.specs.Standing.{Standing, Setup}
 use Rattle.stm_program.specs.Levels.{is_serializable}
 use Rattle.stm_compile.specs.Answers.{answer_now}
-use Rattle.stm_compile.specs.CommitTxn.{reread_keys}
 use Rattle.stm_attempt.specs.Known.{Known}
 use Rattle.stm_attempt.specs.Fetches.{at_of, AllShow, ShowOneRevision, HaveOneBase}
 use Rattle.stm_attempt.specs.Entering.{is_due}
@@ -39,11 +38,7 @@ abbrev pub IsBased : Setup → Task → Known → Type 0
 IsBased start task known = 1 ≤ start.revision → is_serializable task.level ≡ true → HasBase known
 
 served_base : (task : Task) (known : Known) → HasBase known → HasBase (with_served task known)
-served_base task known based = (
-  going_on_keeps_the_base task.program known (All-from_recursion (λ (a : ReadAnswer). 1 ≤ a.of_rev) known.prefetched based.1) based.2 based.0,
-  based.1,
-  based.2,
-)
+served_base task known based = grind (arith, nat_tests, going_on_keeps_the_base, All-from_recursion)
 
 rereads_show : (h : History) (keys : List (List ℕ)) → 1 ≤ now h → AllByRecursion (λ (a : ReadAnswer). 1 ≤ a.of_rev) (map (answer_now h) keys)
 rereads_show h [] some = tt
@@ -55,17 +50,14 @@ all_now h [] = tt
 all_now h (key ∷ keys) = (refl, all_now h keys)
 
 rereads_one : (h : History) (keys : List (List ℕ)) → ShowOneRevision (map (answer_now h) keys)
-rereads_one h [] = tt
-rereads_one h (key ∷ keys) = all_now h keys
+rereads_one h keys = grind (arith, nat_tests, all_now)
 
 now_base : (h : History) (keys : List (List ℕ)) → 1 ≤ now h → HaveOneBase (map (answer_now h) keys)
-now_base h [] some = tt
-now_base h (key ∷ keys) some = (some, all_now h keys)
+now_base h keys some = grind (arith, nat_tests, all_now)
 
 -- the counter of a world's store does not fall below the revision that it opened at
 added_count : (before after : History) → AddsTo before after → 1 ≤ before.opening.number → 1 ≤ now after
-added_count before after adds some =
-    let same : after.opening.number ≡ before.opening.number = ap (λ (o : Opening). o.number) adds.opening in omega arith
+added_count before after adds some = grind (arith, nat_tests)
 
 pub counter_some : (start : Setup) (entries : List Entry) (s : Standing) → replay entries (opening start.revision) ≡ without_moment s → 1 ≤ start.revision → 1 ≤ now s.history
 counter_some start entries s replays some =
@@ -88,9 +80,7 @@ list_based start task h known counter based some serializable =
     (now_base h task.program.prefetch (counter some), before.1, before.2)
 
 conflict_based : (start : Setup) (task : Task) (h : History) (known : Known) → (1 ≤ start.revision → 1 ≤ now h) → IsBased start task (after_conflict task h known)
-conflict_based start task h known counter some serializable =
-    served_base task (record { reads = []; prefetched = map (answer_now h) (reread_keys task.level known.reads) })
-    (tt, rereads_show h (reread_keys task.level known.reads) (counter some), rereads_one h (reread_keys task.level known.reads))
+conflict_based start task h known counter some serializable = grind (arith, nat_tests, served_base, rereads_show, rereads_one)
 
 -- ---- how a run goes on ----
 
@@ -103,18 +93,8 @@ pub record IsWellRun (start : Setup) (r : Runner) : Type 0 where
   pub asked : AreAsked r.task.program r.known.reads
   pub within : r.failures < r.task.limit
 
-some_limit : (limit : ℕ) → limit ≢ 0 → 0 < limit
-some_limit zero some = absurd (some refl)
-some_limit (suc n) some = omega arith
-
 pub begin_runs : (start : Setup) (task : Task) → task.limit ≢ 0 → IsWellRun start (begin task)
-begin_runs start task some = record {
-  based = λ opens serializable. (tt, tt, tt);
-  current = λ committed. (tt, tt);
-  listed = tt;
-  asked = none_asked task.program;
-  within = some_limit task.limit some;
-}
+begin_runs start task some = grind (arith, nat_tests, none_asked)
 
 pub fetch_runs : (start : Setup) (r : Runner) (h : History) (key : List ℕ) (trace : List TraceItem) → (1 ≤ start.revision → 1 ≤ now h) →
     is_due r.task.program.prefetch r.known.reads ≡ false → run_on r.task.program r.known.reads ≡ Wants key trace → IsWellRun start r →

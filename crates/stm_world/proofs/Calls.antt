@@ -1,36 +1,24 @@
 -- The calls of the store: what each leaves is what its entries replay to, and what was true stays so.
-use Rattle.std.proofs.Common.{◌≡◌, ◌≤◌, ◌<◌, ◌-◌, ℕ, List, Option, None, refl, sym, ◌∙◌, ap, arith}
-use Rattle.std.proofs.lemmas.Bool.{ltb-false, leb-false}
+use Rattle.std.proofs.Common.{◌≡◌, ◌≤◌, ◌<◌, ◌-◌, ℕ, List, Option, None, refl, ◌∙◌, arith}
+use Rattle.std.proofs.lemmas.Bool.{ltb-false, leb-false, Decides.nat_tests}
 use Rattle.std.proofs.lemmas.List.{append-nil}
-use Rattle.std.specs.Prelude.{[], Result}
 use Rattle.stm_history.specs.History.{now}
 use Rattle.stm_watch.specs.Watching.{Watching}
 use Rattle.stm_outcome.specs.Terms.{most_operations}
 use Rattle.stm_txn.specs.Standing.{Standing, HasKept, AreKeptFor, with_watchers, at_moment, expire_up_to}
-use Rattle.stm_entries.specs.declared.entry.Entry.{Entry}
 use Rattle.stm_entries.specs.Entered.{expiries}
-use Rattle.stm_events.specs.declared.reply.Reply.{Reply}
-use Rattle.stm_events.specs.declared.refusal.Denied.{Denied}
-use Rattle.stm_events.specs.Called.{Call, Watch, Poll, Cancel, Compact, called, entered}
+use Rattle.stm_events.specs.Called.{Call, called, entered}
 use Rattle.stm_events.proofs.StoreKeeps.{StoreKeeps, store_keeps, expiries_keep}
 use Rattle.stm_events.proofs.CallEnters.{few_are_replayed, call_enters, at_moment_enters}
-use Rattle.stm_world.specs.World.{World, after_call, after_quiet_call, make_call}
+use Rattle.stm_world.specs.World.{World, after_call, make_call}
 use Rattle.stm_world.proofs.Truth.{keeps_same, keeps_twice, keeps_changes}
 use Rattle.stm_world.proofs.Entered.{GoesOn, EntriesFollow, floor_stays, followed, nothing_goes_on}
 use Rattle.stm_world.proofs.KeptFor.{kept_by_changes, kept_set, kept_by_watch, kept_by_poll, kept_by_compaction}
 
 -- ---- a call that is no entry adds none
 
-quiet : (w : World) (reply : Result Reply Denied) (next : Standing) → after_quiet_call reply next w ≡ after_call reply next [] w
-quiet w reply next =
-    ap (λ (es : List Entry). record { reply = reply; next = record { standing = next; runners = w.runners; entries = es } }) (sym (append-nil w.entries))
-
 pub call_adds : (c : Call) (w : World) → make_call c w ≡ after_call (called w.standing c).reply (called w.standing c).next (entered w.standing c) w
-call_adds (Watch keys from) w = quiet w (called w.standing (Watch keys from)).reply (called w.standing (Watch keys from)).next
-call_adds (Poll watcher most) w = quiet w (called w.standing (Poll watcher most)).reply (called w.standing (Poll watcher most)).next
-call_adds (Cancel watcher) w = quiet w (called w.standing (Cancel watcher)).reply (called w.standing (Cancel watcher)).next
-call_adds (Compact revision) w = quiet w (called w.standing (Compact revision)).reply (called w.standing (Compact revision)).next
-call_adds other w = refl
+call_adds other w = grind (arith, nat_tests, append-nil)
 
 -- ---- what goes on
 
@@ -43,21 +31,11 @@ goes_on_twice a b c first second = record {
 }
 
 watchers_go_on : (s : Standing) (ws : List (Option Watching)) → (HasKept s → AreKeptFor s.history s.floor ws) → GoesOn s (with_watchers s ws)
-watchers_go_on s ws kept = record {
-  keeps = keeps_same s.history;
-  kept = λ k. record { reached = k.reached; watchers = kept k };
-  floor = floor_stays s;
-  limit = refl;
-}
+watchers_go_on s ws kept = grind (arith, nat_tests, keeps_same, floor_stays)
 
 -- the moment changes nothing of this
 moment_goes_on : (s : Standing) (moment : ℕ) → GoesOn s (at_moment s moment)
-moment_goes_on s moment = record {
-  keeps = keeps_same s.history;
-  kept = λ k. record { reached = k.reached; watchers = k.watchers };
-  floor = floor_stays s;
-  limit = refl;
-}
+moment_goes_on s moment = grind (arith, nat_tests, keeps_same, floor_stays)
 
 go_on : StoreKeeps (λ c. Unit {0}) GoesOn
 go_on = record {

@@ -1,10 +1,10 @@
 -- What an attempt at ReadCommitted knows is of the moment that it was read at, so that a commit reports the whole of it.
-use Rattle.std.proofs.Common.{◌≡◌, List, [], ◌∷◌, ◌++◌, ℕ, map, Bool, true, false, cond, refl, sym, ap}
+use Rattle.std.proofs.Common.{◌≡◌, List, [], ◌∷◌, ◌++◌, ℕ, map, false, cond, refl, sym, ap, arith}
 use Rattle.std.specs.List.{AllByRecursion}
+use Rattle.std.proofs.lemmas.Bool.Decides.{nat_tests}
 use Rattle.stm_history.specs.declared.key_state.ReadAnswer.{ReadAnswer}
 use Rattle.stm_history.specs.History.{History, now, IsTrueAnswer}
 use Rattle.stm_program.specs.declared.level.Level.{Level}
-use Rattle.stm_program.specs.declared.level.Level.TheVariants.{ReadCommitted}
 use Rattle.stm_program.specs.Levels.{is_comparing, is_serializable}
 use Rattle.stm_outcome.specs.Commits.{revision_read}
 use Rattle.stm_compile.specs.Answers.{AreTrue, answer_now}
@@ -27,8 +27,7 @@ IsCurrent task known = is_comparing task.level ≡ false → KnowsAll IsOfItsMom
 -- ---- it stays so
 
 not_serializable : (level : Level) → is_comparing level ≡ false → is_serializable level ≡ false
-not_serializable ReadCommitted is = refl
-not_serializable _ is = absurd (cc)
+not_serializable level is = grind (arith, nat_tests)
 
 -- a fetch is of the current revision
 fetched_now : (h : History) (level : Level) (reads : List ReadAnswer) → is_serializable level ≡ false → revision_read h (at_of level reads) ≡ now h
@@ -61,23 +60,14 @@ conflict_current task h known committed =
 -- ---- a reported answer is the answer that was read
 
 read_again : (h : History) (a : ReadAnswer) → IsTrueAnswer h a → IsOfItsMoment a → read_in h (committed_read a) ≡ a
-read_again h a truth current =
-    let own : a.of_rev ≡ a.revision = sym current in
-    λ i. record { key = a.key; kv = truth.shown i; of_rev = a.of_rev; revision = own i }
+read_again h a truth current = grind (arith, nat_tests)
 
 reads_again : (h : History) (reads : List ReadAnswer) → AreTrue h reads → AllByRecursion IsOfItsMoment reads →
     reads_in h (map committed_read reads) ≡ reads
 reads_again h [] truth current = refl
-reads_again h (a ∷ reads) truth current =
-    let first : read_in h (committed_read a) ≡ a = read_again h a truth.0 current.0 in
-    let rest : reads_in h (map committed_read reads) ≡ reads = reads_again h reads truth.1 current.1 in
-    λ i. first i ∷ rest i
+reads_again h (a ∷ reads) truth current = grind (arith, nat_tests, read_again, reads_again h reads truth.1 current.1)
 
 -- what a commit reports of its answers, read in the history before it, is what is kept of them
 pub kept_again : (h : History) (task : Task) (known : Known) → AreTrue h known.reads → IsCurrent task known →
     reads_in h (map committed_read (answers_kept task.level known.reads)) ≡ answers_kept task.level known.reads
-kept_again h task known truth current = by (is_comparing task.level) refl
-  where
-    by : (b : Bool) → is_comparing task.level ≡ b → reads_in h (map committed_read (cond b [] known.reads)) ≡ cond b [] known.reads
-    by true comparing = refl
-    by false committed = reads_again h known.reads truth (current committed).0
+kept_again h task known truth current = grind (arith, nat_tests, reads_again)

@@ -1,17 +1,17 @@
 -- What a commit that succeeded leaves of the store is what its entry replays to.
-use Rattle.std.proofs.Common.{◌≡◌, List, [], ◌∷◌, None, Ok, Bool, true, false, cond, refl, sym, ◌∙◌, ap, subst}
+use Rattle.std.proofs.Common.{◌≡◌, List, [], ◌∷◌, None, Ok, Bool, cond, refl, ◌∙◌, ap, arith}
 use Rattle.std.specs.Prelude.{MatchBool}
+use Rattle.std.proofs.lemmas.Bool.Decides.{nat_tests}
 use Rattle.stm_history.specs.declared.change.Change.{Change}
 use Rattle.stm_history.specs.declared.key_state.ReadAnswer.{ReadAnswer}
 use Rattle.stm_history.specs.History.{History, now}
 use Rattle.stm_program.specs.Writes.{latest_writes}
-use Rattle.stm_steps.specs.declared.run.End.{End}
 use Rattle.stm_steps.specs.declared.run.End.TheVariants.{Done as DoneEnd}
 use Rattle.stm_steps.specs.declared.run.Run.{Run}
 use Rattle.stm_steps.specs.declared.run.Answered.TheVariants.{Ended as EndedRun}
 use Rattle.stm_meaning.specs.Meaning.{run_over}
-use Rattle.stm_outcome.specs.Outcome.{Done, with_changes}
-use Rattle.stm_outcome.specs.Commits.{applied, effective}
+use Rattle.stm_outcome.specs.Outcome.{Done}
+use Rattle.stm_outcome.specs.Commits.{applied}
 use Rattle.stm_txn.specs.Standing.{Standing, HasKept, with_history, terms_of}
 use Rattle.stm_outcome.specs.Terms.{Terms}
 use Rattle.stm_program.specs.Levels.{is_comparing}
@@ -19,8 +19,8 @@ use Rattle.stm_compile.specs.Answers.{AreTrue, look_up, state_now}
 use Rattle.stm_compile.specs.Committed.{conflict_now, committed}
 use Rattle.stm_compile.specs.Laws.{CommitIsTheRunNow}
 use Rattle.stm_attempt.specs.Settled.{run_on}
-use Rattle.stm_entries.specs.Replayed.{Replayed, without_moment, replay_terms}
-use Rattle.stm_entries.specs.Alone.{seen_at, history_left, left_by, left_by_run}
+use Rattle.stm_entries.specs.Replayed.{without_moment}
+use Rattle.stm_entries.specs.Alone.{seen_at, left_by_run}
 use Rattle.stm_entries.specs.Entered.{answers_kept}
 use Rattle.stm_world.specs.Task.{Task}
 use Rattle.stm_world.specs.World.{entry_of}
@@ -29,25 +29,11 @@ use Rattle.stm_world.proofs.Entered.{EntriesFollow, floor_stays}
 use Rattle.stm_world.proofs.KeptFor.{kept_by_changes}
 use Rattle.stm_world.proofs.CommitCases.{Succeeds, succeeds, applied_history}
 
-alone_by : (h : History) (task : Task) (reads : List ReadAnswer) (run : Run) (b : Bool) →
-    (b ≡ true → run_over (state_now h) task.program.statements ≡ EndedRun run) → run_over (look_up reads) task.program.statements ≡ EndedRun run →
-    run_over (cond b (state_now h) (look_up reads)) task.program.statements ≡ EndedRun run
-alone_by h task reads run true now_is read_is = now_is refl
-alone_by h task reads run false now_is read_is = read_is
-
 same_seen : (b : Bool) (h : History) (reads : List ReadAnswer) → cond b (state_now h) (look_up (cond b [] reads)) ≡ cond b (state_now h) (look_up reads)
-same_seen true h reads = refl
-same_seen false h reads = refl
+same_seen b h reads = grind (arith, nat_tests)
 
 reported_truth : (b : Bool) (h : History) (reads : List ReadAnswer) → AreTrue h reads → MatchBool b (cond b [] reads ≡ []) (AreTrue h (cond b [] reads))
-reported_truth true h reads t = refl
-reported_truth false h reads t = t
-
-left_by_done : (run : Run) (end : End) (r : Replayed) (done : Done) → end ≡ DoneEnd →
-    applied (replay_terms r) (latest_writes run.writes) ≡ Ok done →
-    left_by run end r ≡ record { history = done.history; live = r.live }
-left_by_done run end r done is applies =
-    ap (λ (e : End). left_by run e r) is ∙ ap (λ o. record { history = history_left r.history o; live = r.live }) applies
+reported_truth b h reads t = grind (arith, nat_tests)
 
 -- a program that is done on what it read commits, and the commit succeeds
 pub record Takes (s : Standing) (task : Task) (reads : List ReadAnswer) (run : Run) (done : Done) : Type 0 where
@@ -68,9 +54,7 @@ pub record Taken (s : Standing) (task : Task) (reads : List ReadAnswer) (run : R
 committed_run : (s : Standing) (task : Task) (reads : List ReadAnswer) (run : Run) (done : Done) → CommitIsTheRunNow → Takes s task reads run done →
     conflict_now s.history task.level reads (latest_writes run.writes) ≡ None →
     run_over (seen_at task.level reads s.history) task.program.statements ≡ EndedRun run
-committed_run s task reads run done law t clear =
-    alone_by s.history task reads run (is_comparing task.level)
-    (λ comparing. law s.history task.level reads (latest_writes run.writes) task.program.statements run comparing t.truth t.is_run clear) t.is_run
+committed_run s task reads run done law t clear = grind (arith, nat_tests)
 
 -- what the commit leaves, as the log and the entry replay it
 replayed_run : (s : Standing) (task : Task) (reads : List ReadAnswer) (run : Run) (done : Done) →
@@ -78,32 +62,19 @@ replayed_run : (s : Standing) (task : Task) (reads : List ReadAnswer) (run : Run
     applied (terms_of s) (latest_writes run.writes) ≡ Ok done →
     left_by_run (run_over (seen_at task.level (answers_kept task.level reads) s.history) task.program.statements) (without_moment s)
     ≡ record { history = done.history; live = s.live }
-replayed_run s task reads run done alone is_done applies =
-    ap (λ look. left_by_run (run_over look task.program.statements) (without_moment s)) (same_seen (is_comparing task.level) s.history reads)
-    ∙ ap (λ a. left_by_run a (without_moment s)) alone
-    ∙ left_by_done run run.end (without_moment s) done is_done applies
+replayed_run s task reads run done alone is_done applies = grind (arith, nat_tests, same_seen)
 
 pub taken : (s : Standing) (task : Task) (reads : List ReadAnswer) (run : Run) (done : Done) → CommitIsTheRunNow → Takes s task reads run done →
     Taken s task reads run done
-taken s task reads run done law t =
-    let ok : Succeeds (terms_of s) task.level reads run done =
-    succeeds (terms_of s) task.level reads run done t.comes_to t.succeeds in
-    let alone : run_over (seen_at task.level reads s.history) task.program.statements ≡ EndedRun run =
-    committed_run s task reads run done law t ok.no_conflict in
-    record { alone = alone; applies = ok.applies; replayed = replayed_run s task reads run done alone t.is_done ok.applies }
+taken s task reads run done law t = grind (arith, nat_tests, Succeeds, succeeds, committed_run, replayed_run)
 
 pub grown_by : (terms : Terms) (changes : List Change) (done : Done) → applied terms changes ≡ Ok done → Keeps terms.history done.history
-grown_by terms changes done is =
-    let h : History = terms.history in
-    subst (λ (x : History). Keeps h x) (applied_history terms changes done is) (keeps_changes h (effective h changes))
+grown_by terms changes done is = grind (arith, nat_tests, Keeps, applied_history, keeps_changes)
 
 -- a store whose history writes were applied to
 pub kept_by_writes : (s : Standing) (terms : Terms) (changes : List Change) (done : Done) → terms.history ≡ s.history → applied terms changes ≡ Ok done →
     HasKept s → HasKept (record s { history = done.history })
-kept_by_writes s terms changes done same is k =
-    subst (λ (x : History). HasKept (record s { history = x })) (applied_history terms changes done is)
-    (subst (λ (h : History). HasKept (record s { history = with_changes h (effective terms.history changes) })) (sym same)
-    (kept_by_changes s (effective terms.history changes) k))
+kept_by_writes s terms changes done same is k = grind (arith, nat_tests, applied_history, kept_by_changes)
 
 -- the entry of the commit leads to what the commit left
 pub commit_follows_entry : (s : Standing) (task : Task) (reads : List ReadAnswer) (run : Run) (done : Done) → Takes s task reads run done →

@@ -1,5 +1,6 @@
 -- What an event leaves of the store is what its entries replay to.
 use Rattle.std.proofs.Common.{◌≡◌, ◌≤◌, List, [], refl, arith}
+use Rattle.std.proofs.lemmas.Bool.Decides.{nat_tests}
 use Rattle.stm_txn.specs.Standing.{Standing, HasKept}
 use Rattle.stm_entries.specs.declared.entry.Entry.{Entry}
 use Rattle.stm_entries.specs.Replayed.{without_moment}
@@ -32,14 +33,7 @@ pub nothing_goes_on : (s : Standing) → GoesOn s s
 nothing_goes_on s = record { keeps = keeps_same s.history; kept = λ k. k; floor = floor_stays s; limit = refl }
 
 pub followed : (before after : Standing) (more : List Entry) → Enters before after more → GoesOn before after → EntriesFollow before after more
-followed before after more enters goes = record {
-  replays = enters.replays;
-  legal = enters.legal;
-  keeps = goes.keeps;
-  kept = goes.kept;
-  floor = goes.floor;
-  limit = goes.limit;
-}
+followed before after more enters goes = grind (arith, nat_tests)
 
 pub nothing_follows : (s : Standing) → EntriesFollow s s []
 nothing_follows s = followed s s [] (nothing_enters s) (nothing_goes_on s)

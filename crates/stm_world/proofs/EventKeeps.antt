@@ -3,6 +3,7 @@
 use Rattle.std.proofs.Common.{◌≡◌, ◌≤◌, ℕ, List, [], ◌∷◌, Option, Some, None, Ok, Err, refl, sym, ◌∙◌, subst, arith}
 use Rattle.std.proofs.Math.Nat.{min-le_right}
 use Rattle.std.specs.Prelude.{Result}
+use Rattle.std.proofs.lemmas.Bool.Decides.{nat_tests}
 use Rattle.stm_history.specs.Opening.{opening_at}
 use Rattle.stm_program.specs.Writes.{latest_writes}
 use Rattle.stm_steps.specs.declared.run.End.{End}
@@ -33,12 +34,7 @@ use Rattle.stm_world.proofs.Calls.{call_goes_on}
 
 -- the store with the history that it has
 unchanged : (s : Standing) → GoesOn s (with_history s s.history)
-unchanged s = record {
-  keeps = keeps_same s.history;
-  kept = λ k. record { reached = k.reached; watchers = k.watchers };
-  floor = floor_stays s;
-  limit = refl;
-}
+unchanged s = grind (arith, nat_tests, keeps_same, floor_stays)
 
 -- ---- a commit
 

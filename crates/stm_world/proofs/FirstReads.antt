@@ -3,12 +3,13 @@ use Rattle.std.proofs.Common.{◌≡◌, ◌⊎◌, inl, inr, ℕ, Bool, true, f
 use Rattle.std.specs.Prelude.{bytes_eq, ◌||◌}
 use Rattle.std.specs.List.{list_any}
 use Rattle.std.proofs.lemmas.Slice.Eq.{bytes_eq-Decides}
+use Rattle.std.proofs.lemmas.Bool.Decides.{nat_tests}
+use Rattle.std.proofs.Common.{arith}
 use Rattle.stm_steps.specs.Session.{with_key}
 use Rattle.stm_events.specs.FirstReads.{is_other, keys_first_read}
 
 neither : (b c : Bool) → (b || c) ≡ false → (b ≡ false) × (c ≡ false)
-neither true c h = absurd (cc)
-neither false c h = (refl, h)
+neither b c h = grind (arith, nat_tests)
 
 none_of_two : (b c : Bool) → b ≡ false → c ≡ false → (b || c) ≡ false
 none_of_two b c first second = ap (λ x. x || c) first ∙ second
@@ -23,11 +24,7 @@ any_split test (x ∷ xs) ys none =
 any_by : (test : List ℕ → Bool) (x : List ℕ) (xs ys : List (List ℕ)) (b : Bool) → test x ≡ b
     → (list_any test (xs ++ ys) ≡ true → (list_any test xs ≡ true) ⊎ (list_any test ys ≡ true)) → (b || list_any test (xs ++ ys)) ≡ true
     → (list_any test (x ∷ xs) ≡ true) ⊎ (list_any test ys ≡ true)
-any_by test x xs ys true here rest any = inl (ap (λ c. c || list_any test xs) here)
-any_by test x xs ys false here rest any = elim (rest any) [
-  | inl there ↦ inl (ap (λ c. c || list_any test xs) here ∙ there)
-  | inr behind ↦ inr behind
-]
+any_by test x xs ys b here rest any = grind (arith, nat_tests)
 
 any_in : (test : List ℕ → Bool) (xs ys : List (List ℕ)) → list_any test (xs ++ ys) ≡ true → (list_any test xs ≡ true) ⊎ (list_any test ys ≡ true)
 any_in test [] ys is = inr is
@@ -36,20 +33,17 @@ any_in test (x ∷ xs) ys is = any_by test x xs ys (test x) refl (any_in test xs
 -- ---- filters
 
 push_by : (kept : Bool) (y : List ℕ) (more rest tail : List (List ℕ)) → more ≡ rest ++ tail → cond kept (y ∷ more) more ≡ cond kept (y ∷ rest) rest ++ tail
-push_by true y more rest tail is = ap (λ (l : List (List ℕ)). y ∷ l) is
-push_by false y more rest tail is = is
+push_by kept y more rest tail is = grind (arith, nat_tests)
 
 filter_push : (test : List ℕ → Bool) (xs : List (List ℕ)) (x : List ℕ) (kept : Bool) → test x ≡ kept
     → filter test (xs ++ x ∷ []) ≡ filter test xs ++ cond kept (x ∷ []) []
 filter_push test [] x kept is = ap (λ c. cond c (x ∷ []) []) is
-filter_push test (y ∷ xs) x kept is =
-    push_by (test y) y (filter test (xs ++ x ∷ [])) (filter test xs) (cond kept (x ∷ []) []) (filter_push test xs x kept is)
+filter_push test (y ∷ xs) x kept is = grind (arith, nat_tests, push_by, filter_push test xs x kept is)
 
 -- what is not in a list is in no part of it
 none_kept : (kept : Bool) (key y : List ℕ) (rest : List (List ℕ)) → bytes_eq key y ≡ false → list_any (bytes_eq key) rest ≡ false
     → list_any (bytes_eq key) (cond kept (y ∷ rest) rest) ≡ false
-none_kept true key y rest other none = none_of_two (bytes_eq key y) (list_any (bytes_eq key) rest) other none
-none_kept false key y rest other none = none
+none_kept kept key y rest other none = grind (arith, nat_tests, none_of_two)
 
 none_filtered : (test : List ℕ → Bool) (key : List ℕ) (xs : List (List ℕ)) → list_any (bytes_eq key) xs ≡ false → list_any (bytes_eq key) (filter test xs) ≡ false
 none_filtered test key [] none = refl
@@ -57,21 +51,10 @@ none_filtered test key (y ∷ xs) none =
     let parts = neither (bytes_eq key y) (list_any (bytes_eq key) xs) none in
     none_kept (test y) key y (filter test xs) parts.0 (none_filtered test key xs parts.1)
 
--- a key that passes is not in a list where it is not in what passes of it
-not_this : (test : List ℕ → Bool) (key y : List ℕ) (b : Bool) → bytes_eq key y ≡ b → test key ≡ true → test y ≡ false → b ≡ false
-not_this test key y false is passes fails = refl
-not_this test key y true is passes fails =
-    let same : key ≡ y = (bytes_eq-Decides key y).0 is in
-    let both : true ≡ false = sym passes ∙ ap test same ∙ fails in absurd (cc)
-
 passing_by : (test : List ℕ → Bool) (key y : List ℕ) (xs : List (List ℕ)) (kept : Bool) → test y ≡ kept → test key ≡ true
     → (list_any (bytes_eq key) (filter test xs) ≡ false → list_any (bytes_eq key) xs ≡ false)
     → list_any (bytes_eq key) (cond kept (y ∷ filter test xs) (filter test xs)) ≡ false → list_any (bytes_eq key) (y ∷ xs) ≡ false
-passing_by test key y xs true is passes rest none =
-    let parts = neither (bytes_eq key y) (list_any (bytes_eq key) (filter test xs)) none in
-    none_of_two (bytes_eq key y) (list_any (bytes_eq key) xs) parts.0 (rest parts.1)
-passing_by test key y xs false is passes rest none =
-    none_of_two (bytes_eq key y) (list_any (bytes_eq key) xs) (not_this test key y (bytes_eq key y) refl passes is) (rest none)
+passing_by test key y xs kept is passes rest none = grind (arith, nat_tests, neither, none_of_two, bytes_eq-Decides)
 
 none_passing : (test : List ℕ → Bool) (key : List ℕ) (xs : List (List ℕ)) → test key ≡ true → list_any (bytes_eq key) (filter test xs) ≡ false
     → list_any (bytes_eq key) xs ≡ false
@@ -81,8 +64,7 @@ none_passing test key (y ∷ xs) passes none = passing_by test key y xs (test y)
 -- ---- one key more
 
 pub first_none : (keys : List (List ℕ)) → keys_first_read keys [] ≡ keys
-first_none [] = refl
-first_none (key ∷ keys) = append-nil (key ∷ keys)
+first_none keys = grind (arith, nat_tests, append-nil)
 
 -- a key that is none of them comes after them
 pub first_adds : (keys reads : List (List ℕ)) (next : List ℕ) → list_any (bytes_eq next) (keys_first_read keys reads) ≡ false
@@ -113,5 +95,4 @@ stays_by key keys reads next false absent there =
 
 pub first_stays : (keys reads : List (List ℕ)) (next : List ℕ) → list_any (bytes_eq next) (keys_first_read keys reads) ≡ true
     → keys_first_read keys (with_key next reads) ≡ keys_first_read keys reads
-first_stays [] reads next there = ap (λ b. cond b reads (reads ++ next ∷ [])) there
-first_stays (key ∷ keys) reads next there = stays_by key keys reads next (list_any (bytes_eq next) reads) refl there
+first_stays keys reads next there = grind (arith, nat_tests, stays_by)

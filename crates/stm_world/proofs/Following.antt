@@ -2,6 +2,7 @@
 use Rattle.std.proofs.Common.{◌≡◌, ℕ, ◌+◌, ◌<◌, ◌≤◌, List, [], ◌∷◌, ◌++◌, length, Some, None, Ok, true, false, cond, refl, sym, ◌∙◌, ap, subst, arith}
 use Rattle.std.proofs.lemmas.List.{append-nil}
 use Rattle.std.specs.Prelude.{nat_eq, Result}
+use Rattle.std.proofs.lemmas.Bool.Decides.{nat_tests}
 use Rattle.stm_entries.specs.declared.entry.Entry.{Entry}
 use Rattle.stm_entries.specs.Replayed.{opening, without_moment}
 use Rattle.stm_entries.specs.Replay.{replay}
@@ -50,13 +51,11 @@ pub record FollowsStep (start : Setup) (log : List Line) (event : WorldEvent) (s
 
 replays_more : (start : Setup) (log after : List Line) (runners : List Slot) (entries more : List Entry) → FollowsAt start log runners entries →
     EntriesFollow (store start log) (store start after) more → replay (entries ++ more) (opening start.revision) ≡ without_moment (store start after)
-replays_more start log after runners entries more f e =
-    replay_goes_on entries more (opening start.revision) ∙ ap (replay more) f.replays ∙ e.replays
+replays_more start log after runners entries more f e = grind (arith, nat_tests, replay_goes_on)
 
 legal_more : (start : Setup) (log after : List Line) (runners : List Slot) (entries more : List Entry) → FollowsAt start log runners entries →
     EntriesFollow (store start log) (store start after) more → AreLegal (entries ++ more) (opening start.revision)
-legal_more start log after runners entries more f e =
-    all_legal entries more (opening start.revision) f.legal (subst (AreLegal more) (sym f.replays) e.legal)
+legal_more start log after runners entries more f e = grind (arith, nat_tests, all_legal)
 
 -- the entries with those of one more line
 entries_more : (start : Setup) (log : List Line) (runners : List Slot) (entries more : List Entry) (line : Line) → FollowsAt start log runners entries →

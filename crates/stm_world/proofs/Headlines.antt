@@ -3,6 +3,7 @@ use Rattle.std.proofs.Common.{◌≡◌, ◌≢◌, ℕ, ◌+◌, ◌<◌, ◌�
 use Rattle.std.proofs.Common.{subst, arith}
 use Rattle.std.proofs.lemmas.List.{append-nil}
 use Rattle.std.specs.Prelude.{nat_eq, option_map}
+use Rattle.std.proofs.lemmas.Bool.Decides.{nat_tests}
 use Rattle.stm_txn.specs.Standing.{Standing, Setup}
 use Rattle.stm_program.specs.Levels.{is_serializable}
 use Rattle.stm_program.specs.Limits.{has_repeat}
@@ -40,19 +41,14 @@ use Rattle.stm_world.proofs.Calls.{call_adds, call_follows}
 
 new_in_log : (start : Setup) (log : List Line) (id : ℕ) (task : Task) → IsFresh start log id →
     runner_in_log start (with_line (Start task.program task.level task.limit) (Ok (Started id)) log) id ≡ Some (begin task)
-new_in_log start log id task fresh =
-    let after : List Line = with_line (Start task.program task.level task.limit) (Ok (Started id)) log in
-    ap (λ b. option_map (runner_for start after id) (cond b None (cond (nat_eq id id) (Some task) (begun id log)))) fresh.not_over
-    ∙ ap (λ b. option_map (runner_for start after id) (cond b (Some task) (begun id log))) (same_number id)
-    ∙ (λ i. Some (record { task = task; failures = fresh.no_failures i; known = fresh.nothing task i }))
+new_in_log start log id task fresh = grind (arith, nat_tests, with_line, same_number)
 
 nothing_true : (start : Setup) (log : List Line) (task : Task) (r : Runner) → live_in (Some (Live (begin task))) ≡ Some r →
     KnowsTruth (store start log).history r.known
 nothing_true start log task r is = let same : begin task ≡ r = cc in subst (λ (x : Runner). KnowsTruth (store start log).history x.known) same (tt, tt)
 
 begun_runs : (start : Setup) (task : Task) (r : Runner) → task.limit ≢ 0 → live_in (Some (Live (begin task))) ≡ Some r → IsWellRun start r
-begun_runs start task r some is =
-    let same : begin task ≡ r = cc in subst (λ (x : Runner). IsWellRun start x) same (begin_runs start task some)
+begun_runs start task r some is = grind (arith, nat_tests, IsWellRun, begin_runs)
 
 started_follows : (start : Setup) (log : List Line) (runners : List Slot) (entries : List Entry) (task : Task) → FollowsAt start log runners entries →
     task.limit ≢ 0 →
@@ -129,9 +125,7 @@ runner_by start log runners entries id (Some task) laws f runs = live_follows st
 
 runner_follows : (start : Setup) (log : List Line) (runners : List Slot) (entries : List Entry) (id : ℕ) → CommitLaws → FollowsAt start log runners entries →
     FollowsStep start log (Step id) (step_runner id (runner_at id runners) (world_at start log runners entries))
-runner_follows start log runners entries id laws f =
-    subst (λ (o : Option Runner). FollowsStep start log (Step id) (step_runner id o (world_at start log runners entries))) (sym (f.slots id))
-    (runner_by start log runners entries id (running id log) laws f refl)
+runner_follows start log runners entries id laws f = grind (arith, nat_tests, FollowsStep, world_at, runner_by)
 
 -- ---- calls ----
 
@@ -183,20 +177,7 @@ run_follows start (e ∷ es) log w laws f =
     run_follows start es (with_line e (step e w).reply log) (step e w).next laws (record { standing = s.standing; at = s.follows })
 
 pub opened_follows : (start : Setup) → Follows start [] (opened start)
-opened_follows start = record {
-  standing = refl;
-  at = record {
-    right = tt;
-    count = refl;
-    slots = no_runner;
-    fresh = λ id above. none_reported start id;
-    truth = λ id r found. let none : runner_at id [] ≡ None = no_runner id in absurd (cc);
-    well_run = λ id r found. let none : runner_at id [] ≡ None = no_runner id in absurd (cc);
-    reported = refl;
-    replays = refl;
-    legal = tt;
-  };
-}
+opened_follows start = grind (arith, nat_tests, no_runner, none_reported)
 
 pub headline : CommitLaws → Headline
 headline laws start events =

@@ -1,7 +1,8 @@
 -- Events that are run after others.
-use Rattle.std.proofs.Common.{◌≡◌, List, [], ◌∷◌, ◌++◌, map, reverse, refl, sym, ◌∙◌, ap}
+use Rattle.std.proofs.Common.{◌≡◌, List, [], ◌∷◌, ◌++◌, map, reverse, refl, ap, arith}
 use Rattle.std.proofs.lemmas.List.{map-append, reverse-append}
 use Rattle.std.specs.Prelude.{Result}
+use Rattle.std.proofs.lemmas.Bool.Decides.{nat_tests}
 use Rattle.stm_events.specs.declared.event.WorldEvent.{WorldEvent}
 use Rattle.stm_events.specs.declared.reply.Reply.{Reply}
 use Rattle.stm_events.specs.declared.refusal.Denied.{Denied}
@@ -20,17 +21,11 @@ replies (e ∷ earlier) later w = ap (λ (rs : List (Result Reply Denied)). (ste
 -- what the lines of both logs show is that of the earlier and then of the later ones, reversed
 both : {A : Type 0} (show : Line → A) (log more : List Line) (first second : List A) → map show log ≡ reverse first → map show more ≡ reverse second →
     map show (more ++ log) ≡ reverse (first ++ second)
-both {A} show log more first second is then =
-    map-append show more log ∙ ap (λ (l : List A). l ++ map show log) then ∙ ap (λ (l : List A). reverse second ++ l) is
-    ∙ sym (reverse-append first second)
+both {A} show log more first second is then = grind (arith, nat_tests, map-append, reverse-append)
 
 logs : (earlier later : List WorldEvent) (w : World) (log more : List Line) → IsLogOf earlier (replies_to earlier w) log →
     IsLogOf later (replies_to later (world_after earlier w)) more → IsLogOf (earlier ++ later) (replies_to (earlier ++ later) w) (more ++ log)
-logs earlier later w log more first second = record {
-  asked = both (λ (line : Line). line.event) log more earlier later first.asked second.asked;
-  answered = both (λ (line : Line). line.reply) log more (replies_to earlier w) (replies_to later (world_after earlier w)) first.answered second.answered
-      ∙ ap reverse (sym (replies earlier later w));
-}
+logs earlier later w log more first second = grind (arith, nat_tests, both, replies)
 
 pub runs_go_on : RunsGoOn
 runs_go_on = record { worlds = worlds; replies = replies; logs = logs }

@@ -1,14 +1,12 @@
 -- Nothing that is pending is below the floor, unless a watcher is lost: so it stays with each call.
-use Rattle.std.proofs.Common.{◌≡◌, ℕ, ◌-◌, ◌≤◌, zero, suc, Bool, true, false, cond, List, [], ◌∷◌, ◌++◌, Option, Some, None, subst, arith}
-use Rattle.std.proofs.Common.{slice_index_or, slice_set}
-use Rattle.std.proofs.lemmas.Bool.{ltb-false}
-use Rattle.std.specs.Prelude.{nat_eq, ◌||◌, IfSome, option_map}
+use Rattle.std.proofs.Common.{◌≡◌, ℕ, ◌-◌, ◌≤◌, zero, suc, false, List, [], ◌∷◌, ◌++◌, Option, Some, None, arith, slice_index_or, slice_set}
+use Rattle.std.proofs.lemmas.Bool.{ltb-false, Decides.nat_tests}
+use Rattle.std.specs.Prelude.{option_map}
 use Rattle.stm_history.specs.declared.change.Change.{Change}
 use Rattle.stm_history.specs.History.{History, now}
 use Rattle.stm_watch.specs.declared.watched.Watched.{Watched}
 use Rattle.stm_watch.specs.Watching.{Watching}
-use Rattle.stm_watch.specs.Places.{is_lost}
-use Rattle.stm_watch.specs.Pending.{watching_from, first_pending, after_poll}
+use Rattle.stm_watch.specs.Pending.{watching_from, after_poll}
 use Rattle.stm_watch.specs.Calls.{watcher_at, compacted_one, compacted}
 use Rattle.stm_outcome.specs.Outcome.{with_changes}
 use Rattle.stm_txn.specs.Standing.{Standing, IsKeptFor, AreKeptFor, HasKept}
@@ -22,13 +20,9 @@ kept_there h floor [] (suc i) are = tt
 kept_there h floor (x ∷ ws) zero are = are.0
 kept_there h floor (x ∷ ws) (suc i) are = kept_there h floor ws i are.1
 
-kept_by : (h : History) (floor : ℕ) (none : Bool) (o : Option Watching) → IsKeptFor h floor o → IsKeptFor h floor (cond none None o)
-kept_by h floor true o is = tt
-kept_by h floor false o is = is
-
 -- the watcher with a number
 pub kept_at : (h : History) (floor : ℕ) (ws : List (Option Watching)) (id : ℕ) → AreKeptFor h floor ws → IsKeptFor h floor (watcher_at id ws)
-kept_at h floor ws id are = kept_by h floor (nat_eq id 0) (slice_index_or ws (id - 1) None) (kept_there h floor ws (id - 1) are)
+kept_at h floor ws id are = grind (arith, nat_tests, kept_there)
 
 pub kept_set : (h : History) (floor : ℕ) (ws : List (Option Watching)) (i : ℕ) (o : Option Watching) → AreKeptFor h floor ws → IsKeptFor h floor o →
     AreKeptFor h floor (slice_set ws i o)
@@ -47,48 +41,28 @@ kept_after h floor (x ∷ ws) o are is = (are.0, kept_after h floor ws o are.1 i
 -- a change
 one_changed : (h : History) (floor : ℕ) (changes : List Change) (o : Option Watching) → floor ≤ now h → IsKeptFor h floor o →
     IsKeptFor (with_changes h changes) floor o
-one_changed h floor changes None reached is = tt
-one_changed h floor changes (Some w) reached is = λ kept. changes_from floor h changes w reached (is kept)
+one_changed h floor changes o reached is = grind (arith, nat_tests, changes_from)
 
 all_changed : (h : History) (floor : ℕ) (changes : List Change) (ws : List (Option Watching)) → floor ≤ now h → AreKeptFor h floor ws →
     AreKeptFor (with_changes h changes) floor ws
 all_changed h floor changes [] reached are = tt
 all_changed h floor changes (w ∷ ws) reached are = (one_changed h floor changes w reached are.0, all_changed h floor changes ws reached are.1)
 
-still_reached : (floor : ℕ) (h : History) (changes : List Change) → floor ≤ now h → floor ≤ now (with_changes h changes)
-still_reached floor h [] reached = reached
-still_reached floor h (c ∷ cs) reached = omega arith
-
 pub kept_by_changes : (s : Standing) (changes : List Change) → HasKept s → HasKept (record s { history = with_changes s.history changes })
-kept_by_changes s changes k = record {
-  reached = still_reached s.floor s.history changes k.reached;
-  watchers = all_changed s.history s.floor changes s.watchers k.reached k.watchers;
-}
+kept_by_changes s changes k = grind (arith, nat_tests, all_changed)
 
 -- a watch
 pub kept_by_watch : (s : Standing) (keys : Watched) (from : ℕ) → HasKept s →
     AreKeptFor s.history s.floor (s.watchers ++ Some (watching_from s.history s.floor keys from) ∷ [])
-kept_by_watch s keys from k =
-    kept_after s.history s.floor s.watchers (Some (watching_from s.history s.floor keys from)) k.watchers
-    (λ kept. begun_from s.floor s.history keys from k.reached kept)
+kept_by_watch s keys from k = grind (arith, nat_tests, kept_after, begun_from)
 
 -- a poll of a watcher that is there
 pub kept_by_poll : (s : Standing) (id most : ℕ) (w : Watching) → HasKept s → watcher_at id s.watchers ≡ Some w → w.lost ≡ false →
     AreKeptFor s.history s.floor (slice_set s.watchers (id - 1) (Some (after_poll most s.history w)))
-kept_by_poll s id most w k found kept =
-    let is : IsKeptFor s.history s.floor (Some w) = subst (IsKeptFor s.history s.floor) found (kept_at s.history s.floor s.watchers id k.watchers) in
-    kept_set s.history s.floor s.watchers (id - 1) (Some (after_poll most s.history w)) k.watchers
-    (λ still. polled_from most s.floor s.history w (is kept))
-
--- a compaction
-not_first : (lost : Bool) (floor : ℕ) (first : Option ℕ) → (lost || is_lost floor first) ≡ false → IfSome first (λ n. floor ≤ n)
-not_first true floor first kept = absurd (cc)
-not_first false floor None kept = tt
-not_first false floor (Some n) kept = ltb-false n floor kept
+kept_by_poll s id most w k found kept = grind (arith, nat_tests, kept_at, kept_set, polled_from)
 
 one_compacted : (h : History) (floor : ℕ) (o : Option Watching) → IsKeptFor h floor (option_map (compacted_one h floor) o)
-one_compacted h floor None = tt
-one_compacted h floor (Some w) = λ kept. not_first w.lost floor (first_pending h w) kept
+one_compacted h floor o = grind (arith, nat_tests, ltb-false)
 
 pub kept_by_compaction : (h : History) (floor : ℕ) (ws : List (Option Watching)) → AreKeptFor h floor (compacted h floor ws)
 kept_by_compaction h floor [] = tt

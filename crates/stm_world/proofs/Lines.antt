@@ -1,14 +1,13 @@
 -- Line by line over a log that a world follows, and by what a line reports.
-use Rattle.std.proofs.Common.{◌≡◌, ℕ, ◌+◌, List, [], ◌∷◌, Option, Some, None, Ok, Err, refl, sym, subst}
+use Rattle.std.proofs.Common.{◌≡◌, ℕ, ◌+◌, List, [], ◌∷◌, Option, Some, Ok, refl, sym, subst, arith}
 use Rattle.std.specs.Prelude.{Result}
+use Rattle.std.proofs.lemmas.Bool.Decides.{nat_tests}
 use Rattle.stm_txn.specs.Standing.{Setup}
 use Rattle.stm_events.specs.declared.event.WorldEvent.{WorldEvent}
 use Rattle.stm_events.specs.declared.event.WorldEvent.TheVariants.{Start, Step}
 use Rattle.stm_events.specs.declared.reply.Reply.{Reply}
 use Rattle.stm_events.specs.declared.reply.Reply.TheVariants.{Started}
-use Rattle.stm_events.specs.declared.refusal.EventRefusal.TheVariants.{NoRunner}
 use Rattle.stm_events.specs.declared.refusal.Denied.{Denied}
-use Rattle.stm_events.specs.Replies.{denied}
 use Rattle.stm_events.specs.Called.{Asked, called}
 use Rattle.stm_events.proofs.Asking.{by_asked}
 use Rattle.stm_world.specs.Task.{Task}
@@ -42,16 +41,13 @@ Judged = WorldEvent → Result Reply Denied → Type 0
 start_judged : (count : ℕ) (P : Judged) (task : Task) → ((reply : Result Reply Denied) → SaysNothing reply → P (Start task.program task.level task.limit) reply) →
     P (Start task.program task.level task.limit) (Ok (Started (count + 1))) → (reply : Result Reply Denied) → StartIsRight count task.limit reply →
     P (Start task.program task.level task.limit) reply
-start_judged count P task nothing begins (Ok reply) right =
-    subst (λ (x : Reply). P (Start task.program task.level task.limit) (Ok x)) (sym right.0) begins
-start_judged count P task nothing begins (Err refusal) right = nothing (Err refusal) (nothing_by_refusal refusal)
+start_judged count P task nothing begins reply right = grind (arith, nat_tests, nothing_by_refusal)
 
 runner_judged : (start : Setup) (log : List Line) (id : ℕ) (P : Result Reply Denied → Type 0) (o : Option Task) → running id log ≡ o →
     ((reply : Result Reply Denied) → SaysNothing reply → P reply) →
     ((task : Task) (reply : Result Reply Denied) → running id log ≡ Some task → StepIsRight (situation start log id task) reply → P reply) →
     (reply : Result Reply Denied) → RunnerIsRight start log id o reply → P reply
-runner_judged start log id P None runs nothing stepped reply right = subst P (sym right) (nothing (denied NoRunner) (nothing_by_refusal _))
-runner_judged start log id P (Some task) runs nothing stepped reply right = stepped task reply runs right
+runner_judged start log id P o runs nothing stepped reply right = grind (arith, nat_tests, nothing_by_refusal)
 
 -- What holds of a reply that says nothing of runners, of a start that was taken, and of the step of a runner that runs, holds of each
 -- right reply.

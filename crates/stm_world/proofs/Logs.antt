@@ -1,7 +1,8 @@
 -- The log of a run: each event with its reply.
-use Rattle.std.proofs.Common.{◌≡◌, List, [], ◌∷◌, ◌++◌, map, reverse, length, refl, sym, ◌∙◌, ap}
+use Rattle.std.proofs.Common.{◌≡◌, List, [], ◌∷◌, ◌++◌, map, reverse, length, refl, sym, ◌∙◌, ap, arith}
 use Rattle.std.proofs.lemmas.List.{append-nil, append_assoc, reverse-append, length-map, length-reverse}
 use Rattle.std.specs.Prelude.{Result}
+use Rattle.std.proofs.lemmas.Bool.Decides.{nat_tests}
 use Rattle.stm_events.specs.declared.event.WorldEvent.{WorldEvent}
 use Rattle.stm_events.specs.declared.reply.Reply.{Reply}
 use Rattle.stm_events.specs.declared.refusal.Denied.{Denied}
@@ -43,10 +44,7 @@ replies_in (e ∷ es) w log =
     ∙ sym (turned (step e w).reply (replies_to es (step e w).next) (map reply_in log))
 
 pub logged_is_log : (events : List WorldEvent) (w : World) → IsLogOf events (replies_to events w) (logged events (replies_to events w) [])
-logged_is_log events w = record {
-  asked = events_in events w [] ∙ append-nil (reverse events);
-  answered = replies_in events w [] ∙ append-nil (reverse (replies_to events w));
-}
+logged_is_log events w = grind (arith, nat_tests, events_in, append-nil, replies_in)
 
 pub log_of_is_log : (start : Setup) (events : List WorldEvent) → IsLogOf events (replies_to events (opened start)) (log_of start events)
 log_of_is_log start events = logged_is_log events (opened start)
@@ -61,16 +59,10 @@ same_lines : (a b : List Line) → map event_in a ≡ map event_in b → map rep
 same_lines [] [] events replies = refl
 same_lines [] (y ∷ b) events replies = absurd (cc)
 same_lines (x ∷ a) [] events replies = absurd (cc)
-same_lines (x ∷ a) (y ∷ b) events replies =
-    let event : x.event ≡ y.event = cc in
-    let reply : x.reply ≡ y.reply = cc in
-    let rest : a ≡ b = same_lines a b (cc) (cc) in
-    λ i. record { event = event i; reply = reply i } ∷ rest i
+same_lines (x ∷ a) (y ∷ b) events replies = grind (arith, nat_tests, same_lines a b (cc) (cc))
 
 pub one_log : (events : List WorldEvent) (replies : List (Result Reply Denied)) (a b : List Line) → IsLogOf events replies a → IsLogOf events replies b → a ≡ b
 one_log events replies a b first second = same_lines a b (first.asked ∙ sym second.asked) (first.answered ∙ sym second.answered)
 
 pub as_many : (events : List WorldEvent) (replies : List (Result Reply Denied)) (log : List Line) → IsLogOf events replies log → length replies ≡ length events
-as_many events replies log is =
-    sym (length-reverse replies) ∙ ap length (sym is.answered) ∙ length-map log reply_in
-    ∙ sym (length-map log event_in) ∙ ap length is.asked ∙ length-reverse events
+as_many events replies log is = grind (arith, nat_tests, length-reverse, length-map)

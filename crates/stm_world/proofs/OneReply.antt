@@ -1,8 +1,7 @@
 -- There is one right reply to an event after a log.
-use Rattle.std.proofs.Common.{◌≡◌, inl, inr, ℕ, ◌+◌, ◌≤◌, List, [], ◌∷◌, length, map, reverse, Option, Some, None, Ok, Err, Bool, true, false, refl}
-use Rattle.std.proofs.Common.{sym, ◌∙◌, ap, subst, arith}
+use Rattle.std.proofs.Common.{◌≡◌, ℕ, ◌+◌, List, [], ◌∷◌, length, map, reverse, Option, Some, None, Ok, Err, Bool, true, false, refl, sym, ◌∙◌, ap, arith}
 use Rattle.std.proofs.lemmas.List.{reverse-reverse}
-use Rattle.std.proofs.lemmas.Bool.{lt-ltb, le-ltb}
+use Rattle.std.proofs.lemmas.Bool.{lt-ltb, le-ltb, Decides.nat_tests}
 use Rattle.std.specs.Prelude.{nat_lt, slice_get, Result}
 use Rattle.stm_history.specs.History.{now, key_at, mod_of}
 use Rattle.stm_program.specs.Writes.{latest_writes}
@@ -25,14 +24,14 @@ use Rattle.stm_attempt.specs.Entering.{is_due}
 use Rattle.stm_attempt.specs.Fetches.{at_of}
 use Rattle.stm_events.specs.declared.event.WorldEvent.{WorldEvent}
 use Rattle.stm_events.specs.declared.reply.Reply.{Reply}
-use Rattle.stm_events.specs.declared.reply.Reply.TheVariants.{Started, Prefetched, Fetched, Committed, Conflict, GaveUp, Aborted, Faulted, Ended}
+use Rattle.stm_events.specs.declared.reply.Reply.TheVariants.{Prefetched, Fetched, Committed, Conflict, GaveUp, Aborted, Faulted, Ended}
 use Rattle.stm_events.specs.declared.refusal.Denied.{Denied}
 use Rattle.stm_events.specs.Replies.{committed_read, event_refusal}
-use Rattle.stm_events.specs.Called.{Asked, Starts, Steps, Calls, asked}
+use Rattle.stm_events.specs.Called.{Asked, asked}
 use Rattle.stm_world.specs.Task.{Task, modified_now}
 use Rattle.stm_entries.specs.Entered.{answers_kept}
-use Rattle.stm_world.specs.Log.{Line, IsLogOf, running, started}
-use Rattle.stm_world.specs.Right.{Situation, HasList, Commits, IsConflicted, IsRefused, ReplyIsRight, StepIsRight, RunnerIsRight, StartIsRight, IsRightAsked, IsRight, AreRight, situation}
+use Rattle.stm_world.specs.Log.{Line, IsLogOf}
+use Rattle.stm_world.specs.Right.{Situation, Commits, IsConflicted, IsRefused, ReplyIsRight, RunnerIsRight, IsRightAsked, IsRight, AreRight}
 use Rattle.stm_world.specs.World.{opened, replies_to}
 use Rattle.stm_world.specs.Headline.{Headline}
 use Rattle.stm_world.specs.OneReply.{OneRightReply}
@@ -87,85 +86,25 @@ reply_at at = by_list at (is_due at.task.program.prefetch at.reads)
 by_outcome : (at : Situation) (o : Result Done StoreRefusal) (c : Commits at o) → reply_at at ≡ by_commit at c.run o
 by_outcome at o c = ap (by_list at) c.has_list ∙ ap (by_run at) c.is_run ∙ ap (by_end at c.run) c.is_done ∙ ap (by_commit at c.run) c.comes_to
 
--- so does the end of a run without a commit
-by_stop : (at : Situation) (run : Run) (end : End) → HasList at → run_on at.task.program at.reads ≡ EndedRun run → run.end ≡ end → reply_at at ≡ by_end at run end
-by_stop at run end listed is_run ended = ap (by_list at) listed ∙ ap (by_run at) is_run ∙ ap (by_end at run) ended
-
 by_conflict : (at : Situation) (key : List ℕ) (seen now_modified : ℕ) (c : IsConflicted at key seen now_modified) (more : Bool) →
     nat_lt (at.failures + 1) at.task.limit ≡ more → reply_at at ≡ by_limit at c.conflict.seen c.failed.mod_rev more
-by_conflict at key seen now_modified c more left =
-    by_outcome at (Ok c.done) c.commits ∙ ap (by_compare at c.commits.run c.done) c.fails
-    ∙ ap (λ (o : Option Seen). by_limit at (seen_in o) c.failed.mod_rev (nat_lt (at.failures + 1) at.task.limit)) c.conflict.about
-    ∙ ap (by_limit at c.conflict.seen c.failed.mod_rev) left
+by_conflict at key seen now_modified c more left = grind (arith, nat_tests, by_outcome)
 
 -- so does the refusal of what the step asks of the store
 by_refusal : (at : Situation) (cause : StoreRefusal) → IsRefused at cause → reply_at at ≡ Ended at.id (event_refusal cause)
-by_refusal at cause (inl c) = by_outcome at (Err cause) c
-by_refusal at cause (inr (inr (same, overfull))) =
-    ap (by_list at) overfull.due ∙ ap (by_count at) (lt-ltb at.store.limit (length at.task.program.prefetch) overfull.many)
-    ∙ ap (λ (e : StoreRefusal). Ended at.id (event_refusal e)) (sym same)
-by_refusal at cause (inr (inl (same, behind))) =
-    ap (by_list at) behind.has_list ∙ ap (by_run at) behind.wants ∙ ap (by_base at behind.key) behind.compacted ∙ ap (λ (e : StoreRefusal). Ended at.id (event_refusal e)) (sym same)
+by_refusal at cause h3 = grind (arith, nat_tests, by_outcome, lt-ltb)
 
 one_reply : (at : Situation) (reply : Reply) → ReplyIsRight at reply → reply ≡ reply_at at
-one_reply at (Prefetched runner revision reads) right =
-    let p = right.1 in
-    let reported : Prefetched runner revision reads ≡ by_count at false = (λ i. Prefetched (right.0 i) (p.carries i) (p.shows i)) in
-    reported ∙ sym (ap (by_list at) p.due ∙ ap (by_count at) (le-ltb at.store.limit (length at.task.program.prefetch) p.few))
-one_reply at (Fetched runner key mod_rev of_rev revision) right =
-    let f = right.1 in
-    let reported : Fetched runner key mod_rev of_rev revision ≡ fetched_at at key of_rev =
-    (λ i. Fetched (right.0 i) key (f.modified i) of_rev (f.carries i)) in
-    reported ∙ ap (fetched_at at key) f.shows ∙ sym (ap (by_list at) f.has_list ∙ ap (by_run at) f.wants ∙ ap (by_base at key) f.readable)
-one_reply at (Committed runner revision attempts output trace answers) right =
-    let c = right.3 in
-    let reported : Committed runner revision attempts output trace answers ≡ by_compare at c.commits.run c.done None =
-    (λ i. Committed (right.0 i) (c.reached i) (right.1 i) (c.emits i) (c.sees i) (c.reported i)) in
-    reported ∙ sym (by_outcome at (Ok c.done) c.commits ∙ ap (by_compare at c.commits.run c.done) c.succeeds)
-one_reply at (Conflict runner key seen now_modified) right =
-    let c = right.2 in
-    let reported : Conflict runner key seen now_modified ≡ by_limit at c.conflict.seen c.failed.mod_rev true =
-    (λ i. Conflict (right.0 i) (c.about i) (c.was i) (c.is i)) in
-    reported ∙ sym (by_conflict at key seen now_modified c true (lt-ltb (at.failures + 1) at.task.limit right.1))
-one_reply at (GaveUp runner attempts key seen now_modified) right =
-    let c = right.3 in
-    let reached : at.task.limit ≤ at.failures + 1 = omega (arith, right.1, right.2) in
-    let reported : GaveUp runner attempts key seen now_modified ≡ by_limit at c.conflict.seen c.failed.mod_rev false =
-    (λ i. GaveUp (right.0 i) (right.1 i) (c.about i) (c.was i) (c.is i)) in
-    reported ∙ sym (by_conflict at key seen now_modified c false (le-ltb (at.failures + 1) at.task.limit reached))
-one_reply at (Aborted runner text) right =
-    ap (λ n. Aborted n text) right.0 ∙ sym (by_stop at right.1.run (AbortedEnd text) right.1.has_list right.1.is_run right.1.ended)
-one_reply at (Faulted runner fault) right =
-    ap (λ n. Faulted n fault) right.0 ∙ sym (by_stop at right.1.run (FaultedEnd fault) right.1.has_list right.1.is_run right.1.ended)
-one_reply at (Ended runner cause) right =
-    let ended = right.1 in
-    let reported : Ended runner cause ≡ Ended at.id (event_refusal ended.by_store) = (λ i. Ended (right.0 i) (ended.named i)) in
-    reported ∙ sym (by_refusal at ended.by_store ended.refused)
-one_reply at (Started runner) right = absurd right
-one_reply at _ right = absurd right
-
-step_by : (at : Situation) (a : Result Reply Denied) → StepIsRight at a → a ≡ Ok (reply_at at)
-step_by at (Ok reply) right = ap (λ (r : Reply). Ok r) (one_reply at reply right)
-step_by at (Err refusal) right = absurd right
+one_reply at reply right = grind (arith, nat_tests, le-ltb, by_outcome, by_conflict, lt-ltb, by_refusal)
 
 -- ---- the other events ----
 
-start_by : (count limit : ℕ) (a b : Result Reply Denied) → StartIsRight count limit a → StartIsRight count limit b → a ≡ b
-start_by count limit (Ok a) (Ok b) first second = ap (λ (r : Reply). Ok r) (first.0 ∙ sym second.0)
-start_by count limit (Ok a) (Err b) first second = absurd (first.1 second.1)
-start_by count limit (Err a) (Ok b) first second = absurd (second.1 first.1)
-start_by count limit (Err a) (Err b) first second = ap (λ (d : Denied). Err d) (first.0 ∙ sym second.0)
-
 runner_by : (start : Setup) (log : List Line) (id : ℕ) (o : Option Task) (a b : Result Reply Denied) → RunnerIsRight start log id o a →
     RunnerIsRight start log id o b → a ≡ b
-runner_by start log id None a b first second = first ∙ sym second
-runner_by start log id (Some task) a b first second =
-    step_by (situation start log id task) a first ∙ sym (step_by (situation start log id task) b second)
+runner_by start log id o a b first second = grind (arith, nat_tests, one_reply)
 
 one_asked : (start : Setup) (log : List Line) (asks : Asked) (a b : Result Reply Denied) → IsRightAsked start log asks a → IsRightAsked start log asks b → a ≡ b
-one_asked start log (Starts program level limit) a b first second = start_by (started log) limit a b first second
-one_asked start log (Steps id) a b first second = runner_by start log id (running id log) a b first second
-one_asked start log (Calls c) a b first second = first ∙ sym second
+one_asked start log asks a b first second = grind (arith, nat_tests, runner_by)
 
 pub one_right : (start : Setup) (log : List Line) (event : WorldEvent) (a b : Result Reply Denied) → IsRight start log event a → IsRight start log event b → a ≡ b
 one_right start log event a b first second = one_asked start log (asked event) a b first second
@@ -175,20 +114,14 @@ one_right start log event a b first second = one_asked start log (asked event) a
 -- a line of this event has this reply
 right_line : (start : Setup) (log : List Line) (event : WorldEvent) (reply : Result Reply Denied) (line : Line) → line.event ≡ event →
     IsRight start log event reply → IsRight start log line.event line.reply → reply ≡ line.reply
-right_line start log event reply line same first second =
-    one_right start log event reply line.reply first (subst (λ (e : WorldEvent). IsRight start log e line.reply) same second)
+right_line start log event reply line same first second = grind (arith, nat_tests, one_right)
 
 same_right : (start : Setup) (a b : List Line) → AreRight start a → AreRight start b →
     map (λ (line : Line). line.event) a ≡ map (λ (line : Line). line.event) b → a ≡ b
 same_right start [] [] first second events = refl
 same_right start [] (y ∷ b) first second events = absurd (cc)
 same_right start (x ∷ a) [] first second events = absurd (cc)
-same_right start (x ∷ a) (y ∷ b) first second events =
-    let event : x.event ≡ y.event = cc in
-    let rest : a ≡ b = same_right start a b first.1 second.1 (cc) in
-    let again : IsRight start a y.event y.reply = subst (λ (l : List Line). IsRight start l y.event y.reply) (sym rest) second.0 in
-    let reply : x.reply ≡ y.reply = right_line start a x.event x.reply y (sym event) first.0 again in
-    (λ i. record { event = event i; reply = reply i } ∷ rest i)
+same_right start (x ∷ a) (y ∷ b) first second events = grind (arith, nat_tests, right_line, same_right start a b first.1 second.1 (cc))
 
 replies_are : Headline → (start : Setup) (events : List WorldEvent) (replies : List (Result Reply Denied)) (log : List Line) → IsLogOf events replies log →
     AreRight start log → replies ≡ replies_to events (opened start)

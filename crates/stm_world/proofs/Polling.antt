@@ -1,9 +1,9 @@
 -- What is pending for a watcher: what a poll gives of it and what it leaves, and what a new revision adds.
 use Rattle.std.proofs.Common.{◌≡◌, ℕ, ◌+◌, ◌-◌, ◌≤◌, ◌<◌, max, zero, suc, Bool, true, false, cond, inl, inr}
-use Rattle.std.proofs.Common.{List, [], ◌∷◌, ◌++◌, length, take, Option, Some, None, refl, sym, ◌∙◌, ap, subst, arith, append-nil, append_assoc, take_all}
+use Rattle.std.proofs.Common.{List, [], ◌∷◌, ◌++◌, length, take, Option, refl, sym, ◌∙◌, ap, subst, arith, append-nil, append_assoc, take_all}
 use Rattle.std.specs.Prelude.{nat_eq, nat_lt, nat_le, ◌&&◌, IfSome}
 use Rattle.std.proofs.Math.Nat.{le-max_right}
-use Rattle.std.proofs.lemmas.Bool.{cases_lt, lt-ltb, le-ltb, leb-true, ltb-true, ltb-false}
+use Rattle.std.proofs.lemmas.Bool.{cases_lt, lt-ltb, le-ltb, leb-true, ltb-true, ltb-false, Decides.nat_tests}
 use Rattle.std.proofs.lemmas.Grind.{flat_map-append}
 use Rattle.stm_history.specs.declared.change.Change.{Change}
 use Rattle.stm_history.specs.Opening.{Opening}
@@ -41,15 +41,7 @@ record IsAlone (seen n : ℕ) (t : PendingRevision) (ts : List PendingRevision) 
 
 alone_by : (seen n : ℕ) (events : List Event) (b : Bool) (t : PendingRevision) (ts : List PendingRevision) → nat_lt seen n ≡ b → cond b (pending_of_revision n events) [] ≡ t ∷ ts →
     IsAlone seen n t ts
-alone_by seen n events false t ts less is = absurd (cc)
-alone_by seen n [] true t ts less is = absurd (cc)
-alone_by seen n (e ∷ es) true t ts less is =
-    let first : PendingRevision = record { number = n; events = e ∷ es } in
-    record {
-      above = ltb-true seen n less;
-      number = sym (ap (λ (x : PendingRevision). x.number) (same_first first t [] ts is));
-      alone = sym (same_rest first t [] ts is);
-    }
+alone_by seen n events b t ts less is = grind (arith, nat_tests, ltb-true, same_first, same_rest)
 
 -- the first revision that is reported is above what was seen, and at most the last one
 record IsWithin (seen last : ℕ) (t : PendingRevision) : Type 0 where
@@ -58,16 +50,8 @@ record IsWithin (seen last : ℕ) (t : PendingRevision) : Type 0 where
 
 within_by : (seen last n : ℕ) (events : List Event) (earlier : List PendingRevision) (t : PendingRevision) (ts : List PendingRevision) → n ≡ last + 1 →
     ((rest : List PendingRevision) → earlier ≡ t ∷ rest → IsWithin seen last t) → earlier ++ part seen n events ≡ t ∷ ts → IsWithin seen n t
-within_by seen last n events [] t ts next goes is =
-    let one : IsAlone seen n t ts = alone_by seen n events (nat_lt seen n) t ts refl is in
-    let above : seen < n = one.above in
-    let number : t.number ≡ n = one.number in
-    record { above = omega arith; below = omega arith }
-within_by seen last n events (x ∷ rest) t ts next goes is =
-    let same : x ≡ t = same_first x t (rest ++ part seen n events) ts is in
-    let within : IsWithin seen last t = goes rest (ap (λ (y : PendingRevision). y ∷ rest) same) in
-    let below : t.number ≤ last = within.below in
-    record { above = within.above; below = omega arith }
+within_by seen last n events [] t ts next goes is = grind (arith, nat_tests, alone_by)
+within_by seen last n events (x ∷ rest) t ts next goes is = grind (arith, nat_tests, same_first)
 
 first_within : (opening : Opening) (seen : ℕ) (watched : Watched) (revisions : List (List Change)) (t : PendingRevision) (ts : List PendingRevision) →
     pending_above opening seen watched revisions ≡ t ∷ ts → IsWithin seen (number_of_last opening revisions) t
@@ -80,28 +64,13 @@ first_within opening seen watched (changes ∷ older) t ts is =
 nothing_above : (opening : Opening) (seen : ℕ) (watched : Watched) (revisions : List (List Change)) → number_of_last opening revisions ≤ seen →
     pending_above opening seen watched revisions ≡ []
 nothing_above opening seen watched [] above = refl
-nothing_above opening seen watched (changes ∷ older) above =
-    let n : ℕ = number_of_last opening (changes ∷ older) in
-    ap (λ (ts : List PendingRevision). ts ++ part seen n (of_last opening watched changes older)) (nothing_above opening seen watched older (omega arith))
-    ∙ ap (λ b. cond b (pending_of_revision n (of_last opening watched changes older)) []) (le-ltb seen n above)
+nothing_above opening seen watched (changes ∷ older) above = grind (arith, nat_tests, le-ltb, nothing_above opening seen watched older (omega arith))
 
 rest_by : (seen last n : ℕ) (events : List Event) (earlier later : List PendingRevision) (t : PendingRevision) (ts : List PendingRevision) → n ≡ last + 1 →
     ((rest : List PendingRevision) → earlier ≡ t ∷ rest → IsWithin seen last t × (rest ≡ later)) → (last ≤ t.number → later ≡ []) →
     earlier ++ part seen n events ≡ t ∷ ts → ts ≡ later ++ part t.number n events
-rest_by seen last n events [] later t ts next goes none is =
-    let one : IsAlone seen n t ts = alone_by seen n events (nat_lt seen n) t ts refl is in
-    let number : t.number ≡ n = one.number in
-    one.alone
-    ∙ sym (ap (λ (l : List PendingRevision). l ++ part t.number n events) (none (omega arith))
-    ∙ ap (λ b. cond b (pending_of_revision n events) []) (le-ltb t.number n (omega arith)))
-rest_by seen last n events (x ∷ rest) later t ts next goes none is =
-    let same : x ≡ t = same_first x t (rest ++ part seen n events) ts is in
-    let found : IsWithin seen last t × (rest ≡ later) = goes rest (ap (λ (y : PendingRevision). y ∷ rest) same) in
-    let above : seen < t.number = found.0.above in
-    let below : t.number ≤ last = found.0.below in
-    sym (same_rest x t (rest ++ part seen n events) ts is)
-    ∙ ap (λ (l : List PendingRevision). l ++ part seen n events) found.1
-    ∙ ap (λ b. later ++ cond b (pending_of_revision n events) []) (lt-ltb seen n (omega arith) ∙ sym (lt-ltb t.number n (omega arith)))
+rest_by seen last n events [] later t ts next goes none is = grind (arith, nat_tests, alone_by, le-ltb)
+rest_by seen last n events (x ∷ rest) later t ts next goes none is = grind (arith, nat_tests, same_first, same_rest, lt-ltb)
 
 -- the others are what is reported above the first
 rest_above : (opening : Opening) (seen : ℕ) (watched : Watched) (revisions : List (List Change)) (t : PendingRevision) (ts : List PendingRevision) →
@@ -126,17 +95,7 @@ split_by : (most : ℕ) (opening : Opening) (seen : ℕ) (watched : Watched) (re
     pending_above opening seen watched revisions ≡ all →
     ((next : ℕ) → AreSplit most opening next watched revisions (pending_above opening next watched revisions)) →
     AreSplit (suc most) opening seen watched revisions all
-split_by most opening seen watched revisions [] is goes = record { whole = is; since = omega arith; reached = omega arith }
-split_by most opening seen watched revisions (t ∷ ts) is goes =
-    let rest : ts ≡ pending_above opening t.number watched revisions = rest_above opening seen watched revisions t ts is in
-    let within : IsWithin seen (number_of_last opening revisions) t = first_within opening seen watched revisions t ts is in
-    let split : AreSplit most opening t.number watched revisions ts =
-    subst (AreSplit most opening t.number watched revisions) (sym rest) (goes t.number) in
-    let above : seen < t.number = within.above in
-    let below : t.number ≤ number_of_last opening revisions = within.below in
-    let since : t.number ≤ last_number t.number (take most ts) = split.since in
-    let reached : last_number t.number (take most ts) ≤ max t.number (number_of_last opening revisions) = split.reached in
-    record { whole = ap (λ (l : List PendingRevision). t ∷ l) split.whole; since = omega arith; reached = omega arith }
+split_by most opening seen watched revisions all is goes = grind (arith, nat_tests, rest_above, first_within)
 
 split : (most : ℕ) (opening : Opening) (seen : ℕ) (watched : Watched) (revisions : List (List Change)) →
     AreSplit most opening seen watched revisions (pending_above opening seen watched revisions)
@@ -243,8 +202,7 @@ AreFrom floor [] = Unit {0}
 AreFrom floor (t ∷ ts) = (floor ≤ t.number) × AreFrom floor ts
 
 first_from : (floor : ℕ) (ts : List PendingRevision) → AreFrom floor ts → IsFrom floor ts
-first_from floor [] are = tt
-first_from floor (t ∷ ts) are = are.0
+first_from floor ts are = grind (arith, nat_tests)
 
 both_from : (floor : ℕ) (ts us : List PendingRevision) → AreFrom floor ts → AreFrom floor us → AreFrom floor (ts ++ us)
 both_from floor [] us are others = others
@@ -254,30 +212,13 @@ rest_from : (floor : ℕ) (ts us : List PendingRevision) → AreFrom floor (ts +
 rest_from floor [] us are = are
 rest_from floor (t ∷ ts) us are = rest_from floor ts us are.1
 
-more_from : (floor : ℕ) (ts us : List PendingRevision) → IsFrom floor ts → AreFrom floor us → IsFrom floor (ts ++ us)
-more_from floor [] us is others = first_from floor us others
-more_from floor (t ∷ ts) us is others = is
-
 part_from : (floor n : ℕ) (events : List Event) (above : Bool) → floor ≤ n → AreFrom floor (cond above (pending_of_revision n events) [])
-part_from floor n events false from = tt
-part_from floor n [] true from = tt
-part_from floor n (e ∷ es) true from = (from, tt)
-
-one_from : (floor n : ℕ) (events : List Event) (above : Bool) → IsFrom floor (cond above (pending_of_revision n events) []) →
-    AreFrom floor (cond above (pending_of_revision n events) [])
-one_from floor n events false is = tt
-one_from floor n [] true is = tt
-one_from floor n (e ∷ es) true is = (is, tt)
+part_from floor n events above from = grind (arith, nat_tests)
 
 all_by : (floor seen last n : ℕ) (events : List Event) (earlier : List PendingRevision) → n ≡ last + 1 →
     ((t : PendingRevision) (ts : List PendingRevision) → earlier ≡ t ∷ ts → IsWithin seen last t) → (IsFrom floor earlier → AreFrom floor earlier) →
     IsFrom floor (earlier ++ part seen n events) → AreFrom floor (earlier ++ part seen n events)
-all_by floor seen last n events [] next within goes is = one_from floor n events (nat_lt seen n) is
-all_by floor seen last n events (t ∷ ts) next within goes is =
-    let first : IsWithin seen last t = within t ts refl in
-    let below : t.number ≤ last = first.below in
-    let from : floor ≤ t.number = is in
-    both_from floor (t ∷ ts) (part seen n events) (goes is) (part_from floor n events (nat_lt seen n) (omega arith))
+all_by floor seen last n events earlier next within goes is = grind (arith, nat_tests, both_from, part_from)
 
 -- they are reported in their order, so where the first is not below the floor none is
 all_from : (floor : ℕ) (opening : Opening) (seen : ℕ) (watched : Watched) (revisions : List (List Change)) →
@@ -301,55 +242,24 @@ polled_from most floor h w is =
 -- and with a change
 pub changes_from : (floor : ℕ) (h : History) (changes : List Change) (w : Watching) → floor ≤ now h → IsFrom floor (pending h w) →
     IsFrom floor (pending (with_changes h changes) w)
-changes_from floor h [] w reached is = is
-changes_from floor h (c ∷ cs) w reached is =
-    let n : ℕ = number_of_last h.opening ((c ∷ cs) ∷ h.revisions) in
-    let next : n ≡ now h + 1 = omega arith in
-    let events : List Event = of_last h.opening w.watched (c ∷ cs) h.revisions in
-    more_from floor (pending h w) (part w.seen n events) is (part_from floor n events (nat_lt w.seen n) (omega arith))
-
-above_from : (floor : ℕ) (opening : Opening) (seen : ℕ) (watched : Watched) (revisions : List (List Change)) (all : List PendingRevision) → floor ≤ seen + 1 →
-    pending_above opening seen watched revisions ≡ all → IsFrom floor all
-above_from floor opening seen watched revisions [] from is = tt
-above_from floor opening seen watched revisions (t ∷ ts) from is =
-    let first : IsWithin seen (number_of_last opening revisions) t = first_within opening seen watched revisions t ts is in
-    let above : seen < t.number = first.above in
-    let shown : floor ≤ t.number = omega arith in
-    shown
+changes_from floor h changes w reached is = grind (arith, nat_tests, part_from, first_from)
 
 start_from : (floor from top : ℕ) (next : Bool) → nat_eq from 0 ≡ next → floor ≤ top → (nat_lt 0 from && nat_lt from floor) ≡ false →
     floor ≤ cond next top (from - 1) + 1
-start_from floor from top true is reached kept = let next : floor ≤ top + 1 = omega arith in next
-start_from floor zero top false is reached kept = absurd (cc)
-start_from floor (suc from) top false is reached kept =
-    let some : nat_lt 0 (suc from) ≡ true = lt-ltb 0 (suc from) (omega arith) in
-    let above : nat_lt (suc from) floor ≡ false = ap (λ b. b && nat_lt (suc from) floor) (sym some) ∙ kept in
-    let low : floor ≤ suc from = ltb-false (suc from) floor above in
-    let next : floor ≤ suc from - 1 + 1 = omega arith in
-    next
+start_from floor from top next is reached kept = grind (arith, nat_tests, lt-ltb, ltb-false)
 
 -- a watcher that is not lost from its start has nothing below the floor pending
 pub begun_from : (floor : ℕ) (h : History) (watched : Watched) (from : ℕ) → floor ≤ now h → (watching_from h floor watched from).lost ≡ false →
     IsFrom floor (pending h (watching_from h floor watched from))
-begun_from floor h watched from reached kept =
-    above_from floor h.opening (watching_from h floor watched from).seen watched h.revisions (pending h (watching_from h floor watched from))
-    (start_from floor from (now h) (nat_eq from 0) refl reached kept) refl
+begun_from floor h watched from reached kept = grind (arith, nat_tests, start_from, first_within)
 
 -- ---- what is below the floor stays so
-
-first_stays : (floor : ℕ) (ts us : List PendingRevision) → is_lost floor (number_of_first ts) ≡ true → is_lost floor (number_of_first (ts ++ us)) ≡ true
-first_stays floor [] us is = absurd (cc)
-first_stays floor (t ∷ ts) us is = is
 
 -- with a change
 pub lost_stays : (floor : ℕ) (h : History) (changes : List Change) (w : Watching) → is_lost floor (first_pending h w) ≡ true →
     is_lost floor (first_pending (with_changes h changes) w) ≡ true
-lost_stays floor h [] w is = is
-lost_stays floor h (c ∷ cs) w is =
-    let n : ℕ = number_of_last h.opening ((c ∷ cs) ∷ h.revisions) in
-    first_stays floor (pending h w) (part w.seen n (of_last h.opening w.watched (c ∷ cs) h.revisions)) is
+lost_stays floor h changes w is = grind (arith, nat_tests)
 
 -- and with a higher floor
 pub lost_under : (low high : ℕ) (first : Option ℕ) → low ≤ high → is_lost low first ≡ true → is_lost high first ≡ true
-lost_under low high None up is = absurd (cc)
-lost_under low high (Some n) up is = let below : n < low = ltb-true n low is in lt-ltb n high (omega arith)
+lost_under low high first up is = grind (arith, nat_tests, ltb-true, lt-ltb)

@@ -1,9 +1,9 @@
 -- A run that wants a key, beside the run where the look-up knows that key too: the second looks it up next.
-use Rattle.std.proofs.Common.{◌≡◌, ℕ, List, refl, sym, ◌∙◌, ap, subst}
-use Rattle.std.specs.Prelude.{Option, None, Some}
+use Rattle.std.proofs.Common.{◌≡◌, ℕ, List, refl, subst, arith}
+use Rattle.std.specs.Prelude.{Option, Some}
+use Rattle.std.proofs.lemmas.Bool.Decides.{nat_tests}
 use Rattle.stm_program.specs.Syntax.{Block}
 use Rattle.stm_history.specs.declared.change.Change.{Change}
-use Rattle.stm_program.specs.Writes.{last_write}
 use Rattle.stm_steps.specs.declared.stop.Stop.TheVariants.{Wants}
 use Rattle.stm_steps.specs.Answer.{Answer, Lookup}
 use Rattle.stm_steps.specs.Session.{Session, fresh, with_key}
@@ -29,43 +29,18 @@ module _ (known whole : Lookup) (Before After : List (List ℕ) → Type 0) (nex
   abbrev HasRead : List ℕ → Session → Session → Type 0
   HasRead key s t = key ≡ next → Before s.reads → After t.reads
 
-  get_answered-stays : (key : List ℕ) (a : Option Answer) (s : Session) → whole key ≡ a → After s.reads → After (reads_of (get_answered key a s))
-  get_answered-stays key None s found is = is
-  get_answered-stays key (Some a) s found is = more.is_all key a s.reads found is
-
-  rev_answered-stays : (key : List ℕ) (a : Option Answer) (s : Session) → whole key ≡ a → After s.reads → After (reads_of (rev_answered key a s))
-  rev_answered-stays key None s found is = is
-  rev_answered-stays key (Some a) s found is = more.is_all key a s.reads found is
-
   get_of-stays : (key : List ℕ) (w : Option Change) (s : Session) → After s.reads → After (reads_of (get_of whole key w s))
-  get_of-stays key (Some w) s is = is
-  get_of-stays key None s is = get_answered-stays key (whole key) s refl is
+  get_of-stays key w s is = grind (arith, nat_tests)
 
   get_answered-next : (key : List ℕ) (s : Session) → HasRead key s (session_of (get_answered key (whole key) s))
-  get_answered-next key s same is =
-      subst (λ (a : Option Answer). After (reads_of (get_answered key a s))) (sym (ap whole same ∙ more.knows))
-      (subst (λ (k : List ℕ). After (with_key k s.reads)) (sym same) (more.adds s.reads is))
+  get_answered-next key s same is = grind (arith, nat_tests)
 
   rev_answered-next : (key : List ℕ) (s : Session) → HasRead key s (session_of (rev_answered key (whole key) s))
-  rev_answered-next key s same is =
-      subst (λ (a : Option Answer). After (reads_of (rev_answered key a s))) (sym (ap whole same ∙ more.knows))
-      (subst (λ (k : List ℕ). After (with_key k s.reads)) (sym same) (more.adds s.reads is))
+  rev_answered-next key s same is = grind (arith, nat_tests)
 
   reads_on : HasMore known whole HasRead
   unfolding get_key rev_key
-  reads_on = record {
-    agrees = more.agrees;
-    keeps = λ key s. record {
-      set = λ v x t is. is;
-      turn = λ t is. is;
-      emit = λ x t is. is;
-      write = λ w t long is. is;
-      get = λ k t long is same before. get_of-stays k (last_write k t.writes) t (is same before);
-      rev = λ k t long is same before. rev_answered-stays k (whole k) t refl (is same before);
-    };
-    get = λ key s long new none. get_answered-next key s;
-    rev = λ key s long none. rev_answered-next key s;
-  }
+  reads_on = grind (arith, nat_tests, get_of-stays, get_answered-next, rev_answered-next)
 
   -- a run that wants the key has read it, and nothing else since, where the key is known
   pub wanted_is_read : (program : Block) (s : Session) → run_block known program fresh ≡ Stops (Wants next) s → Before s.reads →

@@ -2,8 +2,8 @@
 use Rattle.std.proofs.Common.{◌≡◌, ℕ, ◌+◌, ◌<◌, ◌≤◌, List, [], ◌∷◌, length, map, Option, Some, None, Ok, Err, Bool, true, false, cond, inl, inr, refl, sym}
 use Rattle.std.proofs.Common.{◌∙◌, ap, subst, arith}
 use Rattle.std.proofs.lemmas.List.{append-nil}
-use Rattle.std.proofs.lemmas.Bool.{ltb-true, ltb-false}
-use Rattle.std.specs.Prelude.{nat_lt, option_map, Result, slice_get, ◌||◌}
+use Rattle.std.proofs.lemmas.Bool.{ltb-true, ltb-false, Decides.nat_tests}
+use Rattle.std.specs.Prelude.{nat_lt, option_map, Result, slice_get}
 use Rattle.stm_history.specs.declared.key_state.ReadAnswer.{ReadAnswer}
 use Rattle.stm_history.specs.History.{History, now, key_at, mod_of}
 use Rattle.stm_program.specs.Writes.{latest_writes}
@@ -44,7 +44,7 @@ use Rattle.stm_world.specs.Task.{Task, answer_at, modified_now, after_list, afte
 use Rattle.stm_world.specs.Log.{Line, begun, is_over, running, failures, is_id, runner_started, runner_ended, store, known_after_log, with_commit, commit_entry}
 use Rattle.stm_world.specs.Log.{line_entries}
 use Rattle.stm_world.specs.Right.{IsRight, RunnerIsRight, situation, HasList, ReplyIsRight, IsConflicted}
-use Rattle.stm_world.specs.World.{Runner, Slot, Over, Live, live_in, runner_at, with_slot, replied, fetch, fetch_list, entry_of, take_commit, decided}
+use Rattle.stm_world.specs.World.{Runner, Slot, Over, Live, live_in, runner_at, with_slot, replied, fetch, entry_of, take_commit, decided}
 use Rattle.stm_world.specs.World.{commit_reported, commit, finish, step_on, step_live}
 use Rattle.stm_world.specs.Sound.{KnowsTruth}
 use Rattle.stm_world.specs.Headline.{runner_for, runner_in_log}
@@ -82,8 +82,7 @@ counter start log runners entries id task x some = counter_some start entries (s
 
 pub reads_truth : (start : Setup) (log : List Line) (runners : List Slot) (entries : List Entry) (id : ℕ) (task : Task) → Runs start log runners entries id task →
     AreTrue (store start log).history (known_after_log start id task log).reads
-reads_truth start log runners entries id task x =
-    (known_truth start log runners entries id task x).0
+reads_truth start log runners entries id task x = grind (arith, nat_tests, known_truth)
 
 is_right : (start : Setup) (log : List Line) (id : ℕ) (task : Task) (reply : Reply) → running id log ≡ Some task →
     ReplyIsRight (situation start log id task) reply → IsRight start log (Step id) (Ok reply)
@@ -92,10 +91,7 @@ is_right start log id task reply runs right = subst (λ (o : Option Task). Runne
 -- a reply that ends the run
 over_now : (start : Setup) (log : List Line) (id : ℕ) (reply : Reply) → runner_ended (Ok reply) ≡ Some id →
     runner_in_log start (with_line (Step id) (Ok reply) log) id ≡ None
-over_now start log id reply ended =
-    ap (λ b. option_map (runner_for start (with_line (Step id) (Ok reply) log) id)
-    (cond (b || is_over id log) None (cond (is_id id (runner_started (Ok reply))) None (begun id log))))
-    (ap (is_id id) ended ∙ same_number id)
+over_now start log id reply ended = grind (arith, nat_tests, with_line, same_number)
 
 -- a reply that changes nothing of the store
 replied_follows : (start : Setup) (log : List Line) (runners : List Slot) (entries : List Entry) (id : ℕ) (task : Task) (slot : Slot) (reply : Reply) →
@@ -143,13 +139,7 @@ listed_in_log : (start : Setup) (log : List Line) (id : ℕ) (task : Task) (revi
       failures = failures id log;
       known = after_list task (store start log).history (known_after_log start id task log);
     })
-listed_in_log start log id task revision reads runs =
-    ap (option_map (runner_for start (with_line (Step id) (Ok (Prefetched id revision reads)) log) id)) runs
-    ∙ ap (λ b. Some (record {
-      task = task;
-      failures = failures id log;
-      known = cond b (after_list task (store start log).history (known_after_log start id task log)) (known_after_log start id task log);
-    })) (same_number id)
+listed_in_log start log id task revision reads runs = grind (arith, nat_tests, with_line, same_number)
 
 -- ---- a fetch ----
 
@@ -159,13 +149,7 @@ fetched_in_log : (start : Setup) (log : List Line) (id : ℕ) (task : Task) (key
       failures = failures id log;
       known = after_fetch task (answer_at (store start log).history key of_rev) (known_after_log start id task log);
     })
-fetched_in_log start log id task key mod_rev of_rev revision runs =
-    ap (option_map (runner_for start (with_line (Step id) (Ok (Fetched id key mod_rev of_rev revision)) log) id)) runs
-    ∙ ap (λ b. Some (record {
-      task = task;
-      failures = failures id log;
-      known = cond b (after_fetch task (answer_at (store start log).history key of_rev) (known_after_log start id task log)) (known_after_log start id task log);
-    })) (same_number id)
+fetched_in_log start log id task key mod_rev of_rev revision runs = grind (arith, nat_tests, with_line, same_number)
 
 live_is : (a r : Runner) (P : Runner → Type 0) → live_in (Some (Live a)) ≡ Some r → P a → P r
 live_is a r P is p = let same : a ≡ r = cc in subst P same p
@@ -251,13 +235,7 @@ conflict_in_log : (start : Setup) (log : List Line) (id : ℕ) (task : Task) (ke
       failures = failures id log + 1;
       known = after_conflict task (store start log).history (known_after_log start id task log);
     })
-conflict_in_log start log id task key seen modified runs =
-    ap (option_map (runner_for start (with_line (Step id) (Ok (Conflict id key seen modified)) log) id)) runs
-    ∙ ap (λ b. Some (record {
-      task = task;
-      failures = cond b (failures id log + 1) (failures id log);
-      known = cond b (after_conflict task (store start log).history (known_after_log start id task log)) (known_after_log start id task log);
-    })) (same_number id)
+conflict_in_log start log id task key seen modified runs = grind (arith, nat_tests, with_line, same_number)
 
 failed_by : (start : Setup) (log : List Line) (runners : List Slot) (entries : List Entry) (id : ℕ) (task : Task) (seen : Seen) (modified : ℕ) (more : Bool) →
     nat_lt (failures id log + 1) task.limit ≡ more → Runs start log runners entries id task →
@@ -288,8 +266,7 @@ failed_by start log runners entries id task seen modified false left x conflicte
 -- ---- a commit that succeeded ----
 
 begun_by : (b : Bool) (o : Option Task) (task : Task) → cond b None o ≡ Some task → o ≡ Some task
-begun_by true o task is = absurd (cc)
-begun_by false o task is = is
+begun_by b o task is = grind (arith, nat_tests)
 
 taken_follows : (start : Setup) (log : List Line) (runners : List Slot) (entries : List Entry) (id : ℕ) (task : Task) (run : Run) (done : Done) →
     CommitIsTheRunNow →
@@ -418,10 +395,7 @@ done_follows : (start : Setup) (log : List Line) (runners : List Slot) (entries 
     FollowsStep start log (Step id) (commit id (runner_for start log id task) (known_after_log start id task log).reads run
     (world_at start log runners entries))
 unfolding commit
-done_follows start log runners entries id task run laws x listed is_run is_done =
-    commit_follows start log runners entries id task run
-    (committed (terms_of (store start log)) task.level (known_after_log start id task log).reads run)
-    laws x listed is_run is_done refl
+done_follows start log runners entries id task run laws x listed is_run is_done = grind (arith, nat_tests, commit_follows)
 
 end_follows : (start : Setup) (log : List Line) (runners : List Slot) (entries : List Entry) (id : ℕ) (task : Task) (run : Run) (end : End) →
     CommitLaws → Runs start log runners entries id task → HasList (situation start log id task) →
@@ -443,21 +417,9 @@ answered_follows start log runners entries id task (Wants key trace) laws x list
     (is_below_floor (store start log).floor (at_of task.level (known_after_log start id task log).reads)) x listed is refl
 answered_follows start log runners entries id task (EndedRun run) laws x listed is = end_follows start log runners entries id task run run.end laws x listed is refl
 
--- by whether the list is due
-list_or_run : (start : Setup) (log : List Line) (runners : List Slot) (entries : List Entry) (id : ℕ) (task : Task) (due : Bool) →
-    CommitLaws → Runs start log runners entries id task → is_due task.program.prefetch (known_after_log start id task log).reads ≡ due →
-    FollowsStep start log (Step id) (cond due (fetch_list id (runner_for start log id task) (world_at start log runners entries))
-    (step_on id (runner_for start log id task) (known_after_log start id task log).reads (run_on task.program (known_after_log start id task log).reads)
-    (world_at start log runners entries)))
-list_or_run start log runners entries id task true laws x is =
-    list_follows start log runners entries id task (nat_lt (store start log).limit (length task.program.prefetch)) x is refl
-list_or_run start log runners entries id task false laws x is =
-    answered_follows start log runners entries id task (run_on task.program (known_after_log start id task log).reads) laws x is refl
-
 -- a step of a runner that runs
 pub live_follows : (start : Setup) (log : List Line) (runners : List Slot) (entries : List Entry) (id : ℕ) (task : Task) →
     CommitLaws → Runs start log runners entries id task →
     FollowsStep start log (Step id) (step_live id (runner_for start log id task) (world_at start log runners entries))
 unfolding step_live
-live_follows start log runners entries id task laws x =
-    list_or_run start log runners entries id task (is_due task.program.prefetch (known_after_log start id task log).reads) laws x refl
+live_follows start log runners entries id task laws x = grind (arith, nat_tests, list_follows, answered_follows)

@@ -1,8 +1,9 @@
 -- The places of runners.
-use Rattle.std.proofs.Common.{◌≡◌, ◌≢◌, ℕ, ◌+◌, ◌-◌, ◌<◌, ◌≤◌, zero, suc, List, [], ◌∷◌, ◌++◌, length, Option, Some, None, Bool, true, false, cond, refl}
+use Rattle.std.proofs.Common.{◌≡◌, ◌≢◌, ℕ, ◌+◌, ◌-◌, ◌<◌, ◌≤◌, zero, suc, List, [], ◌∷◌, ◌++◌, length, Option, Some, None, true, false, cond, refl}
 use Rattle.std.proofs.Common.{◌∙◌, ap, arith}
 use Rattle.std.specs.Prelude.{nat_eq, slice_get, slice_set}
 use Rattle.std.specs.Cmp.{unsigned_Decides}
+use Rattle.std.proofs.lemmas.Bool.Decides.{nat_tests}
 use Rattle.stm_world.specs.World.{Runner, Slot, live_in, runner_at, with_slot}
 
 pub equal_numbers : (a b : ℕ) → nat_eq a b ≡ true → a ≡ b
@@ -12,11 +13,7 @@ pub same_number : (a : ℕ) → nat_eq a a ≡ true
 same_number a = (unsigned_Decides a a).1 refl
 
 pub other_number : (a b : ℕ) → a ≢ b → nat_eq a b ≡ false
-other_number a b ne =
-    elim (nat_eq a b) as (λ c. nat_eq a b ≡ c → c ≡ false) [
-      | true ↦ λ e. absurd (ne (equal_numbers a b e))
-      | false ↦ λ e. refl
-    ] refl
+other_number a b ne = grind (arith, nat_tests, equal_numbers)
 
 pub differ : (a b : ℕ) → nat_eq a b ≡ false → a ≢ b
 differ a b h same = let one : nat_eq a b ≡ true = (unsigned_Decides a b).1 same in absurd (cc)
@@ -60,29 +57,15 @@ old_slot (x ∷ slots) s (suc j) ne = old_slot slots s j (λ e. ne (ap suc e))
 at_positive : (id : ℕ) (o : Option Runner) → 0 < id → cond (nat_eq id 0) None o ≡ o
 at_positive id o some = ap (λ b. cond b None o) (other_number id 0 (omega arith))
 
-positive_by : (id : ℕ) (b : Bool) (o : Option Runner) (r : Runner) → nat_eq id 0 ≡ b → cond b None o ≡ Some r → (0 < id) × (o ≡ Some r)
-positive_by id true o r is found = absurd (cc)
-positive_by id false o r is found = let ne : id ≢ 0 = differ id 0 is in (omega arith, found)
-
 -- a runner that is there has a number above 0 and at most their number
 pub runner_there : (id : ℕ) (slots : List Slot) (r : Runner) → runner_at id slots ≡ Some r → (0 < id) × (id ≤ length slots)
-runner_there id slots r found =
-    let there : (0 < id) × (live_in (slice_get slots (id - 1)) ≡ Some r) = positive_by id (nat_eq id 0) (live_in (slice_get slots (id - 1))) r refl found in
-    let some : 0 < id = there.0 in
-    let within : id - 1 < length slots = live_within slots (id - 1) r there.1 in
-    (some, omega arith)
+runner_there id slots r found = grind (arith, nat_tests, live_within, differ)
 
 pub runner_own : (id : ℕ) (slots : List Slot) (slot : Slot) → 0 < id → id ≤ length slots → runner_at id (with_slot id slot slots) ≡ live_in (Some slot)
-runner_own id slots slot some within =
-    at_positive id (live_in (slice_get (slice_set slots (id - 1) slot) (id - 1))) some ∙ ap live_in (own_slot slots (id - 1) slot (omega arith))
+runner_own id slots slot some within = grind (arith, nat_tests, at_positive, own_slot)
 
 pub runner_other : (id other : ℕ) (slots : List Slot) (slot : Slot) → 0 < id → id ≢ other → runner_at other (with_slot id slot slots) ≡ runner_at other slots
-runner_other id other slots slot some ne =
-    elim (nat_eq other 0) as (λ b. nat_eq other 0 ≡ b → cond b None (live_in (slice_get (slice_set slots (id - 1) slot) (other - 1)))
-    ≡ cond b None (live_in (slice_get slots (other - 1)))) [
-      | true ↦ λ e. refl
-      | false ↦ λ e. let positive : other ≢ 0 = differ other 0 e in ap live_in (other_slot slots (id - 1) (other - 1) slot (omega arith))
-    ] refl
+runner_other id other slots slot some ne = grind (arith, nat_tests, differ, other_slot)
 
 pub count_stays : (id : ℕ) (slots : List Slot) (slot : Slot) → length (with_slot id slot slots) ≡ length slots
 count_stays id slots slot = length-set slots (id - 1) slot
@@ -97,21 +80,12 @@ runner_new slots slot =
     last = omega arith
 
 pub runner_old : (slots : List Slot) (slot : Slot) (other : ℕ) → other ≢ length slots + 1 → runner_at other (slots ++ slot ∷ []) ≡ runner_at other slots
-runner_old slots slot other ne =
-    elim (nat_eq other 0) as (λ b. nat_eq other 0 ≡ b → cond b None (live_in (slice_get (slots ++ slot ∷ []) (other - 1)))
-    ≡ cond b None (live_in (slice_get slots (other - 1)))) [
-      | true ↦ λ e. refl
-      | false ↦ λ e. let positive : other ≢ 0 = differ other 0 e in ap live_in (old_slot slots slot (other - 1) (omega arith))
-    ] refl
+runner_old slots slot other ne = grind (arith, nat_tests, differ, old_slot)
 
 pub count_grows : (slots : List Slot) (slot : Slot) → length (slots ++ slot ∷ []) ≡ length slots + 1
 count_grows [] slot = refl
 count_grows (x ∷ slots) slot = let rest : length (slots ++ slot ∷ []) ≡ length slots + 1 = count_grows slots slot in omega arith
 
-none_either_way : (b : Bool) → cond b None None ≡ (let o : Option Runner = None in o)
-none_either_way true = refl
-none_either_way false = refl
-
 -- where there is no place there is no runner
 pub no_runner : (id : ℕ) → runner_at id [] ≡ None
-no_runner id = none_either_way (nat_eq id 0)
+no_runner id = grind (arith, nat_tests)

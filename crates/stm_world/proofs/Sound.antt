@@ -1,10 +1,10 @@
 -- Worlds are sound.
-use Rattle.std.proofs.Common.{◌≡◌, ◌≤◌, ℕ, List, [], ◌∷◌, Option, Some, None, refl, subst, arith}
+use Rattle.std.proofs.Common.{◌≡◌, ◌≤◌, ℕ, List, [], ◌∷◌, Option, Some, subst, arith}
 use Rattle.std.proofs.Math.Nat.{min-le_right}
+use Rattle.std.proofs.lemmas.Bool.Decides.{nat_tests}
 use Rattle.stm_history.specs.History.{now}
 use Rattle.stm_outcome.specs.declared.advance.Expired.{Expired}
 use Rattle.stm_outcome.specs.declared.refusal.Refusal.{Refusal as StoreRefusal}
-use Rattle.stm_outcome.specs.Terms.{most_operations}
 use Rattle.stm_txn.specs.Standing.{Standing, Advance, at_moment, expire_up_to, Setup}
 use Rattle.stm_compile.proofs.AgreeLemmas.{commit_is_the_run_now}
 use Rattle.stm_attempt.specs.Fetches.{at_of}
@@ -20,13 +20,7 @@ use Rattle.stm_world.proofs.SoundSteps.{call_sound, event_sound}
 
 -- a world opens sound
 pub opened_is_sound : (start : Setup) → IsSound (opened start)
-opened_is_sound start = record {
-  replays = refl;
-  legal = tt;
-  truth = λ id r found. let none : runner_at id [] ≡ None = no_runner id in absurd (cc);
-  kept = record { reached = omega arith; watchers = tt };
-  limit = min-le_right start.limit most_operations;
-}
+opened_is_sound start = grind (arith, nat_tests, no_runner, min-le_right)
 
 -- a step keeps it so
 pub step_is_sound : (event : WorldEvent) (w : World) → IsSound w → IsSound (step event w).next

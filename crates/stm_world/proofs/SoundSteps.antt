@@ -1,9 +1,10 @@
 -- A world stays sound from step to step.
-use Rattle.std.proofs.Common.{◌≡◌, ℕ, ◌+◌, ◌<◌, ◌≤◌, List, [], ◌∷◌, ◌++◌, length, map, Option, Some, None, Bool, true, false, cond, refl, sym, ◌∙◌, ap, subst}
+use Rattle.std.proofs.Common.{◌≡◌, ℕ, ◌+◌, ◌<◌, ◌≤◌, List, [], ◌∷◌, ◌++◌, length, map, Option, Some, None, Bool, true, false, cond, refl, sym, ◌∙◌, subst}
 use Rattle.std.proofs.lemmas.List.{append-nil}
 use Rattle.std.specs.Prelude.{nat_eq, nat_lt, slice_get, Result, Ok, Err}
+use Rattle.std.proofs.lemmas.Bool.Decides.{nat_tests}
+use Rattle.std.proofs.Common.{arith}
 use Rattle.stm_history.specs.declared.key_state.ReadAnswer.{ReadAnswer}
-use Rattle.stm_history.specs.Opening.{Opening}
 use Rattle.stm_history.specs.History.{History, now, key_at, mod_of}
 use Rattle.stm_program.specs.Writes.{latest_writes}
 use Rattle.stm_steps.specs.declared.run.End.{End}
@@ -16,7 +17,7 @@ use Rattle.stm_outcome.specs.declared.refusal.Refusal.{Refusal as StoreRefusal}
 use Rattle.stm_outcome.specs.Outcome.{Done}
 use Rattle.stm_outcome.specs.Commits.{revision_read}
 use Rattle.stm_txn.specs.Standing.{Standing, with_history, terms_of}
-use Rattle.stm_outcome.specs.Terms.{most_operations, is_below_floor}
+use Rattle.stm_outcome.specs.Terms.{is_below_floor}
 use Rattle.stm_compile.specs.Committed.{committed}
 use Rattle.stm_compile.specs.Conflicts.{Seen, seen_by, seen_in}
 use Rattle.stm_compile.specs.Laws.{CommitIsTheRunNow}
@@ -24,9 +25,6 @@ use Rattle.stm_attempt.specs.Settled.{run_on}
 use Rattle.stm_attempt.specs.Entering.{is_due}
 use Rattle.stm_attempt.specs.Fetches.{at_of}
 use Rattle.stm_entries.specs.declared.entry.Entry.{Entry}
-use Rattle.stm_entries.specs.Replayed.{Replayed, opened_with, without_moment}
-use Rattle.stm_entries.specs.Replay.{replay}
-use Rattle.stm_entries.specs.Legal.{AreLegal}
 use Rattle.stm_entries.proofs.Replaying.{replay_goes_on, all_legal}
 use Rattle.stm_entries.proofs.Adding.{replay_only_adds}
 use Rattle.stm_events.specs.declared.event.WorldEvent.{WorldEvent}
@@ -37,8 +35,7 @@ use Rattle.stm_events.specs.Replies.{event_refusal}
 use Rattle.stm_events.specs.Called.{Asked, Starts, Steps, Calls, asked, called, entered}
 use Rattle.stm_world.specs.Task.{Task, answer_at, modified_now, after_list, after_fetch, after_conflict}
 use Rattle.stm_world.specs.World.{World, Runner, Slot, Over, Live, live_in, runner_at, with_slot, refused, replied, begin, start_runner, fetch, fetch_list, entry_of}
-use Rattle.stm_world.specs.World.{take_commit, decided, commit_reported, commit, finish, step_on, step_live, step_runner}
-use Rattle.stm_world.specs.World.{Stepped, step_asked, step}
+use Rattle.stm_world.specs.World.{take_commit, decided, commit_reported, commit, finish, step_on, step_live, step_runner, Stepped, step_asked, step}
 use Rattle.stm_world.specs.Sound.{KnowsTruth, IsSound}
 use Rattle.stm_world.proofs.Truth.{known_stays, prefetch_true, fetch_true, conflict_true}
 use Rattle.stm_world.proofs.Entered.{EntriesFollow, nothing_follows}
@@ -49,30 +46,11 @@ use Rattle.stm_world.proofs.Slots.{equal_numbers, differ, runner_there, runner_o
 abbrev pub world_with : Standing → List Slot → List Entry → World
 world_with s runners entries = record { standing = s; runners = runners; entries = entries }
 
--- what entries lead to opens with what they began with
-opening_stays : (start : Opening) (entries : List Entry) (s : Standing) → replay entries (opened_with start) ≡ without_moment s → start ≡ s.history.opening
-opening_stays start entries s replays =
-    sym (replay_only_adds entries (opened_with start)).opening ∙ ap (λ (r : Replayed). r.history.opening) replays
-
 -- ---- more entries ----
 
 pub sound_with : (w : World) (runners : List Slot) (after : Standing) (more : List Entry) → IsSound w → EntriesFollow w.standing after more →
     ((id : ℕ) (r : Runner) → runner_at id runners ≡ Some r → KnowsTruth after.history r.known) → IsSound (world_with after runners (w.entries ++ more))
-sound_with w runners after more sound e truth =
-    let start : Opening = w.standing.history.opening in
-    let entries : List Entry = w.entries ++ more in
-    let replays : replay entries (opened_with start) ≡ without_moment after =
-    replay_goes_on w.entries more (opened_with start) ∙ ap (replay more) sound.replays ∙ e.replays in
-    let legal : AreLegal entries (opened_with start) =
-    all_legal w.entries more (opened_with start) sound.legal (subst (AreLegal more) (sym sound.replays) e.legal) in
-    let same : start ≡ after.history.opening = opening_stays start entries after replays in
-    record {
-      replays = subst (λ (o : Opening). replay entries (opened_with o) ≡ without_moment after) same replays;
-      legal = subst (λ (o : Opening). AreLegal entries (opened_with o)) same legal;
-      truth = truth;
-      kept = e.kept sound.kept;
-      limit = subst (λ n. n ≤ most_operations) (sym e.limit) sound.limit;
-    }
+sound_with w runners after more sound e truth = grind (arith, nat_tests, replay_goes_on, all_legal, replay_only_adds)
 
 -- a call of the store
 pub call_sound : (w : World) (after : Standing) (more : List Entry) → IsSound w → EntriesFollow w.standing after more →
@@ -114,24 +92,8 @@ known_sound w id r next reply sound found truth =
 
 -- ---- a start ----
 
-new_truth : (h : History) (task : Task) (r : Runner) → live_in (Some (Live (begin task))) ≡ Some r → KnowsTruth h r.known
-new_truth h task r is = let same : begin task ≡ r = cc in subst (λ (x : Runner). KnowsTruth h x.known) same (tt, tt)
-
 begun_sound : (w : World) (task : Task) → IsSound w → IsSound (world_with w.standing (w.runners ++ Live (begin task) ∷ []) w.entries)
-begun_sound w task sound =
-    let slot : Slot = Live (begin task) in
-    let id : ℕ = length w.runners + 1 in
-    record {
-      replays = sound.replays;
-      legal = sound.legal;
-      kept = sound.kept;
-      limit = sound.limit;
-      truth = λ other x at. elim (nat_eq id other) as (λ b. nat_eq id other ≡ b → KnowsTruth w.standing.history x.known) [
-        | true ↦ λ is. new_truth w.standing.history task x
-            (sym (runner_new w.runners slot) ∙ subst (λ n. runner_at n (w.runners ++ slot ∷ []) ≡ Some x) (sym (equal_numbers id other is)) at)
-        | false ↦ λ is. sound.truth other x (sym (runner_old w.runners slot other (λ e. differ id other is (sym e))) ∙ at)
-      ] refl;
-    }
+begun_sound w task sound = grind (arith, nat_tests, runner_new, equal_numbers, runner_old, differ)
 
 start_by : (w : World) (task : Task) (none : Bool) → IsSound w →
     IsSound (cond none (refused BadLimit w) (record {

@@ -1,7 +1,6 @@
 -- Answers that are true, and stay so.
-use Rattle.std.proofs.Common.{◌≡◌, ◌⊎◌, inl, inr, ℕ, ◌≤◌, zero, suc, List, [], ◌∷◌, ◌++◌, length, map, filter, Option, Some, None, Bool, true, false, cond}
-use Rattle.std.proofs.Common.{refl, sym, ◌∙◌, subst, arith}
-use Rattle.std.specs.Prelude.{nat_eq, bytes_eq}
+use Rattle.std.proofs.Common.{◌≡◌, ℕ, ◌≤◌, zero, suc, List, [], ◌∷◌, ◌++◌, map, filter, Option, Some, None, Bool, true, cond, refl, sym, ◌∙◌, subst, arith}
+use Rattle.std.proofs.lemmas.Bool.Decides.{nat_tests}
 use Rattle.stm_history.specs.declared.change.Change.{Change}
 use Rattle.stm_history.specs.declared.key_state.ReadAnswer.{ReadAnswer}
 use Rattle.stm_history.specs.History.{History, now, IsTrueAnswer}
@@ -9,14 +8,13 @@ use Rattle.stm_program.specs.Syntax.{ProgramTree}
 use Rattle.stm_program.specs.declared.level.Level.{Level}
 use Rattle.stm_outcome.specs.Outcome.{with_changes}
 use Rattle.stm_outcome.specs.Commits.{revision_read}
-use Rattle.stm_program.specs.Levels.{is_serializable}
 use Rattle.stm_compile.specs.Answers.{AreTrue, answer_in, answer_now}
 use Rattle.stm_compile.specs.CommitTxn.{reread_keys}
 use Rattle.stm_compile.proofs.AgreeLemmas.{true_answers_stay, now_are_true}
 use Rattle.stm_attempt.specs.Known.{Known, serving, is_of_base}
 use Rattle.stm_attempt.specs.Settled.{run_on, wanted, answer_for, served, taken, settle}
 use Rattle.stm_attempt.specs.Entering.{answers_of_all, gone_on}
-use Rattle.stm_attempt.specs.Fetches.{base_of, at_of}
+use Rattle.stm_attempt.specs.Fetches.{at_of}
 use Rattle.stm_attempt.proofs.EnteringLemmas.{taken_first, where_it_comes}
 use Rattle.stm_world.specs.Task.{Task, answer_at, with_served, after_list, after_fetch, after_conflict}
 use Rattle.stm_world.specs.Sound.{KnowsTruth}
@@ -45,8 +43,7 @@ keeps_twice a b c first second = record {
 }
 
 opens_so : (h : History) (changes : List Change) → (with_changes h changes).opening ≡ h.opening
-opens_so h [] = refl
-opens_so h (c ∷ cs) = refl
+opens_so h changes = grind (arith, nat_tests)
 
 pub keeps_changes : (h : History) (changes : List Change) → Keeps h (with_changes h changes)
 keeps_changes h changes = record {
@@ -67,17 +64,14 @@ one_more_true h (x ∷ answers) a t new = (t.0, one_more_true h answers a t.1 ne
 
 chosen_true : (h : History) (b : Bool) (x a : ReadAnswer) (rest : Option ReadAnswer) → IsTrueAnswer h x → (rest ≡ Some a → IsTrueAnswer h a) →
     cond b (Some x) rest ≡ Some a → IsTrueAnswer h a
-chosen_true h true x a rest t later is = let same : x ≡ a = cc in subst (IsTrueAnswer h) same t
-chosen_true h false x a rest t later is = later is
+chosen_true h b x a rest t later is = grind (arith, nat_tests)
 
 found_true : (h : History) (key : List ℕ) (answers : List ReadAnswer) (a : ReadAnswer) → AreTrue h answers → answer_in key answers ≡ Some a → IsTrueAnswer h a
 found_true h key [] a t is = absurd (cc)
-found_true h key (x ∷ answers) a t is =
-    chosen_true h (bytes_eq x.key key) x a (answer_in key answers) t.0 (found_true h key answers a t.1) is
+found_true h key (x ∷ answers) a t is = grind (arith, nat_tests, chosen_true, found_true h key answers a t.1)
 
 kept_true : (h : History) (b : Bool) (a : ReadAnswer) (rest : List ReadAnswer) → IsTrueAnswer h a → AreTrue h rest → AreTrue h (cond b (a ∷ rest) rest)
-kept_true h true a rest t later = (t, later)
-kept_true h false a rest t later = later
+kept_true h b a rest t later = grind (arith, nat_tests)
 
 filter_true : (h : History) (p : ReadAnswer → Bool) (answers : List ReadAnswer) → AreTrue h answers → AreTrue h (filter p answers)
 filter_true h p [] t = tt
@@ -91,8 +85,7 @@ answer_for_true h (Some key) answers a t is = found_true h key answers a t is
 taken_true : (h : History) (again : List ReadAnswer → List ReadAnswer) (reads : List ReadAnswer) (o : Option ReadAnswer) →
     ((more : List ReadAnswer) → AreTrue h more → AreTrue h (again more)) → ((a : ReadAnswer) → o ≡ Some a → IsTrueAnswer h a) → AreTrue h reads →
     AreTrue h (taken again reads o)
-taken_true h again reads None goes new t = t
-taken_true h again reads (Some a) goes new t = goes (reads ++ a ∷ []) (one_more_true h reads a t (new a refl))
+taken_true h again reads o goes new t = grind (arith, nat_tests, one_more_true)
 
 settle_true : (h : History) (n : ℕ) (program : ProgramTree) (prefetched reads : List ReadAnswer) → AreTrue h prefetched → AreTrue h reads →
     AreTrue h (settle n program prefetched reads)
@@ -110,17 +103,8 @@ list_true h (key ∷ keys) prefetched answers t is =
     let parts = taken_first (answer_in key prefetched) (answers_of_all keys prefetched) answers is in
     subst (AreTrue h) (sym parts.4) (found_true h key prefetched parts.0 t parts.2, list_true h keys prefetched parts.1 t parts.3)
 
-start_true : (h : History) (program : ProgramTree) (known : Known) (start : List ReadAnswer) → KnowsTruth h known →
-    (known.reads ≡ start) ⊎ (answers_of_all program.prefetch known.prefetched ≡ Some start) → AreTrue h start
-start_true h program known start t (inl same) = subst (AreTrue h) same t.0
-start_true h program known start t (inr is) = list_true h program.prefetch known.prefetched start t.1 is
-
 gone_true : (h : History) (program : ProgramTree) (known : Known) → KnowsTruth h known → AreTrue h (gone_on program known)
-gone_true h program known t = elim (where_it_comes program known) [
-  | inl d ↦ subst (AreTrue h) (sym d.stays) t.0
-  | inr s ↦ subst (AreTrue h) (sym s.settles)
-      (settle_true h (length known.prefetched) program known.prefetched s.start t.1 (start_true h program known s.start t s.is_start))
-]
+gone_true h program known t = grind (arith, nat_tests, where_it_comes, settle_true, list_true)
 
 -- what an attempt knows is true, and so it is with its list and with what serves among its reads
 pub served_true : (h : History) (task : Task) (known : Known) → KnowsTruth h known → KnowsTruth h (with_served task known)
@@ -131,25 +115,16 @@ served_true h task known t = (gone_true h task.program known t, t.1)
 pub answer_true : (h : History) (key : List ℕ) (r : ℕ) → r ≤ now h → IsTrueAnswer h (answer_at h key r)
 answer_true h key r reached = record { reached = reached; shown = refl }
 
-base_reached : (h : History) (reads : List ReadAnswer) → AreTrue h reads → base_of reads ≤ now h
-base_reached h [] t = omega arith
-base_reached h (a ∷ reads) t = t.0.reached
-
 either_reached : (b : Bool) (base top : ℕ) → base ≤ top → cond b base 0 ≤ top
-either_reached true base top h = h
-either_reached false base top h = omega arith
+either_reached b base top h = grind (arith, nat_tests)
 
 -- the base is reached
 pub base_is_reached : (h : History) (level : Level) (reads : List ReadAnswer) → AreTrue h reads → at_of level reads ≤ now h
-base_is_reached h level reads t = either_reached (is_serializable level) (base_of reads) (now h) (base_reached h reads t)
-
-read_reached : (b : Bool) (rev top : ℕ) → rev ≤ top → cond b top rev ≤ top
-read_reached true rev top h = omega arith
-read_reached false rev top h = h
+base_is_reached h level reads t = grind (arith, nat_tests, either_reached)
 
 -- the revision of a fetch is reached
 pub fetch_reached : (h : History) (level : Level) (reads : List ReadAnswer) → AreTrue h reads → revision_read h (at_of level reads) ≤ now h
-fetch_reached h level reads t = read_reached (nat_eq (at_of level reads) 0) (at_of level reads) (now h) (base_is_reached h level reads t)
+fetch_reached h level reads t = grind (arith, nat_tests, base_is_reached)
 
 -- ---- what an attempt knows goes on true ----
 

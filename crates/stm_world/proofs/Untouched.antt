@@ -1,21 +1,21 @@
 -- A line that is not about a runner leaves what the log says of it.
-use Rattle.std.proofs.Common.{◌≡◌, ℕ, ◌+◌, List, [], ◌∷◌, Option, Some, None, Ok, Err, false, cond, refl, ◌∙◌, ap}
-use Rattle.std.specs.Prelude.{option_map, Result, ◌||◌}
+use Rattle.std.proofs.Common.{◌≡◌, ℕ, ◌+◌, List, [], ◌∷◌, Option, None, Ok, Err, false, cond, refl, ap, arith}
+use Rattle.std.specs.Prelude.{option_map, Result}
+use Rattle.std.proofs.lemmas.Bool.Decides.{nat_tests}
 use Rattle.stm_history.specs.History.{History}
 use Rattle.stm_txn.specs.Standing.{Standing, Setup}
 use Rattle.stm_attempt.specs.Known.{Known}
 use Rattle.stm_events.specs.declared.reply.Reply.{Reply}
-use Rattle.stm_events.specs.declared.reply.Reply.TheVariants.{Started, Prefetched, Fetched, Committed, Conflict, GaveUp, Aborted, Faulted, Ended}
 use Rattle.stm_events.specs.declared.refusal.Denied.{Denied}
 use Rattle.stm_events.specs.Replies.{runner_named, event_refusal}
 use Rattle.stm_events.specs.Called.{Call, called}
 use Rattle.stm_events.proofs.CallReplies.{call_replies}
-use Rattle.stm_world.specs.Task.{Task, nothing_known, answer_at, after_list, after_fetch, after_conflict}
-use Rattle.stm_world.specs.Log.{Line, begun, is_over, running, failures, is_id, task_in, store, known_after_log, known_after}
+use Rattle.stm_world.specs.Task.{Task, nothing_known}
+use Rattle.stm_world.specs.Log.{Line, begun, is_over, running, failures, is_id, store, known_after_log, known_after}
 use Rattle.stm_world.specs.Log.{runner_started, runner_ended, runner_in_conflict}
 use Rattle.stm_world.specs.Doomed.{failed_commit, stopped}
 use Rattle.stm_world.specs.World.{Runner}
-use Rattle.stm_world.specs.Headline.{runner_for, runner_in_log}
+use Rattle.stm_world.specs.Headline.{runner_in_log}
 
 pub record Untouched (id : ℕ) (reply : Result Reply Denied) : Type 0 where
   pub not_started : is_id id (runner_started reply) ≡ false
@@ -24,9 +24,7 @@ pub record Untouched (id : ℕ) (reply : Result Reply Denied) : Type 0 where
   pub known : (task : Task) (h : History) (k : Known) → known_after id task h reply k ≡ k
 
 pub same_running : (id : ℕ) (line : Line) (log : List Line) → Untouched id line.reply → running id (line ∷ log) ≡ running id log
-same_running id line log u =
-    ap (λ b. cond (b || is_over id log) None (cond (is_id id (runner_started line.reply)) (task_in line.event) (begun id log))) u.not_ended
-    ∙ ap (λ b. cond (is_over id log) None (cond b (task_in line.event) (begun id log))) u.not_started
+same_running id line log u = grind (arith, nat_tests)
 
 pub same_failures : (id : ℕ) (line : Line) (log : List Line) → Untouched id line.reply → failures id (line ∷ log) ≡ failures id log
 same_failures id line log u = ap (λ b. cond b (failures id log + 1) (failures id log)) u.no_conflict
@@ -35,19 +33,12 @@ pub same_reported : (start : Setup) (id : ℕ) (task : Task) (line : Line) (log 
     known_after_log start id task (line ∷ log) ≡ known_after_log start id task log
 same_reported start id task line log u = u.known task (store start log).history (known_after_log start id task log)
 
-same_runner_for : (start : Setup) (id : ℕ) (task : Task) (line : Line) (log : List Line) → Untouched id line.reply →
-    runner_for start (line ∷ log) id task ≡ runner_for start log id task
-same_runner_for start id task line log u = λ i. record { task = task; failures = same_failures id line log u i; known = same_reported start id task line log u i }
-
 map_alike : (f g : Task → Runner) (o : Option Task) → ((task : Task) → f task ≡ g task) → option_map f o ≡ option_map g o
-map_alike f g None alike = refl
-map_alike f g (Some task) alike = ap (λ (r : Runner). Some r) (alike task)
+map_alike f g o alike = grind (arith, nat_tests)
 
 pub same_in_log : (start : Setup) (id : ℕ) (line : Line) (log : List Line) → Untouched id line.reply →
     runner_in_log start (line ∷ log) id ≡ runner_in_log start log id
-same_in_log start id line log u =
-    ap (option_map (runner_for start (line ∷ log) id)) (same_running id line log u)
-    ∙ map_alike (runner_for start (line ∷ log) id) (runner_for start log id) (running id log) (λ task. same_runner_for start id task line log u)
+same_in_log start id line log u = grind (arith, nat_tests, same_running, map_alike, same_failures, same_reported)
 
 -- ---- numbers that were not given ----
 
@@ -62,12 +53,7 @@ pub none_reported : (start : Setup) (id : ℕ) → IsFresh start [] id
 none_reported start id = record { not_begun = refl; not_over = refl; no_failures = refl; nothing = λ task. refl }
 
 pub fresh_stays : (start : Setup) (id : ℕ) (line : Line) (log : List Line) → Untouched id line.reply → IsFresh start log id → IsFresh start (line ∷ log) id
-fresh_stays start id line log u fresh = record {
-  not_begun = ap (λ b. cond b (task_in line.event) (begun id log)) u.not_started ∙ fresh.not_begun;
-  not_over = ap (λ b. b || is_over id log) u.not_ended ∙ fresh.not_over;
-  no_failures = same_failures id line log u ∙ fresh.no_failures;
-  nothing = λ task. same_reported start id task line log u ∙ fresh.nothing task;
-}
+fresh_stays start id line log u fresh = grind (arith, nat_tests, same_failures, same_reported)
 
 -- ---- replies ----
 
@@ -76,32 +62,7 @@ by_refusal id refusal = record { not_started = refl; not_ended = refl; no_confli
 
 -- a reply that names one runner, or none, is not about another
 pub by_reply : (id : ℕ) (reply : Reply) → is_id id (runner_named reply) ≡ false → Untouched id (Ok reply)
-by_reply id (Started runner) other = record { not_started = other; not_ended = refl; no_conflict = refl; known = λ task h k. refl }
-by_reply id (Prefetched runner revision reads) other = record {
-  not_started = refl;
-  not_ended = refl;
-  no_conflict = refl;
-  known = λ task h k. ap (λ b. cond b (after_list task h k) k) other;
-}
-by_reply id (Fetched runner key mod_rev of_rev revision) other = record {
-  not_started = refl;
-  not_ended = refl;
-  no_conflict = refl;
-  known = λ task h k. ap (λ b. cond b (after_fetch task (answer_at h key of_rev) k) k) other;
-}
-by_reply id (Committed runner revision attempts output trace answers) other =
-    record { not_started = refl; not_ended = other; no_conflict = refl; known = λ task h k. refl }
-by_reply id (Conflict runner key seen now) other = record {
-  not_started = refl;
-  not_ended = refl;
-  no_conflict = other;
-  known = λ task h k. ap (λ b. cond b (after_conflict task h k) k) other;
-}
-by_reply id (GaveUp runner attempts key seen now) other = record { not_started = refl; not_ended = other; no_conflict = refl; known = λ task h k. refl }
-by_reply id (Aborted runner text) other = record { not_started = refl; not_ended = other; no_conflict = refl; known = λ task h k. refl }
-by_reply id (Faulted runner fault) other = record { not_started = refl; not_ended = other; no_conflict = refl; known = λ task h k. refl }
-by_reply id (Ended runner cause) other = record { not_started = refl; not_ended = other; no_conflict = refl; known = λ task h k. refl }
-by_reply id reply other = record { not_started = refl; not_ended = refl; no_conflict = refl; known = λ task h k. refl }
+by_reply id reply other = grind (arith, nat_tests)
 
 -- ---- the replies to calls of the store ----
 
@@ -116,16 +77,7 @@ pub nothing_by_refusal : (refusal : Denied) → SaysNothing (Err refusal)
 nothing_by_refusal refusal = record { not_started = refl; no_failure = refl; no_stop = refl; untouched = λ id. by_refusal id refusal }
 
 nothing_by_reply : (reply : Reply) → runner_named reply ≡ None → SaysNothing (Ok reply)
-nothing_by_reply (Started runner) none = absurd (cc)
-nothing_by_reply (Prefetched runner revision reads) none = absurd (cc)
-nothing_by_reply (Fetched runner key mod_rev of_rev revision) none = absurd (cc)
-nothing_by_reply (Committed runner revision attempts output trace answers) none = absurd (cc)
-nothing_by_reply (Conflict runner key seen now) none = absurd (cc)
-nothing_by_reply (GaveUp runner attempts key seen now) none = absurd (cc)
-nothing_by_reply (Aborted runner text) none = absurd (cc)
-nothing_by_reply (Faulted runner fault) none = absurd (cc)
-nothing_by_reply (Ended runner cause) none = absurd (cc)
-nothing_by_reply reply none = record { not_started = refl; no_failure = refl; no_stop = refl; untouched = λ id. by_reply id reply (ap (is_id id) none) }
+nothing_by_reply reply none = grind (arith, nat_tests, by_reply)
 
 pub call_says_nothing : (s : Standing) (c : Call) → SaysNothing (called s c).reply
 call_says_nothing =

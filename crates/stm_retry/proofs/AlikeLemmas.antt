@@ -1,5 +1,6 @@
 -- Runners that are alike.
-use Rattle.std.proofs.Common.{◌≡◌, ◌∙◌, ℕ, List, ap}
+use Rattle.std.proofs.Common.{◌≡◌, ℕ, List, arith}
+use Rattle.std.proofs.lemmas.Bool.Decides.{nat_tests}
 use Rattle.stm_history.specs.declared.key_state.ReadAnswer.{ReadAnswer}
 use Rattle.stm_program.specs.Syntax.{ProgramTree}
 use Rattle.stm_program.specs.declared.level.Level.{Level}
@@ -20,10 +21,4 @@ runner_of program level limit failures reads prefetched = record {
 
 pub runners_alike : (p1 p2 : ProgramTree) (l1 l2 : Level) (n1 n2 f1 f2 : ℕ) (r1 r2 q1 q2 : List ReadAnswer) → p1 ≡ p2 → l1 ≡ l2 → n1 ≡ n2 → f1 ≡ f2 →
     reads_seen l1 q1 r1 ≡ reads_seen l1 q1 r2 → q1 ≡ q2 → seen_runner (runner_of p1 l1 n1 f1 r1 q1) ≡ seen_runner (runner_of p2 l2 n2 f2 r2 q2)
-runners_alike p1 p2 l1 l2 n1 n2 f1 f2 r1 r2 q1 q2 p l n f r q =
-    ap (λ reads. let it : Runner = record { task = task_of p1 l1 n1; failures = f1; known = known_of reads q1 } in it) (seen_gone l1 p1 q1 r1 r2 r)
-    ∙ ap (λ x. seen_runner (runner_of x l1 n1 f1 r2 q1)) p
-    ∙ ap (λ x. seen_runner (runner_of p2 x n1 f1 r2 q1)) l
-    ∙ ap (λ x. seen_runner (runner_of p2 l2 x f1 r2 q1)) n
-    ∙ ap (λ x. seen_runner (runner_of p2 l2 n2 x r2 q1)) f
-    ∙ ap (λ x. seen_runner (runner_of p2 l2 n2 f2 r2 x)) q
+runners_alike p1 p2 l1 l2 n1 n2 f1 f2 r1 r2 q1 q2 p l n f r q = grind (arith, nat_tests, seen_gone)

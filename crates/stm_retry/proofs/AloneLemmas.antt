@@ -1,7 +1,8 @@
 -- A program that is run alone on the store of a world.
-use Rattle.std.proofs.Common.{◌≡◌, ◌∙◌, ◌≤◌, List, ℕ, Option, Some, Result, Ok, Err, sym, ap}
+use Rattle.std.proofs.Common.{◌≡◌, ◌∙◌, ◌≤◌, List, ℕ, Option, Some, Result, ap, arith}
 use Rattle.std.specs.Prelude.{IfOk}
 use Rattle.std.specs.declared.alloc.AllocError.{AllocError}
+use Rattle.std.proofs.lemmas.Bool.Decides.{nat_tests}
 use Rattle.stm_history.specs.declared.key_state.KeyState.{KeyState}
 use Rattle.stm_history.specs.History.{History, now}
 use Rattle.stm_program.specs.Syntax.{ProgramTree}
@@ -21,5 +22,4 @@ now_of_kept s g is reached =
 
 pub run_reported : (program : ProgramTree) (s : Standing) (g : History) (result : Result Run AllocError) → g ≡ (kept s).history → s.floor ≤ now s.history →
     IfOk result (λ run. run_over (state_now g) program.statements ≡ Ended run) → IfOk result (λ run. run_over (state_now s.history) program.statements ≡ Ended run)
-run_reported program s g (Ok run) is reached ended = ap (λ (look : Lookup). run_over look program.statements) (sym (now_of_kept s g is reached)) ∙ ended
-run_reported program s g (Err e) is reached ended = tt
+run_reported program s g result is reached ended = grind (arith, nat_tests, now_of_kept)

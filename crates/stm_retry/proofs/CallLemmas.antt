@@ -1,10 +1,8 @@
 -- What the events that are calls of the journal return and leave.
-use Rattle.std.proofs.Common.{◌≡◌, ◌≢◌, ◌<◌, ◌∙◌, ◌⊎◌, inl, inr, ℕ, List, [], ◌∷◌, ◌++◌, Option, None, Some, Result, Ok, Err, Bool, true, false, cond}
-use Rattle.std.proofs.Common.{refl, sym, ap, subst, arith}
-use Rattle.std.specs.Prelude.{IsOk, nat_lt}
-use Rattle.std.proofs.lemmas.Bool.{ltb-true}
+use Rattle.std.proofs.Common.{◌≡◌, ◌≢◌, ◌⊎◌, inl, inr, ℕ, List, [], Option, None, Some, Result, Ok, Err, subst, arith}
+use Rattle.std.specs.Prelude.{IsOk}
+use Rattle.std.proofs.lemmas.Bool.{ltb-true, Decides.nat_tests}
 use Rattle.std.proofs.lemmas.List.{append-nil}
-use Rattle.stm_history.specs.History.{now}
 use Rattle.stm_outcome.specs.declared.txn.Txn.{Txn as StoreTxn}
 use Rattle.stm_outcome.specs.declared.answer.TxnAnswer.{TxnAnswer}
 use Rattle.stm_outcome.specs.declared.advance.Expired.{Expired}
@@ -12,9 +10,8 @@ use Rattle.stm_outcome.specs.declared.refusal.Refusal.{Refusal as StoreRefusal}
 use Rattle.stm_outcome.specs.declared.refusal.Refusal.TheVariants.{OutOfMemory}
 use Rattle.stm_txn.specs.Standing.{Standing, Step as StoreStep, Advance as StoreAdvance, advanced}
 use Rattle.stm_entries.specs.declared.entry.Entry.{Entry}
-use Rattle.stm_entries.specs.declared.entry.Entry.TheVariants.{Foreign}
-use Rattle.stm_entries.specs.Entered.{if_taken, if_changed, expiries}
-use Rattle.stm_journal.specs.JournalState.{JournalState, JournalStep, with_store, gone_on}
+use Rattle.stm_entries.specs.Entered.{if_taken, if_changed}
+use Rattle.stm_journal.specs.JournalState.{JournalState, JournalStep, with_store}
 use Rattle.stm_journal.specs.Entering.{entered, one_entry, IsAdvanced, IsCutShort as JournalCutShort, HasStopped}
 use Rattle.stm_events.specs.declared.event.WorldEvent.{WorldEvent}
 use Rattle.stm_events.specs.declared.event.WorldEvent.TheVariants.{Advance}
@@ -34,8 +31,7 @@ use Rattle.stm_retry.specs.CallReturns.{CallReturns}
 pub refusal_reports : (event : WorldEvent) (d : Denied) (cause : StoreRefusal) (old new : World) →
     (cause ≡ OutOfMemory → OutOfMemoryReturns event d.expired old new) → (cause ≢ OutOfMemory → IsStep (step event old) (Err d) new) →
     RefusalReturns (event_refusal cause) event d old new
-refusal_reports event d OutOfMemory old new want other = want refl
-refusal_reports event d _ old new want other = other (λ e. absurd (cc))
+refusal_reports event d cause old new want other = grind (arith, nat_tests)
 
 -- ---- a call that is entered ----
 
@@ -57,74 +53,40 @@ MayRunOut event j = (runners : List Slot) → IsOk (step event (world_of j runne
 pub call_taken : {A : Type 0} (event : WorldEvent) (report : A → Reply) (before after : JournalState) (o : Result (JournalStep A) StoreRefusal) (answer : A)
     (reply : Result Reply Denied) → IsCall event report before o → o ≡ Ok record { answer = answer; next = after } → reply ≡ Ok (report answer) →
     CallReturns event reply before after
-call_taken event report before after o answer reply call taken replied runners =
-    let one : step event (world_of before runners) ≡ record { reply = Ok (report answer); next = world_of after runners } =
-    call runners ∙ ap (stepped_as report before runners) taken in
-    subst (λ (r : Result Reply Denied). Returns event r (world_of before runners) (world_of after runners)) (sym replied)
-    (record { reply_is = ap (λ (x : Stepped). x.reply) one; next_is = ap (λ (x : Stepped). x.next) one })
-
-taken_is_ok : {A : Type 0} (report : A → Reply) (j : JournalState) (runners : List Slot) (o : Result (JournalStep A) StoreRefusal) → IsOk o →
-    IsOk (stepped_as report j runners o).reply
-taken_is_ok report j runners (Ok done) ok = refl
-taken_is_ok report j runners (Err cause) ok = absurd (cc ok)
+call_taken event report before after o answer reply call taken replied runners = grind (arith, nat_tests)
 
 never_is : {A : Type 0} (o : Result A StoreRefusal) (cause : StoreRefusal) → NeverWants o → o ≡ Err cause → cause ≢ OutOfMemory
 never_is o cause never is = subst NeverWants is never
 
 refused_by : {A : Type 0} (event : WorldEvent) (report : A → Reply) (j : JournalState) (o : Result (JournalStep A) StoreRefusal) (cause : StoreRefusal) →
     IsCall event report j o → MayRunOut event j → NeverWants o → (o ≡ Err cause) ⊎ ((cause ≡ OutOfMemory) × IsOk o) → CallReturns event (denied (event_refusal cause)) j j
-refused_by event report j o cause call may never (inl refused) runners =
-    let one : step event (world_of j runners) ≡ record { reply = denied (event_refusal cause); next = world_of j runners } =
-    call runners ∙ ap (stepped_as report j runners) refused in
-    refusal_reports event (record { cause = event_refusal cause; expired = [] }) cause (world_of j runners) (world_of j runners)
-    (λ want. absurd (never_is o cause never refused want))
-    (λ not. record { reply_is = ap (λ (x : Stepped). x.reply) one; next_is = ap (λ (x : Stepped). x.next) one })
-refused_by event report j o cause call may never (inr (want, ok)) runners =
-    refusal_reports event (record { cause = event_refusal cause; expired = [] }) cause (world_of j runners) (world_of j runners)
-    (λ e. may runners (subst (λ (x : Stepped). IsOk x.reply) (sym (call runners)) (taken_is_ok report j runners o ok)))
-    (λ not. absurd (not want))
+refused_by event report j o cause call may never h9 runners = grind (arith, nat_tests, refusal_reports, never_is)
 
 -- one that was refused, by the store or since memory ran out
 pub call_refused : {A : Type 0} (event : WorldEvent) (report : A → Reply) (before after : JournalState) (o : Result (JournalStep A) StoreRefusal)
     (cause : StoreRefusal) (reply : Result Reply Denied) → IsCall event report before o → MayRunOut event before → NeverWants o →
     ((o ≡ Err cause) ⊎ ((cause ≡ OutOfMemory) × IsOk o)) × (after ≡ before) → reply ≡ denied (event_refusal cause) → CallReturns event reply before after
-call_refused event report before after o cause reply call may never (refused, same) replied runners =
-    subst (λ (r : Result Reply Denied). Returns event r (world_of before runners) (world_of after runners)) (sym replied)
-    (subst (λ (j : JournalState). Returns event (denied (event_refusal cause)) (world_of before runners) (world_of j runners)) (sym same)
-    (refused_by event report before o cause call may never refused runners))
+call_refused event report before after o cause reply call may never h11 replied runners = grind (arith, nat_tests, refused_by)
 
 -- ---- which calls these are ----
 
 pub entry_is_call : {A : Type 0} (report : A → Reply) (j : JournalState) (runners : List Slot) (entry : Entry) (o : Result (StoreStep A) StoreRefusal) →
     after_call (reply_to report o) (store_after_call j.standing o) (if_taken o entry) (world_of j runners) ≡ stepped_as report j runners (one_entry j entry o)
-entry_is_call report j runners entry (Ok done) = refl
-entry_is_call report j runners entry (Err cause) =
-    ap (λ (l : List Entry). record { reply = denied (event_refusal cause); next = record { standing = j.standing; runners = runners; entries = l } })
-    (append-nil j.entries)
+entry_is_call report j runners entry o = grind (arith, nat_tests, append-nil)
 
 pub entry_never : {A : Type 0} (j : JournalState) (entry : Entry) (o : Result (StoreStep A) StoreRefusal) → NeverWants o → NeverWants (one_entry j entry o)
-entry_never j entry (Ok done) never = tt
-entry_never j entry (Err cause) never = never
-
-no_lower : (n : ℕ) (b : Bool) → nat_lt n n ≡ b → b ≡ false
-no_lower n true is = let lower : n < n = ltb-true n n is in absurd (omega arith)
-no_lower n false is = refl
+entry_never j entry o never = grind (arith, nat_tests)
 
 none_changed : (s : Standing) (txn : StoreTxn) → if_changed s s txn ≡ []
-none_changed s txn =
-    ap (λ b. cond b (Foreign txn ∷ []) []) (no_lower (now s.history) (nat_lt (now s.history) (now s.history)) refl)
+none_changed s txn = grind (arith, nat_tests, ltb-true)
 
 pub txn_is_call : (j : JournalState) (txn : StoreTxn) (runners : List Slot) (o : Result (StoreStep TxnAnswer) StoreRefusal) →
     after_call (reply_to txn_reply o) (store_after_call j.standing o) (if_changed j.standing (store_after_call j.standing o) txn) (world_of j runners)
     ≡ stepped_as txn_reply j runners (entered j txn o)
-txn_is_call j txn runners (Ok done) = refl
-txn_is_call j txn runners (Err cause) =
-    ap (λ (l : List Entry). record { reply = denied (event_refusal cause); next = record { standing = j.standing; runners = runners; entries = l } })
-    (ap (λ (l : List Entry). j.entries ++ l) (none_changed j.standing txn) ∙ append-nil j.entries)
+txn_is_call j txn runners o = grind (arith, nat_tests, none_changed, append-nil)
 
 pub txn_never : (j : JournalState) (txn : StoreTxn) (o : Result (StoreStep TxnAnswer) StoreRefusal) → NeverWants o → NeverWants (entered j txn o)
-txn_never j txn (Ok done) never = tt
-txn_never j txn (Err cause) never = never
+txn_never j txn o never = grind (arith, nat_tests)
 
 -- ---- an advance ----
 
@@ -132,25 +94,17 @@ txn_never j txn (Err cause) never = never
 advance_is : (before after : JournalState) (moment : ℕ) (expired : List Expired) (cause : Option StoreRefusal) (runners : List Slot) →
     IsAdvanced before moment expired cause after →
     IsStep (step (Advance moment) (world_of before runners)) (advance_reply moment expired cause) (world_of after runners)
-advance_is before after moment expired cause runners x = record {
-  reply_is = ap (λ (a : StoreAdvance). advance_reply moment a.expired a.cause) x.advance;
-  next_is = ap (λ (a : StoreAdvance). world_of (gone_on before a.leaves (expiries a.expired)) runners) x.advance
-      ∙ ap (λ (j : JournalState). world_of j runners) (sym x.journal);
-}
+advance_is before after moment expired cause runners x = grind (arith, nat_tests)
 
 -- one that the store took
 pub advance_taken : (before after : JournalState) (moment : ℕ) (expired reported : List Expired) → reported ≡ expired →
     IsAdvanced before moment expired None after → CallReturns (Advance moment) (Ok (Advanced moment reported)) before after
-advance_taken before after moment expired reported same x runners =
-    subst (λ (l : List Expired). IsStep (step (Advance moment) (world_of before runners)) (Ok (Advanced moment l)) (world_of after runners)) (sym same)
-    (advance_is before after moment expired None runners x)
+advance_taken before after moment expired reported same x runners = grind (arith, nat_tests, advance_is)
 
 left_by : (before after : JournalState) (moment : ℕ) (expired : List Expired) (runners : List Slot) →
     ((expired ≡ []) × (after ≡ before)) ⊎ JournalCutShort before moment expired after →
     IsUnchanged expired (world_of before runners) (world_of after runners) ⊎ IsCutShort moment expired (world_of before runners) (world_of after runners)
-left_by before after moment expired runners (inl (none, same)) = inl (none, ap (λ (j : JournalState). world_of j runners) same)
-left_by before after moment expired runners (inr cut) =
-    inr record { come = cut.come; stopped = cut.stopped; rest = ap (λ (j : JournalState). world_of j runners) cut.journal }
+left_by before after moment expired runners h6 = grind (arith, nat_tests)
 
 cause_of_advance : (s : Standing) (moment : ℕ) (expired : List Expired) (next : Standing) (cause : StoreRefusal) →
     advanced s moment ≡ record { expired = expired; leaves = next; cause = Some cause } → cause ≢ OutOfMemory
@@ -180,5 +134,4 @@ QuietReturns event reply s next = (es : List Entry) (runners : List Slot) → Re
 
 pub quiet_returns : (event : WorldEvent) (reply : Result Reply Denied) (before after : JournalState) → after ≡ with_store before after.standing →
     QuietReturns event reply before.standing after.standing → CallReturns event reply before after
-quiet_returns event reply before after same reports runners =
-    subst (λ (j : JournalState). Returns event reply (world_of before runners) (world_of j runners)) (sym same) (reports before.entries runners)
+quiet_returns event reply before after same reports runners = grind (arith, nat_tests)

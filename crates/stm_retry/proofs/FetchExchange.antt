@@ -1,39 +1,27 @@
 -- The fetch of a key at the base of an attempt, before or after a step of another runner.
-use Rattle.std.proofs.Common.{◌≡◌, ◌≢◌, ◌∙◌, ◌<◌, ◌≤◌, ◌+◌, ◌-◌, ℕ, Bool, true, false, cond, List, [], ◌∷◌, ◌++◌, length, map, fold, min, Option, Some}
+use Rattle.std.proofs.Common.{◌≡◌, ◌≢◌, ◌∙◌, ◌<◌, ◌≤◌, ℕ, Bool, false, cond, List, [], ◌∷◌, ◌++◌, map, fold, min, Some}
 use Rattle.std.proofs.Common.{refl, sym, ap, subst, arith, length-append}
 use Rattle.std.proofs.lemmas.List.{map-set, set_comm}
-use Rattle.std.proofs.lemmas.Bool.{le-ltb}
-use Rattle.std.specs.Prelude.{nat_lt, ◌&&◌, slice_set}
+use Rattle.std.proofs.lemmas.Bool.{le-ltb, Decides.nat_tests}
+use Rattle.std.specs.Prelude.{◌&&◌}
 use Rattle.stm_history.specs.declared.change.Change.{Change}
-use Rattle.stm_history.specs.declared.key_state.KeyState.{KeyState}
 use Rattle.stm_history.specs.declared.key_state.ReadAnswer.{ReadAnswer}
 use Rattle.stm_history.specs.Opening.{Opening}
-use Rattle.stm_history.specs.History.{History, now, number_of_last, revisions_up_to, key_after, key_at, mod_of}
+use Rattle.stm_history.specs.History.{History, now, number_of_last, revisions_up_to, key_at, mod_of}
 use Rattle.stm_history.proofs.HistoryLaws.{last_is_above}
-use Rattle.stm_steps.specs.declared.run.End.{End}
-use Rattle.stm_steps.specs.declared.run.End.TheVariants.{Done as DoneEnd, Aborted as AbortedEnd, Faulted as FaultedEnd}
-use Rattle.stm_steps.specs.declared.run.Run.{Run}
 use Rattle.stm_steps.specs.declared.run.Answered.{Answered}
-use Rattle.stm_steps.specs.declared.run.Answered.TheVariants.{Ended as EndedRun, Wants}
-use Rattle.stm_outcome.specs.declared.refusal.Refusal.TheVariants.{Compacted as CompactedRefusal}
 use Rattle.stm_outcome.specs.Commits.{revision_read}
 use Rattle.stm_outcome.specs.Terms.{is_below_floor}
-use Rattle.stm_txn.specs.Standing.{Standing, with_watchers}
-use Rattle.stm_compile.specs.Answers.{AreTrue}
-use Rattle.stm_attempt.specs.declared.next.Next.TheVariants.{FetchAll, Fetch}
-use Rattle.stm_attempt.specs.Known.{known_of}
-use Rattle.stm_attempt.specs.Settled.{run_on}
-use Rattle.stm_attempt.specs.Entering.{is_due}
-use Rattle.stm_attempt.specs.Fetches.{at_of}
-use Rattle.stm_attempt.specs.Next.{next_at_end, next_after}
+use Rattle.stm_txn.specs.Standing.{Standing}
+use Rattle.stm_attempt.specs.declared.next.Next.TheVariants.{Fetch}
+use Rattle.stm_attempt.specs.Next.{next_after}
 use Rattle.stm_entries.specs.Replayed.{Replayed, without_moment}
 use Rattle.stm_entries.specs.Laws.{AddsTo}
 use Rattle.stm_entries.proofs.Adding.{replay_only_adds}
 use Rattle.stm_events.specs.declared.event.WorldEvent.TheVariants.{Step}
-use Rattle.stm_events.specs.declared.reply.Reply.TheVariants.{Fetched, Ended}
-use Rattle.stm_events.specs.Replies.{event_refusal}
+use Rattle.stm_events.specs.declared.reply.Reply.TheVariants.{Fetched}
 use Rattle.stm_world.specs.Task.{answer_at, after_fetch}
-use Rattle.stm_world.specs.World.{World, Runner, Slot, Over, Live, Stepped, runner_at, with_slot, replied, fetch, fetch_list, step_on, step_live, step_runner, step}
+use Rattle.stm_world.specs.World.{World, Runner, Slot, Live, Stepped, runner_at, with_slot, replied, fetch, step_on, step_live, step}
 use Rattle.stm_world.specs.Sound.{IsSound}
 use Rattle.stm_world.specs.Appended.{HasAppended}
 use Rattle.stm_world.proofs.Appending.{events_append}
@@ -48,20 +36,11 @@ use Rattle.stm_retry.proofs.StepDoes.{world, after_step, step_of, step_does}
 
 -- ---- the fetch
 
-no_fetch_at_end : (r : Runner) (run : Run) (end : End) (key : List ℕ) (base : ℕ) → next_at_end r.task.program r.task.level r.known.reads run end ≡ Fetch key base → ⊥
-no_fetch_at_end r run DoneEnd key base is = cc
-no_fetch_at_end r run (AbortedEnd text) key base is = cc
-no_fetch_at_end r run (FaultedEnd fault) key base is = cc
-
-none_below : (n : ℕ) → nat_lt n 0 ≡ false
-none_below n = le-ltb n 0 (omega arith)
-
 and_false : (a : Bool) → (a && false) ≡ false
-and_false true = refl
-and_false false = refl
+and_false a = grind (arith, nat_tests)
 
 not_compacted : (floor n : ℕ) → floor ≡ 0 → is_below_floor floor n ≡ false
-not_compacted floor n is = ap (λ f. nat_lt 0 n && nat_lt n f) is ∙ ap (λ b. nat_lt 0 n && b) (none_below n) ∙ and_false (nat_lt 0 n)
+not_compacted floor n is = grind (arith, nat_tests, and_false, le-ltb)
 
 not_refused : (b : Bool) (x y : Stepped) → b ≡ false → cond b x y ≡ y
 not_refused b x y is = ap (λ (c : Bool). cond c x y) is
@@ -71,61 +50,30 @@ own_revision h base some = ap (λ b. cond b (now h) base) (other_number base 0 (
 
 fetched_by : (id : ℕ) (r : Runner) (answered : Answered) (key : List ℕ) (base : ℕ) (w : World) → next_after r.task.program r.task.level r.known.reads answered ≡ Fetch key base →
     w.standing.floor ≡ 0 → 1 ≤ base → step_on id r r.known.reads answered w ≡ fetch id r key base w
-fetched_by id r (Wants wanted trace) key base w is floor some =
-    let at : at_of r.task.level r.known.reads ≡ base = cc in
-    let same : wanted ≡ key = cc in
-    not_refused (is_below_floor w.standing.floor (at_of r.task.level r.known.reads)) (replied (Ended id (event_refusal CompactedRefusal)) id Over w)
-    (fetch id r wanted (revision_read w.standing.history (at_of r.task.level r.known.reads)) w) (not_compacted w.standing.floor (at_of r.task.level r.known.reads) floor)
-    ∙ ap (λ n. fetch id r wanted (revision_read w.standing.history n) w) at
-    ∙ ap (λ n. fetch id r wanted n w) (own_revision w.standing.history base some)
-    ∙ ap (λ k. fetch id r k base w) same
-fetched_by id r (EndedRun run) key base w is floor some = absurd (no_fetch_at_end r run run.end key base is)
-
-fetched_due : (id : ℕ) (r : Runner) (due : Bool) (key : List ℕ) (base : ℕ) (w : World) →
-    cond due (FetchAll r.task.program.prefetch 0) (next_after r.task.program r.task.level r.known.reads (run_on r.task.program r.known.reads)) ≡ Fetch key base →
-    w.standing.floor ≡ 0 → 1 ≤ base →
-    cond due (fetch_list id r w) (step_on id r r.known.reads (run_on r.task.program r.known.reads) w) ≡ fetch id r key base w
-fetched_due id r true key base w is floor some = absurd (cc)
-fetched_due id r false key base w is floor some = fetched_by id r (run_on r.task.program r.known.reads) key base w is floor some
+fetched_by id r answered key base w is floor some = grind (arith, nat_tests, not_refused, not_compacted, own_revision)
 
 live_fetches : (id : ℕ) (r : Runner) (w : World) → (f : FetchesAtBase r) → w.standing.floor ≡ 0 → step_live id r w ≡ fetch id r f.key f.first.of_rev w
 unfolding step_live
-live_fetches id r w f floor = fetched_due id r (is_due r.task.program.prefetch r.known.reads) f.key f.first.of_rev w f.next floor f.some
+live_fetches id r w f floor = grind (arith, nat_tests, fetched_by)
 
 -- the place of the runner after it, in a store of this history
 abbrev pub after_it : (r : Runner) → FetchesAtBase r → History → Slot
 after_it r f h = Live (record r { known = after_fetch r.task (answer_at h f.key f.first.of_rev) r.known })
 
-as_replied : (id : ℕ) (r : Runner) (key : List ℕ) (base : ℕ) (w : World) → fetch id r key base w
-    ≡ replied (Fetched id key (mod_of (key_at w.standing.history key base)) base (now w.standing.history)) id
-    (Live (record r { known = after_fetch r.task (answer_at w.standing.history key base) r.known })) w
-unfolding fetch
-as_replied id r key base w = refl
-
 pub fetch_is : (id : ℕ) (w : World) → (x : NextIsAtBase id w) → step (Step id) w
     ≡ replied (Fetched id x.fetches.key (mod_of (key_at w.standing.history x.fetches.key x.fetches.first.of_rev)) x.fetches.first.of_rev (now w.standing.history)) id
     (after_it x.runner x.fetches w.standing.history) w
-fetch_is id w x =
-    ap (λ (o : Option Runner). step_runner id o w) x.there ∙ live_fetches id x.runner w x.fetches x.floor ∙ as_replied id x.runner x.fetches.key x.fetches.first.of_rev w
+unfolding fetch
+fetch_is id w x = grind (arith, nat_tests, live_fetches)
 
 -- ---- what it shows stays
 
 up_to_stays : (added older : List (List Change)) (opening : Opening) (r : ℕ) → r ≤ number_of_last opening older → revisions_up_to opening r (added ++ older) ≡ revisions_up_to opening r older
 up_to_stays [] older opening r within = refl
-up_to_stays (c ∷ added) older opening r within =
-    last_is_above opening r c (added ++ older) (omega (arith, length-append added older, within)) ∙ up_to_stays added older opening r within
-
-key_stays : (before after : History) (key : List ℕ) (r : ℕ) → AddsTo before after → r ≤ now before → key_at after key r ≡ key_at before key r
-key_stays before after key r adds within =
-    ap (λ (o : Opening). key_after o key (revisions_up_to o r after.revisions)) adds.opening
-    ∙ ap (λ (l : List (List Change)). key_after before.opening key (revisions_up_to before.opening r l)) adds.revisions
-    ∙ ap (λ (l : List (List Change)). key_after before.opening key l) (up_to_stays adds.added before.revisions before.opening r within)
+up_to_stays (c ∷ added) older opening r within = grind (arith, nat_tests, last_is_above, length-append, up_to_stays added older opening r within)
 
 counter_grows : (before after : History) → AddsTo before after → now before ≤ now after
-counter_grows before after adds =
-    let same : after.opening.number ≡ before.opening.number = ap (λ (o : Opening). o.number) adds.opening in
-    let count : length after.revisions ≡ length adds.added + length before.revisions = ap length adds.revisions ∙ length-append adds.added before.revisions in
-    omega (arith, same, count)
+counter_grows before after adds = grind (arith, nat_tests, length-append)
 
 step_adds : (id : ℕ) (w : World) → IsSound w → AddsTo w.standing.history (after_step id w).standing.history
 step_adds id w sound =
@@ -165,35 +113,16 @@ level_with first rest a b above_a above_b same =
 -- the place after it is seen alike in a store with more revisions
 seen_after : (r : Runner) (f : FetchesAtBase r) (before after : History) → AddsTo before after → f.first.of_rev ≤ now before →
     seen_slot (after_it r f before) ≡ seen_slot (after_it r f after)
-seen_after r f before after adds reached =
-    let a : ReadAnswer = answer_at before f.key f.first.of_rev in
-    let b : ReadAnswer = answer_at after f.key f.first.of_rev in
-    let carried : f.first.revision ≤ f.first.of_rev = f.carried in
-    let grows : now before ≤ now after = counter_grows before after adds in
-    let same : (n : ℕ) → carrying n a ≡ carrying n b =
-    (λ n. ap (λ (kv : Option KeyState). (let x : ReadAnswer = record { key = f.key; kv = kv; of_rev = f.first.of_rev; revision = n } in x))
-    (sym (key_stays before after f.key f.first.of_rev adds reached))) in
-    let level : levelled (r.known.reads ++ a ∷ []) ≡ levelled (r.known.reads ++ b ∷ []) =
-    subst (λ (reads : List ReadAnswer). levelled (reads ++ a ∷ []) ≡ levelled (reads ++ b ∷ [])) (sym f.reads)
-    (level_with f.first f.rest a b (omega (arith, carried, reached)) (omega (arith, carried, reached, grows)) same) in
-    ap (λ (reads : List ReadAnswer). Live (record { task = r.task; failures = r.failures; known = known_of reads r.known.prefetched }))
-    (seen_level r.task.level r.known.prefetched _ _ (both_gone_on r.task.program r.known.prefetched (r.known.reads ++ a ∷ []) (r.known.reads ++ b ∷ []) level))
+seen_after r f before after adds reached = grind (arith, nat_tests, counter_grows, level_with, seen_level, both_gone_on, up_to_stays)
 
 -- ---- before or after a step of another runner
 
-same_put : (id : ℕ) (one other : Slot) (slots : List Slot) → seen_slot one ≡ seen_slot other → map seen_slot (with_slot id one slots) ≡ map seen_slot (with_slot id other slots)
-same_put id one other slots same =
-    map-set seen_slot slots (id - 1) one ∙ ap (λ slot. slice_set (map seen_slot slots) (id - 1) slot) same ∙ sym (map-set seen_slot slots (id - 1) other)
-
 either_first : (i j : ℕ) (one other slot : Slot) (slots : List Slot) → i ≢ j → 0 < i → 0 < j → seen_slot one ≡ seen_slot other →
     map seen_slot (with_slot j slot (with_slot i one slots)) ≡ map seen_slot (with_slot i other (with_slot j slot slots))
-either_first i j one other slot slots ne some_i some_j same =
-    ap (map seen_slot) (set_comm slots (i - 1) (j - 1) one slot (omega arith)) ∙ same_put i one other (with_slot j slot slots) same
+either_first i j one other slot slots ne some_i some_j same = grind (arith, nat_tests, set_comm, map-set)
 
 alike_by : (v w : World) → v.standing ≡ w.standing → map seen_slot v.runners ≡ map seen_slot w.runners → AreAlike v w
-alike_by v w standing runners =
-    ap (λ (s : Standing). (let x : World = record { standing = with_watchers s []; runners = map seen_slot v.runners; entries = [] } in x)) standing
-    ∙ ap (λ (slots : List Slot). (let x : World = record { standing = with_watchers w.standing []; runners = slots; entries = [] } in x)) runners
+alike_by v w standing runners = grind (arith, nat_tests)
 
 -- after the fetch another runner is as it was
 pub others_stay : (i j : ℕ) (w : World) → i ≢ j → NextIsAtBase i w → runner_at j (after_step i w).runners ≡ runner_at j w.runners
@@ -203,8 +132,7 @@ others_stay i j w ne x =
 -- the same after the fetch
 step_after : (i j : ℕ) (w : World) (r : Runner) → i ≢ j → runner_at j w.runners ≡ Some r → (x : NextIsAtBase i w) →
     step (Step j) (after_step i w) ≡ step_live j r (world w.standing (with_slot i (after_it x.runner x.fetches w.standing.history) w.runners) w.entries)
-step_after i j w r ne there x =
-    step_of j (after_step i w) r (others_stay i j w ne x ∙ there) ∙ ap (λ (y : Stepped). step_live j r y.next) (fetch_is i w x)
+step_after i j w r ne there x = grind (arith, nat_tests, step_of, after_step, others_stay, fetch_is)
 
 pub same_reply : (i j : ℕ) (w : World) (r : Runner) → i ≢ j → runner_at j w.runners ≡ Some r → NextIsAtBase i w →
     (step (Step j) (after_step i w)).reply ≡ (step (Step j) w).reply
@@ -227,9 +155,7 @@ still_at_base i j w r ne there x =
     }
 
 reads_reached : (i : ℕ) (w : World) → (x : NextIsAtBase i w) → x.fetches.first.of_rev ≤ now w.standing.history
-reads_reached i w x =
-    let are : AreTrue w.standing.history (x.fetches.first ∷ x.fetches.rest) = subst (AreTrue w.standing.history) x.fetches.reads (x.sound.truth i x.runner x.there).0 in
-    are.0.reached
+reads_reached i w x = grind (arith, nat_tests)
 
 -- both orders lead to alike worlds
 pub fetch_exchanged : (i j : ℕ) (w : World) (r : Runner) → i ≢ j → runner_at j w.runners ≡ Some r → NextIsAtBase i w →

@@ -1,43 +1,39 @@
 -- What is kept of a world goes on as the whole world does.
-use Rattle.std.proofs.Common.{◌≡◌, ◌≢◌, ◌⊎◌, ◌∙◌, inl, inr, ℕ, ◌+◌, ◌-◌, ◌≤◌, Bool, true, false, cond, List, [], ◌∷◌, ◌++◌, length, map, Option, Some, None}
+use Rattle.std.proofs.Common.{◌≡◌, ◌⊎◌, ◌∙◌, inl, inr, ℕ, ◌+◌, ◌-◌, ◌≤◌, Bool, true, false, cond, List, [], ◌∷◌, ◌++◌, length, map, Option}
 use Rattle.std.proofs.Common.{Result, Ok, Err, refl, sym, ap, subst, arith, append-nil, OnOk, OnErr}
-use Rattle.std.specs.Prelude.{nat_eq, nat_lt, slice_get, IsOk, IfOk}
+use Rattle.std.specs.Prelude.{nat_lt, IsOk, IfOk}
 use Rattle.std.specs.declared.alloc.AllocError.{AllocError}
+use Rattle.std.proofs.lemmas.Bool.Decides.{nat_tests}
 use Rattle.stm_history.specs.declared.key_state.KeyState.{KeyState}
 use Rattle.stm_history.specs.declared.key_state.ReadAnswer.{ReadAnswer}
 use Rattle.stm_history.specs.Opening.{Opening, opening_at}
 use Rattle.stm_history.specs.History.{History, now, key_now, AreRevisions}
 use Rattle.stm_history.specs.Cut.{cut}
 use Rattle.stm_history.proofs.CutLaws.{cut_at_the_opening}
-use Rattle.stm_program.specs.Writes.{latest_writes}
 use Rattle.stm_steps.specs.declared.run.End.{End}
-use Rattle.stm_steps.specs.declared.run.End.TheVariants.{Done as DoneEnd, Aborted as AbortedEnd, Faulted as FaultedEnd}
 use Rattle.stm_steps.specs.declared.run.Run.{Run}
 use Rattle.stm_steps.specs.declared.run.Answered.{Answered}
-use Rattle.stm_steps.specs.declared.run.Answered.TheVariants.{Ended as EndedRun, Wants}
 use Rattle.stm_steps.specs.declared.state.StateEntry.{StateEntry}
 use Rattle.stm_watch.specs.declared.watched.Watched.TheVariants.{Key, Range}
 use Rattle.stm_watch.specs.declared.watchers.Batch.{Batch}
 use Rattle.stm_outcome.specs.declared.txn.Txn.{Txn as StoreTxn}
 use Rattle.stm_outcome.specs.declared.answer.TxnAnswer.{TxnAnswer}
-use Rattle.stm_outcome.specs.declared.answer.FailedCompare.{FailedCompare}
 use Rattle.stm_outcome.specs.declared.advance.Expired.{Expired}
 use Rattle.stm_outcome.specs.declared.refusal.Refusal.{Refusal as StoreRefusal}
 use Rattle.stm_outcome.specs.declared.refusal.Refusal.TheVariants.{OutOfMemory, TooManyOps}
 use Rattle.stm_outcome.specs.Outcome.{Done}
-use Rattle.stm_txn.specs.Standing.{Standing, Step as StoreStep, Advance as StoreAdvance, HasKept, with_history, kept, terms_of, transacted, granted}
+use Rattle.stm_txn.specs.Standing.{Standing, Step as StoreStep, Advance as StoreAdvance, HasKept, kept, terms_of, transacted, granted}
 use Rattle.stm_txn.specs.Standing.{kept_alive, revoked, advanced, watched, polled, cancelled, raised, IsStopped, IsCutShort as StoreCutShort, Setup}
 use Rattle.stm_compile.specs.CommitTxn.{reread_keys}
 use Rattle.stm_compile.specs.Committed.{committed}
-use Rattle.stm_compile.specs.Conflicts.{Seen, seen_by, seen_in}
+use Rattle.stm_compile.specs.Conflicts.{Seen}
 use Rattle.stm_attempt.specs.Known.{Known}
 use Rattle.stm_attempt.specs.Settled.{run_on}
-use Rattle.stm_attempt.specs.Entering.{is_due}
 use Rattle.stm_attempt.specs.Fetches.{at_of}
 use Rattle.stm_journal.specs.Fetched.{fetch_reported, fetch_all_reported}
 use Rattle.stm_journal.specs.StateOf.{IsStateOf, entry_now}
 use Rattle.stm_entries.specs.declared.entry.Entry.{Entry}
-use Rattle.stm_entries.specs.declared.entry.Entry.TheVariants.{Grant as GrantEntry, Renew, Revoke as RevokeEntry, Foreign}
+use Rattle.stm_entries.specs.declared.entry.Entry.TheVariants.{Grant as GrantEntry, Renew, Revoke as RevokeEntry}
 use Rattle.stm_entries.specs.Replayed.{Replayed, opened_with, without_moment}
 use Rattle.stm_entries.specs.Replay.{replay}
 use Rattle.stm_entries.specs.Laws.{AddsTo}
@@ -55,15 +51,14 @@ use Rattle.stm_compaction.proofs.Compacting.{compacted_kept}
 use Rattle.stm_events.specs.declared.event.WorldEvent.{WorldEvent}
 use Rattle.stm_events.specs.declared.event.WorldEvent.TheVariants.{Start, Step, Txn, Grant, Keep, Revoke, Advance, WatchKey, WatchRange, Poll, Cancel, Compact}
 use Rattle.stm_events.specs.declared.reply.Reply.{Reply}
-use Rattle.stm_events.specs.declared.reply.Reply.TheVariants.{Started, Committed, Conflict, GaveUp, Granted, Kept, Revoked, Watching, Cancelled, Compacted}
+use Rattle.stm_events.specs.declared.reply.Reply.TheVariants.{Committed, Conflict, GaveUp, Granted, Kept, Revoked, Watching, Cancelled, Compacted}
 use Rattle.stm_events.specs.declared.refusal.EventRefusal.{EventRefusal}
-use Rattle.stm_events.specs.declared.refusal.EventRefusal.TheVariants.{OutOfMemory as RanOut, BadLimit}
 use Rattle.stm_events.specs.declared.refusal.Denied.{Denied}
 use Rattle.stm_events.specs.Called.{Txn as TxnCall}
-use Rattle.stm_events.specs.Replies.{committed_read, txn_reply, event_refusal, denied, reply_to, store_after_call, advance_reply, poll_reply, store_after_poll}
+use Rattle.stm_events.specs.Replies.{committed_read, txn_reply, reply_to, store_after_call, advance_reply, poll_reply, store_after_poll}
 use Rattle.stm_world.specs.Task.{Task, with_served, after_conflict}
-use Rattle.stm_world.specs.World.{World, Stepped, Runner, Over, Live, runner_at, with_slot, begin, replied, refused, start_runner, entry_of}
-use Rattle.stm_world.specs.World.{decided, commit_reported, commit, finish, fetch_at, fetch_list, step_on, step_live, step_runner, after_call}
+use Rattle.stm_world.specs.World.{World, Stepped, Runner, Over, Live, runner_at, with_slot, replied, start_runner, entry_of}
+use Rattle.stm_world.specs.World.{commit_reported, commit, finish, fetch_at, fetch_list, step_on, step_live, step_runner, after_call}
 use Rattle.stm_world.specs.World.{after_quiet_call, step, opened as opened_world}
 use Rattle.stm_world.specs.Sound.{IsSound, after_expiries}
 use Rattle.stm_world.specs.Appended.{HasAppended}
@@ -98,10 +93,7 @@ kept_of opened m x = λ i. record { standing = x.stands i; runners = m.runners; 
 
 -- a sound world is the one of which it keeps something
 pub whole_of : (opened : Opening) (w : World) → IsSound w → w.standing.history.opening ≡ opened → whole_world opened (kept_world w) ≡ w
-whole_of opened w sound opens =
-    let replays : replay w.entries (opened_with opened) ≡ without_moment w.standing =
-    subst (λ (o : Opening). replay w.entries (opened_with o) ≡ without_moment w.standing) opens sound.replays in
-    ap (λ (r : Replayed). (let x : World = record { standing = with_history (kept w.standing) r.history; runners = w.runners; entries = w.entries } in x)) replays
+whole_of opened w sound opens = grind (arith, nat_tests)
 
 -- ---- the step over what is kept
 
@@ -112,27 +104,14 @@ kept_stepped x = record { reply = x.reply; next = kept_world x.next }
 counted : (s : Standing) → HasReached s → now (kept s).history ≡ now s.history
 counted s reached = (cut_is_alike s.floor s.history reached).counter
 
-start_by : (task : Task) (w : World) (none : Bool) →
-    cond none (refused BadLimit (kept_world w)) (record {
-      reply = Ok (Started (length w.runners + 1));
-      next = record { standing = kept w.standing; runners = w.runners ++ Live (begin task) ∷ []; entries = w.entries };
-    })
-    ≡ kept_stepped (cond none (refused BadLimit w) (record {
-      reply = Ok (Started (length w.runners + 1));
-      next = record { standing = w.standing; runners = w.runners ++ Live (begin task) ∷ []; entries = w.entries };
-    }))
-start_by task w true = refl
-start_by task w false = refl
-
 pub start_kept : (task : Task) (w : World) → start_runner task (kept_world w) ≡ kept_stepped (start_runner task w)
 unfolding start_runner
-start_kept task w = start_by task w (nat_eq task.limit 0)
+start_kept task w = grind (arith, nat_tests)
 
 -- a fetch
 fetched_by : (id : ℕ) (r : Runner) (key : List ℕ) (o : Result ReadAnswer StoreRefusal) (w : World) →
     fetched_step id r key o (kept_world w) ≡ kept_stepped (fetched_step id r key o w)
-fetched_by id r key (Ok a) w = refl
-fetched_by id r key (Err cause) w = refl
+fetched_by id r key o w = grind (arith, nat_tests)
 
 fetch_kept : (id : ℕ) (r : Runner) (key : List ℕ) (base : ℕ) (w : World) → HasReached w.standing →
     fetch_at id r key base (kept_world w) ≡ kept_stepped (fetch_at id r key base w)
@@ -157,8 +136,7 @@ listed_kept s keys reached =
 
 listed_by : (id : ℕ) (r : Runner) (revision : ℕ) (o : Result (List ReadAnswer) StoreRefusal) (w : World) →
     listed_step id r revision o (kept_world w) ≡ kept_stepped (listed_step id r revision o w)
-listed_by id r revision (Ok answers) w = refl
-listed_by id r revision (Err cause) w = refl
+listed_by id r revision o w = grind (arith, nat_tests)
 
 list_kept : (id : ℕ) (r : Runner) (w : World) → HasReached w.standing → fetch_list id r (kept_world w) ≡ kept_stepped (fetch_list id r w)
 list_kept id r w reached =
@@ -198,23 +176,9 @@ taken_at id r reads run w after revision = record {
   next = record { standing = after; runners = with_slot id Over w.runners; entries = w.entries ++ entry_of r.task reads run revision ∷ [] };
 }
 
-decided_kept : (id : ℕ) (r : Runner) (reads : List ReadAnswer) (run : Run) (done : Done) (o : Option FailedCompare) (w : World) →
-    HasReached w.standing → now w.standing.history ≤ now done.history →
-    decided id r reads run (record { answer = done.answer; history = cut (w.standing.floor - 1) done.history }) o (kept_world w)
-    ≡ kept_stepped (decided id r reads run done o w)
-decided_kept id r reads run done None w reached grown =
-    let s : Standing = w.standing in
-    let after : Standing = with_history s done.history in
-    let still : HasReached after = omega (arith, reached, grown) in
-    ap (taken_at id r reads run w (kept after)) (counted after still)
-decided_kept id r reads run done (Some failed) w reached grown =
-    fail_by id r (seen_in (slice_get (seen_by reads (latest_writes run.writes)) failed.index)) failed.mod_rev w
-    (nat_lt (r.failures + 1) r.task.limit) reached
-
 reported_kept : (id : ℕ) (r : Runner) (reads : List ReadAnswer) (run : Run) (o : Result Done StoreRefusal) (w : World) → HasReached w.standing →
     Grows w.standing.history o → commit_reported id r reads run (kept_done w.standing.floor o) (kept_world w) ≡ kept_stepped (commit_reported id r reads run o w)
-reported_kept id r reads run (Ok done) w reached grown = decided_kept id r reads run done done.answer.failed w reached grown
-reported_kept id r reads run (Err cause) w reached grown = refl
+reported_kept id r reads run o w reached grown = grind (arith, nat_tests, HasReached, counted, fail_by)
 
 commit_kept : (id : ℕ) (r : Runner) (reads : List ReadAnswer) (run : Run) (w : World) → HasReached w.standing →
     commit id r reads run (kept_world w) ≡ kept_stepped (commit id r reads run w)
@@ -226,14 +190,11 @@ commit_kept id r reads run w reached =
 
 finish_kept : (id : ℕ) (r : Runner) (reads : List ReadAnswer) (run : Run) (end : End) (w : World) → HasReached w.standing →
     finish id r reads run end (kept_world w) ≡ kept_stepped (finish id r reads run end w)
-finish_kept id r reads run DoneEnd w reached = commit_kept id r reads run w reached
-finish_kept id r reads run (AbortedEnd text) w reached = refl
-finish_kept id r reads run (FaultedEnd fault) w reached = refl
+finish_kept id r reads run end w reached = grind (arith, nat_tests, commit_kept)
 
 on_kept : (id : ℕ) (r : Runner) (reads : List ReadAnswer) (a : Answered) (w : World) → HasReached w.standing →
     step_on id r reads a (kept_world w) ≡ kept_stepped (step_on id r reads a w)
-on_kept id r reads (Wants key trace) w reached = fetch_kept id r key (at_of r.task.level reads) w reached
-on_kept id r reads (EndedRun run) w reached = finish_kept id r reads run run.end w reached
+on_kept id r reads a w reached = grind (arith, nat_tests, fetch_kept, finish_kept)
 
 live_by : (id : ℕ) (r : Runner) (w : World) → HasReached w.standing → (due : Bool) →
     cond due (fetch_list id r (kept_world w)) (step_on id r r.known.reads (run_on r.task.program r.known.reads) (kept_world w))
@@ -241,14 +202,9 @@ live_by : (id : ℕ) (r : Runner) (w : World) → HasReached w.standing → (due
 live_by id r w reached true = list_kept id r w reached
 live_by id r w reached false = on_kept id r r.known.reads (run_on r.task.program r.known.reads) w reached
 
-live_kept : (id : ℕ) (r : Runner) (w : World) → HasReached w.standing → step_live id r (kept_world w) ≡ kept_stepped (step_live id r w)
-unfolding step_live
-live_kept id r w reached =
-    live_by id r w reached (is_due r.task.program.prefetch r.known.reads)
-
 runner_kept : (id : ℕ) (o : Option Runner) (w : World) → HasReached w.standing → step_runner id o (kept_world w) ≡ kept_stepped (step_runner id o w)
-runner_kept id None w reached = refl
-runner_kept id (Some r) w reached = live_kept id r w reached
+unfolding step_live
+runner_kept id o w reached = grind (arith, nat_tests, live_by)
 
 -- calls
 txn_by : (txn : StoreTxn) (w : World) (o : Result (StoreStep TxnAnswer) StoreRefusal) → HasReached w.standing →
@@ -256,33 +212,22 @@ txn_by : (txn : StoreTxn) (w : World) (o : Result (StoreStep TxnAnswer) StoreRef
     after_call (reply_to txn_reply (kept_step o)) (store_after_call (kept w.standing) (kept_step o))
     (if_changed (kept w.standing) (store_after_call (kept w.standing) (kept_step o)) txn) (kept_world w)
     ≡ kept_stepped (after_call (reply_to txn_reply o) (store_after_call w.standing o) (if_changed w.standing (store_after_call w.standing o) txn) w)
-txn_by txn w (Ok done) reached still =
-    let s : Standing = w.standing in
-    let entered : ℕ → ℕ → Stepped = λ before after.
-    after_call (Ok (txn_reply done.answer)) (kept done.next) (cond (nat_lt before after) (Foreign txn ∷ []) []) (kept_world w) in
-    ap (λ n. entered n (now (kept done.next).history)) (counted s reached) ∙ ap (entered (now s.history)) (counted done.next still)
-txn_by txn w (Err cause) reached still =
-    let s : Standing = w.standing in
-    let entered : ℕ → Stepped = λ n. after_call (denied (event_refusal cause)) (kept s) (cond (nat_lt n n) (Foreign txn ∷ []) []) (kept_world w) in
-    ap entered (counted s reached)
+txn_by txn w o reached still = grind (arith, nat_tests, counted)
 
 call_kept : {A : Type 0} (report : A → Reply) (entry : Entry) (o : Result (StoreStep A) StoreRefusal) (w : World) →
     after_call (reply_to report (kept_step o)) (store_after_call (kept w.standing) (kept_step o)) (if_taken (kept_step o) entry) (kept_world w)
     ≡ kept_stepped (after_call (reply_to report o) (store_after_call w.standing o) (if_taken o entry) w)
-call_kept report entry (Ok done) w = refl
-call_kept report entry (Err cause) w = refl
+call_kept report entry o w = grind (arith, nat_tests)
 
 quiet_kept : {A : Type 0} (report : A → Reply) (o : Result (StoreStep A) StoreRefusal) (w : World) →
     after_quiet_call (reply_to report (kept_step o)) (store_after_call (kept w.standing) (kept_step o)) (kept_world w)
     ≡ kept_stepped (after_quiet_call (reply_to report o) (store_after_call w.standing o) w)
-quiet_kept report (Ok done) w = refl
-quiet_kept report (Err cause) w = refl
+quiet_kept report o w = grind (arith, nat_tests)
 
 poll_kept : (id : ℕ) (o : Result (StoreStep Batch) StoreRefusal) (w : World) →
     after_quiet_call (poll_reply id w.standing.floor (kept_step o)) (store_after_poll id (kept w.standing) (kept_step o)) (kept_world w)
     ≡ kept_stepped (after_quiet_call (poll_reply id w.standing.floor o) (store_after_poll id w.standing o) w)
-poll_kept id (Ok done) w = refl
-poll_kept id (Err cause) w = refl
+poll_kept id o w = grind (arith, nat_tests)
 
 -- what an event comes to where that much is kept
 abbrev step_over : WorldEvent → World → Stepped
@@ -353,20 +298,15 @@ pub record Lifted (event : WorldEvent) (reply : Result Reply Denied) (w next : W
 -- a reply by the step
 step_reports_by : (cause : EventRefusal) (event : WorldEvent) (d : Denied) (old new : World) → is_out_of_memory cause ≡ false →
     IsStep (step event old) (Err d) new → RefusalReturns cause event d old new
-step_reports_by RanOut event d old new not is = absurd (cc)
-step_reports_by other event d old new not is = is
+step_reports_by other event d old new not is = grind (arith, nat_tests)
 
 out_of_memory_reports_by : (cause : EventRefusal) (event : WorldEvent) (d : Denied) (old new : World) → is_out_of_memory cause ≡ true →
     OutOfMemoryReturns event d.expired old new → RefusalReturns cause event d old new
-out_of_memory_reports_by RanOut event d old new want is = is
-out_of_memory_reports_by other event d old new want is = absurd (cc)
+out_of_memory_reports_by other event d old new want is = grind (arith, nat_tests)
 
 stepped_lifts : (event : WorldEvent) (reply : Result Reply Denied) (w next : World) → step event (kept_world w) ≡ kept_stepped (step event w) →
     IsStep (step event (kept_world w)) reply next → IsStep (step event w) reply (step event w).next × (next ≡ kept_world (step event w).next)
-stepped_lifts event reply w next same is = (
-  record { reply_is = sym (ap (λ (x : Stepped). x.reply) same) ∙ is.reply_is; next_is = refl },
-  sym is.next_is ∙ ap (λ (x : Stepped). x.next) same,
-)
+stepped_lifts event reply w next same is = grind (arith, nat_tests)
 
 -- where memory runs out
 abbrev WantLifts : WorldEvent → List Expired → World → World → Type 0
@@ -378,9 +318,7 @@ taken_too event w same is = subst (λ (x : Stepped). IsOk x.reply) same is
 
 stopped_of : (s left : Standing) (moment : ℕ) (expired : List Expired) → StoreCutShort (advanced s moment) expired OutOfMemory left →
     IsStopped (advanced s moment) expired left
-stopped_of s left moment expired (inl is) =
-    let never : OutOfMemory ≢ OutOfMemory = subst (λ (a : StoreAdvance). NoOutOfMemory a.cause) is (advanced_never s moment) in absurd (never refl)
-stopped_of s left moment expired (inr (want, stopped)) = stopped
+stopped_of s left moment expired h5 = grind (arith, nat_tests, NoOutOfMemory, advanced_never)
 
 cut_lifts : (moment : ℕ) (expired : List Expired) (w next : World) → HasReached w.standing → w.standing.moment ≤ moment →
     IsCutShort moment expired (kept_world w) next → WantLifts (Advance moment) expired w next
@@ -424,21 +362,10 @@ reports_lift event (Ok reply) w next reached same reports =
 reports_lift event (Err d) w next reached same reports =
     refused_lifts event d w next reached same (refusal_cases d.cause event d (kept_world w) next reports)
 
--- a compaction wants no memory
-is_plain : (cause : StoreRefusal) → cause ≢ OutOfMemory → is_out_of_memory (event_refusal cause) ≡ false
-is_plain OutOfMemory not = absurd (not refl)
-is_plain other not = refl
-
 compact_reports : (revision : ℕ) (w : World) (o : Result (StoreStep (Unit {0})) StoreRefusal) (reply : Result Reply Denied) → NeverWants o →
     reply_to (λ _. Compacted revision) o ≡ reply → IsStep (step (Compact revision) w) reply (step (Compact revision) w).next →
     Returns (Compact revision) reply w (step (Compact revision) w).next
-compact_reports revision w (Ok done) reply never reported is =
-    subst (λ (r : Result Reply Denied). Returns (Compact revision) r w (step (Compact revision) w).next) reported
-    (subst (λ (r : Result Reply Denied). IsStep (step (Compact revision) w) r (step (Compact revision) w).next) (sym reported) is)
-compact_reports revision w (Err cause) reply never reported is =
-    subst (λ (r : Result Reply Denied). Returns (Compact revision) r w (step (Compact revision) w).next) reported
-    (step_reports_by (event_refusal cause) (Compact revision) (record { cause = event_refusal cause; expired = [] }) w (step (Compact revision) w).next (is_plain cause never)
-    (subst (λ (r : Result Reply Denied). IsStep (step (Compact revision) w) r (step (Compact revision) w).next) (sym reported) is))
+compact_reports revision w o reply never reported is = grind (arith, nat_tests, step_reports_by)
 
 compact_lifts : (revision : ℕ) (reply : Result Reply Denied) (w next : World) → HasKept w.standing →
     IsStep (compact_kept revision (kept_world w)) reply next → Lifted (Compact revision) reply w next
@@ -488,8 +415,7 @@ want_opens _ expired old new want = unchanged_opens expired old new want.0
 
 is_step_opens : (event : WorldEvent) (reply : Result Reply Denied) (old new : World) → IsSound old → IsStep (step event old) reply new →
     new.standing.history.opening ≡ old.standing.history.opening
-is_step_opens event reply old new sound is =
-    subst (λ (w : World). w.standing.history.opening ≡ old.standing.history.opening) is.next_is (stepped_opens event old sound)
+is_step_opens event reply old new sound is = grind (arith, nat_tests, stepped_opens)
 
 refused_opens : (event : WorldEvent) (d : Denied) (old new : World) → IsSound old →
     (((is_out_of_memory d.cause ≡ true) × OutOfMemoryReturns event d.expired old new) ⊎ ((is_out_of_memory d.cause ≡ false) × IsStep (step event old) (Err d) new)) →
@@ -512,11 +438,7 @@ pub record Leaves (event : WorldEvent) (reply : Result Reply Denied) (opened : O
 -- a world of which this is kept, and whose store opened there
 kept_again : (opened : Opening) (after new : World) → IsSound after → after.standing.history.opening ≡ opened → new ≡ kept_world after →
     (whole_world opened new ≡ after) × IsKeptBy new.standing (whole_world opened new)
-kept_again opened after new sound opens is =
-    let same : whole_world opened new ≡ after = ap (whole_world opened) is ∙ whole_of opened after sound opens in (
-      same,
-      subst (λ (w : World). IsKeptBy new.standing w) (sym same) (record { sound = sound; stands = ap (λ (w : World). w.standing) is }),
-    )
+kept_again opened after new sound opens is = grind (arith, nat_tests, whole_of)
 
 pub step_leaves : (event : WorldEvent) (reply : Result Reply Denied) (opened : Opening) (old new : World) → IsKeptBy old.standing (whole_world opened old) →
     KeptReturns event reply old new → Leaves event reply opened old new
@@ -541,32 +463,14 @@ bases_are_reached opened m x id r found =
     let same : now m.standing.history ≡ now w.standing.history = ap (λ (s : Standing). now s.history) x.stands ∙ counter in
     subst (λ n. at_of r.task.level r.known.reads ≤ n) (sym same) (base_is_reached w id r x.sound found)
 
--- a world that opens keeps all
-opened_is_kept : (start : Setup) → IsKeptBy (opened_world start).standing (opened_world start)
-opened_is_kept start = record {
-  sound = opened_is_sound start;
-  stands = ap (with_history (opened_world start).standing) (sym (cut_at_the_opening (opened_world start).standing.history (0 - 1) (omega arith)));
-}
-
 pub opened_leaves : (start : Setup) (m : World) → m ≡ opened_world start → IsKeptBy m.standing (whole_world (opening_at start.revision) m)
-opened_leaves start m is = subst (λ (w : World). IsKeptBy w.standing (whole_world (opening_at start.revision) w)) (sym is) (opened_is_kept start)
-
--- a world that opens with keys and leases keeps all, too
-restored_is_kept : (c : Checkpoint) → can_restore c ≡ true → IsKeptBy (restored_world c).standing (restored_world c)
-restored_is_kept c can = record {
-  sound = restored_is_sound c can;
-  stands = ap (with_history (restored_world c).standing) (sym (cut_at_the_opening (restored_world c).standing.history (0 - 1) (omega arith)));
-}
+opened_leaves start m is = grind (arith, nat_tests, opened_is_sound, cut_at_the_opening)
 
 pub restored_whole : (c : Checkpoint) → can_restore c ≡ true → whole_world (restored c).history.opening (restored_world c) ≡ restored_world c
-restored_whole c can =
-    ap (λ (r : Replayed). (let x : World = record { standing = with_history (restored c) r.history; runners = []; entries = (restored_world c).entries } in x))
-    (restored_is_sound c can).replays
+restored_whole c can = grind (arith, nat_tests, restored_is_sound)
 
 pub restored_leaves : (c : Checkpoint) (m : World) → can_restore c ≡ true → m ≡ restored_world c → IsKeptBy m.standing (whole_world (restored c).history.opening m)
-restored_leaves c m can is =
-    subst (λ (w : World). IsKeptBy w.standing (whole_world (restored c).history.opening w)) (sym is)
-    (subst (λ (w : World). IsKeptBy (restored_world c).standing w) (sym (restored_whole c can)) (restored_is_kept c can))
+restored_leaves c m can is = grind (arith, nat_tests, restored_whole, restored_is_sound, cut_at_the_opening)
 
 -- a start
 pub started_leaves : (task : Task) (result : Result ℕ AllocError) (opened : Opening) (old new : World) → IsKeptBy old.standing (whole_world opened old) →
@@ -610,7 +514,4 @@ state_of_whole opened m state x is key =
 pub state_reported : (opened : Opening) (m seen : World) {h : History} (result : Result (List StateEntry) AllocError) → IsKeptBy m.standing (whole_world opened m) →
     whole_world opened m ≡ seen → h ≡ m.standing.history → IfOk result (λ state. IsStateOf h state) →
     IfOk result (λ state. IsStateOf seen.standing.history state)
-state_reported opened m seen (Ok state) x is same reported =
-    subst (λ (w : World). IsStateOf w.standing.history state) is
-    (state_of_whole opened m state x (subst (λ (g : History). IsStateOf g state) same reported))
-state_reported opened m seen (Err e) x is same reported = tt
+state_reported opened m seen result x is same reported = grind (arith, nat_tests, state_of_whole)

@@ -1,19 +1,17 @@
 -- What a runner knows, and what its attempt relies on, from call to call.
-use Rattle.std.proofs.Common.{◌≡◌, ◌⊎◌, inl, inr, ℕ, ◌<◌, Bool, true, false, List, [], ◌∷◌, ◌++◌, length, map, cond, refl, sym, ◌∙◌, ap, subst}
-use Rattle.std.specs.Prelude.{Option, None, Some, IfSome, Contains, is_some, Result, Ok, Err, OnOk, OnErr}
+use Rattle.std.proofs.Common.{◌≡◌, ◌⊎◌, inl, inr, ℕ, ◌<◌, Bool, true, false, List, [], ◌∷◌, ◌++◌, length, map, cond, refl, sym, ap, subst, arith}
+use Rattle.std.specs.Prelude.{Option, None, Some, IfSome, Contains, Result, OnOk, OnErr}
 use Rattle.std.proofs.lemmas.List.Elements.{All-nil, All-cons, All-push, All-append, All-same, All-weaker, All-contains, All-from_recursion, recursion_from_All}
+use Rattle.std.proofs.lemmas.Bool.Decides.{nat_tests}
 use Rattle.stm_history.specs.declared.key_state.ReadAnswer.{ReadAnswer}
 use Rattle.stm_program.specs.Syntax.{ProgramTree}
 use Rattle.stm_program.specs.Limits.{Fits}
 use Rattle.stm_program.specs.declared.level.Level.{Level}
-use Rattle.stm_steps.specs.declared.run.Answered.{Answered}
-use Rattle.stm_steps.specs.declared.run.Answered.TheVariants.{Ended, Wants}
 use Rattle.stm_meaning.proofs.RunLaws.{wanted_keys_are_unknown}
 use Rattle.stm_outcome.specs.Commits.{AreNamed as KeysAreNamed}
-use Rattle.stm_compile.specs.Answers.{answer_in, look_up}
 use Rattle.stm_attempt.specs.Known.{Known, known_of, serving}
 use Rattle.stm_attempt.specs.Settled.{run_on, wanted, answer_for, settle, settled}
-use Rattle.stm_attempt.specs.Entering.{is_due, answers_of_all, after_list, gone_on}
+use Rattle.stm_attempt.specs.Entering.{is_due, answers_of_all, gone_on}
 use Rattle.stm_attempt.specs.AttemptState.{AttemptState, IsOf, begun, advanced, supplied, supplied_all, awaited, list_awaited, unserved}
 use Rattle.stm_attempt.specs.Laws.{AddsPrefetched}
 use Rattle.stm_attempt.proofs.SettleLemmas.{settle_stays, settling_adds_prefetched}
@@ -27,16 +25,9 @@ IsNamed a = 0 < length a.key
 
 -- ---- what a runner knows ----
 
--- where nothing was read or prefetched, no list is taken, and nothing serves
-begins_by : (program : ProgramTree) (keys : List (List ℕ)) →
-    cond (is_due keys []) (after_list program nothing_known (answers_of_all keys [])) (settled program nothing_known) ≡ []
-unfolding settle
-begins_by program [] = refl
-begins_by program (key ∷ keys) = refl
-
 begin_knows_nothing : (task : Task) → with_served task nothing_known ≡ nothing_known
-begin_knows_nothing task =
-    ap (λ (reads : List ReadAnswer). (let known : Known = record { reads = reads; prefetched = [] } in known)) (begins_by task.program task.program.prefetch)
+unfolding settle
+begin_knows_nothing task = grind (arith, nat_tests)
 
 pub begun_runner : (task : Task) (level : Level) → (view_of task 0 (begun level [])).runner ≡ begin task
 begun_runner task level = ap (λ (known : Known). record { task = task; failures = 0; known = known }) (begin_knows_nothing task)
@@ -44,29 +35,13 @@ begun_runner task level = ap (λ (known : Known). record { task = task; failures
 -- going on with the attempt is nothing new to the runner
 pub advanced_runner : (task : Task) (failures : ℕ) (attempt : AttemptState) →
     (view_of task failures (advanced task.program attempt)).runner ≡ (view_of task failures attempt).runner
-advanced_runner task failures attempt =
-    ap (λ (reads : List ReadAnswer). record {
-      task = task;
-      failures = failures;
-      known = record { reads = reads; prefetched = attempt.known.prefetched };
-    }) (gone_on_is_gone_on task.program attempt.known)
+advanced_runner task failures attempt = grind (arith, nat_tests, gone_on_is_gone_on)
 
 -- ---- the key that is awaited ----
 
-found_none : (found : Option ReadAnswer) (k key : List ℕ) → cond (is_some found) None (Some k) ≡ Some key → (found ≡ None) × (Some k ≡ Some key)
-found_none None k key is = (refl, is)
-found_none (Some a) k key is = absurd (cc)
-
 not_served : (answers : List ReadAnswer) (o : Option (List ℕ)) (key : List ℕ) → unserved answers o ≡ Some key →
     (answer_for o answers ≡ None) × (o ≡ Some key)
-not_served answers None key is = absurd (cc)
-not_served answers (Some k) key is = found_none (answer_in k answers) k key is
-
-wanted_by : (program : ProgramTree) (reads : List ReadAnswer) (key : List ℕ) (x : Answered) → run_on program reads ≡ x → wanted x ≡ Some key → 0 < length key
-wanted_by program reads key (Ended run) e is = absurd (cc)
-wanted_by program reads key (Wants k trace) e is =
-    let same : k ≡ key = cc in
-    subst (λ (l : List ℕ). 0 < length l) same (wanted_keys_are_unknown (look_up reads) program.statements k trace e).1
+not_served answers o key is = grind (arith, nat_tests)
 
 -- a key that is awaited is not empty, and what the attempt has read has gone on
 pub record Awaits (program : ProgramTree) (known : Known) (key : List ℕ) : Type 0 where
@@ -75,12 +50,7 @@ pub record Awaits (program : ProgramTree) (known : Known) (key : List ℕ) : Typ
 
 awaits_of : (program : ProgramTree) (known : Known) (key : List ℕ) → is_due program.prefetch known.reads ≡ false →
     unserved (serving known.reads known.prefetched) (wanted (run_on program known.reads)) ≡ Some key → Awaits program known key
-awaits_of program known key not is =
-    let left = not_served (serving known.reads known.prefetched) (wanted (run_on program known.reads)) key is in
-    record {
-      named = wanted_by program known.reads key (run_on program known.reads) refl left.1;
-      gone = gone_settled program known not ∙ settle_stays (length known.prefetched) program known.prefetched known.reads left.0;
-    }
+awaits_of program known key not is = grind (arith, nat_tests, not_served, gone_settled, settle_stays, wanted_keys_are_unknown)
 
 awaits_after : (program : ProgramTree) (known : Known) (key : List ℕ) (due : Bool) → is_due program.prefetch known.reads ≡ due →
     cond due None (unserved (serving known.reads known.prefetched) (wanted (run_on program known.reads))) ≡ Some key → Awaits program known key
@@ -110,16 +80,10 @@ supplied_runner task failures attempt a of is =
 
 -- ---- the list that is awaited ----
 
-listed_after : (program : ProgramTree) (keys : List (List ℕ)) (due : Bool) → cond due (Some program.prefetch) None ≡ Some keys → keys ≡ program.prefetch
-listed_after program keys true is = cc
-listed_after program keys false is = absurd (cc)
-
 listed_by : (program : ProgramTree) (kept : Option ProgramTree) (level : Level) (known : Known) (keys : List (List ℕ)) →
     IfSome kept (λ (k : ProgramTree). k ≡ program) → list_awaited (record { program = kept; level = level; known = known }) ≡ Some keys →
     keys ≡ program.prefetch
-listed_by program None level known keys of is = absurd (cc)
-listed_by program (Some k) level known keys of is =
-    listed_after k keys (is_due k.prefetch known.reads) is ∙ ap (λ (p : ProgramTree). p.prefetch) of
+listed_by program kept level known keys of is = grind (arith, nat_tests)
 
 -- it is the program's
 pub listed : (program : ProgramTree) (attempt : AttemptState) (keys : List (List ℕ)) → IsOf program attempt → list_awaited attempt ≡ Some keys →
@@ -145,8 +109,7 @@ listed_runner task failures attempt answers = refl
 -- what holds before and after a call that was made holds where it was refused, too
 pub kept_by : {A E : Type 0} (result : Result A E) (P : AttemptState → Type 0) (old next new : AttemptState) → OnOk result (new ≡ next) →
     OnErr result (new ≡ old) → P old → P next → P new
-kept_by (Ok x) P old next new ok err before after = subst P (sym ok) after
-kept_by (Err e) P old next new ok err before after = subst P (sym err) before
+kept_by result P old next new ok err before after = grind (arith, nat_tests)
 
 -- ---- what an attempt relies on ----
 
@@ -178,14 +141,7 @@ named_runner task failures attempt x = named_gone task.program attempt.known x.r
 
 pub advanced_is_runner : (task : Task) (failures : ℕ) (attempt : AttemptState) → IsRunner task failures attempt →
     IsRunner task failures (advanced task.program attempt)
-advanced_is_runner task failures attempt x =
-    record {
-      of_program = refl;
-      of_level = x.of_level;
-      has_more = x.has_more;
-      read = named_gone task.program attempt.known x.read x.prefetched;
-      prefetched = x.prefetched;
-    }
+advanced_is_runner task failures attempt x = grind (arith, nat_tests, named_gone)
 
 pub supplied_is_runner : (task : Task) (failures : ℕ) (attempt : AttemptState) (a : ReadAnswer) → IsRunner task failures attempt →
     awaited attempt ≡ Some a.key → IsRunner task failures (supplied a attempt)
@@ -200,12 +156,4 @@ supplied_is_runner task failures attempt a x is =
 
 pub listed_is_runner : (task : Task) (failures : ℕ) (attempt : AttemptState) (answers : List ReadAnswer) → IsRunner task failures attempt →
     Fits task.program → list_awaited attempt ≡ Some (map (λ (a : ReadAnswer). a.key) answers) → IsRunner task failures (supplied_all answers attempt)
-listed_is_runner task failures attempt answers x fits is =
-    record {
-      of_program = x.of_program;
-      of_level = x.of_level;
-      has_more = x.has_more;
-      read = named_of answers task.program.prefetch (listed task.program attempt (map (λ (a : ReadAnswer). a.key) answers) x.of_program is)
-          (list_named task.program fits);
-      prefetched = x.prefetched;
-    }
+listed_is_runner task failures attempt answers x fits is = grind (arith, nat_tests, named_of, listed, list_named)

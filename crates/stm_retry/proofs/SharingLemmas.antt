@@ -1,7 +1,8 @@
 -- A world with other runners over what is kept of it.
-use Rattle.std.proofs.Common.{◌≡◌, ◌∙◌, false, ℕ, List, Option, Some, None, Result, Ok, Err, sym, ap, subst}
+use Rattle.std.proofs.Common.{◌≡◌, ◌∙◌, false, ℕ, List, Option, Some, None, Result, Ok, Err, sym, ap, subst, arith}
 use Rattle.std.specs.Prelude.{IfOk, IfSome}
 use Rattle.std.specs.declared.alloc.AllocError.{AllocError}
+use Rattle.std.proofs.lemmas.Bool.Decides.{nat_tests}
 use Rattle.stm_events.specs.declared.event.WorldEvent.TheVariants.{Step}
 use Rattle.stm_events.specs.declared.reply.Reply.{Reply}
 use Rattle.stm_events.specs.declared.refusal.Denied.{Denied}
@@ -24,8 +25,7 @@ use Rattle.stm_retry.proofs.KeptWorlds.{step_leaves, bases_are_reached}
 -- the runners are no part of what is kept
 pub kept_with : (opened : Opening) (m w : World) (places : List Slot) → whole_world opened m ≡ w → IsKeptBy m.standing (whole_world opened m) →
     IsSound (with_places places w) → IsKeptBy m.standing (whole_world opened (with_places places m))
-kept_with opened m w places is x sound =
-    record { sound = subst (λ (v : World). IsSound (with_places places v)) (sym is) sound; stands = x.stands }
+kept_with opened m w places is x sound = grind (arith, nat_tests)
 
 pub bases_with : (opened : Opening) (m w : World) (places : List Slot) → whole_world opened m ≡ w → IsKeptBy m.standing (whole_world opened m) →
     IsSound (with_places places w) → BasesAreReached (with_places places m)
@@ -77,9 +77,7 @@ quiet_is_sound id w o reply old new is sound made =
 -- the world after it shares the store
 pub shares : (id : ℕ) (event : WorldEvent) (w next : World) (reply : Result Reply Denied) → event ≡ Step id → IsStep (step event w) reply next → is_commit reply ≡ false →
     next ≡ with_places next.runners w
-shares id event w next reply is made quiet =
-    let step_made : IsStep (step (Step id) w) reply next = subst (λ (e : WorldEvent). IsStep (step e w) reply next) is made in
-    sym step_made.next_is ∙ quiet_keeps id w (ap is_commit step_made.reply_is ∙ quiet) ∙ ap (λ (v : World). with_places v.runners w) step_made.next_is
+shares id event w next reply is made quiet = grind (arith, nat_tests, quiet_keeps)
 
 pub shared_is_sound : (id : ℕ) (event : WorldEvent) (w next : World) (reply : Result Reply Denied) → event ≡ Step id → IsSound w → IsStep (step event w) reply next →
     is_commit reply ≡ false → IsSound (with_places next.runners w)

@@ -1,6 +1,7 @@
 -- What a runner's step does, whatever the other runners are.
-use Rattle.std.proofs.Common.{◌≡◌, ◌∙◌, ◌+◌, ℕ, Bool, true, false, cond, List, length, map, Option, Some, None, Result, Ok, Err, refl, sym, ap}
+use Rattle.std.proofs.Common.{◌≡◌, ◌∙◌, ◌+◌, ℕ, Bool, true, false, cond, List, length, map, Option, Some, None, Result, Ok, Err, refl, sym, ap, arith}
 use Rattle.std.specs.Prelude.{nat_lt, slice_get}
+use Rattle.std.proofs.lemmas.Bool.Decides.{nat_tests}
 use Rattle.stm_history.specs.declared.key_state.ReadAnswer.{ReadAnswer}
 use Rattle.stm_history.specs.History.{now, key_at, mod_of}
 use Rattle.stm_program.specs.Writes.{latest_writes}
@@ -143,9 +144,7 @@ step_of id w r there = ap (λ (o : Option Runner). step_runner id o w) there
 -- ---- a step that does not commit
 
 same_but_places : (v w : World) → v.standing ≡ w.standing → v.entries ≡ w.entries → v ≡ with_places v.runners w
-same_but_places v w standing entries =
-    ap (λ (s : Standing). (let x : World = record { standing = s; runners = v.runners; entries = v.entries } in x)) standing
-    ∙ ap (λ (es : List Entry). (let x : World = record { standing = w.standing; runners = v.runners; entries = es } in x)) entries
+same_but_places v w standing entries = grind (arith, nat_tests)
 
 quiet_by : (id : ℕ) (w : World) (o : Option Runner) → is_commit (step_runner id o w).reply ≡ false → (step_runner id o w).next ≡ with_places (step_runner id o w).next.runners w
 quiet_by id w None quiet = refl

@@ -1,9 +1,10 @@
 -- The parts of a runner's step, as the code has them at hand.
 use Rattle.std.proofs.Common.{◌≡◌, ◌≢◌, ℕ, ◌+◌, ◌<◌, List, [], ◌∷◌, ◌++◌, length, map, Option, Some, None, Result, Ok, Err, Bool, true, false, cond, refl, sym}
-use Rattle.std.proofs.Common.{◌∙◌, ap, subst, ◌⊎◌, inl, inr}
-use Rattle.std.specs.Prelude.{nat_eq, nat_lt, slice_get, IsOk, is_ok, IfOk, IfSome, OnOk, OnErr}
+use Rattle.std.proofs.Common.{◌∙◌, ap, ◌⊎◌, inl, inr, arith}
+use Rattle.std.specs.Prelude.{slice_get, IsOk, is_ok, IfOk, IfSome, OnOk, OnErr}
 use Rattle.std.specs.declared.alloc.AllocError.{AllocError}
 use Rattle.std.proofs.lemmas.List.Elements.{All-nil, All-cons, All-head, All-tail}
+use Rattle.std.proofs.lemmas.Bool.Decides.{nat_tests}
 use Rattle.stm_history.specs.declared.key_state.ReadAnswer.{ReadAnswer}
 use Rattle.stm_history.specs.History.{History, now, mod_of}
 use Rattle.stm_program.specs.Syntax.{ProgramTree}
@@ -13,19 +14,16 @@ use Rattle.stm_program.specs.Writes.{latest_writes}
 use Rattle.stm_steps.specs.declared.value.Value.{Value}
 use Rattle.stm_steps.specs.declared.trace_item.TraceItem.{TraceItem}
 use Rattle.stm_steps.specs.declared.run.End.{End}
-use Rattle.stm_steps.specs.declared.run.End.TheVariants.{Done as DoneEnd, Aborted as AbortedEnd, Faulted as FaultedEnd}
+use Rattle.stm_steps.specs.declared.run.End.TheVariants.{Done as DoneEnd}
 use Rattle.stm_steps.specs.declared.run.Run.{Run}
 use Rattle.stm_steps.specs.declared.run.Answered.{Answered}
 use Rattle.stm_steps.specs.declared.run.Answered.TheVariants.{Ended as EndedRun, Wants}
 use Rattle.stm_meaning.proofs.RunLaws.{wanted_keys_are_unknown}
 use Rattle.stm_outcome.specs.declared.answer.FailedCompare.{FailedCompare}
 use Rattle.stm_outcome.specs.declared.refusal.Refusal.{Refusal as StoreRefusal}
-use Rattle.stm_outcome.specs.declared.refusal.Refusal.TheVariants.{OutOfMemory, TooManyOps, Compacted}
+use Rattle.stm_outcome.specs.declared.refusal.Refusal.TheVariants.{OutOfMemory}
 use Rattle.stm_outcome.specs.Outcome.{Done}
-use Rattle.stm_outcome.specs.Commits.{revision_read}
 use Rattle.stm_txn.specs.Standing.{Standing, terms_of}
-use Rattle.stm_outcome.specs.Terms.{is_below_floor}
-use Rattle.stm_program.specs.Levels.{is_serializable}
 use Rattle.stm_compile.specs.Answers.{look_up, answer_now}
 use Rattle.stm_compile.specs.CommitTxn.{reread_keys}
 use Rattle.stm_compile.specs.Committed.{committed}
@@ -36,9 +34,9 @@ use Rattle.stm_attempt.specs.Settled.{run_on}
 use Rattle.stm_attempt.specs.Entering.{is_due}
 use Rattle.stm_attempt.specs.Fetches.{AllShow, ShowOneRevision, at_of}
 use Rattle.stm_attempt.specs.ReadyRun.{ReadyRun, IsRunOnItsAnswers}
-use Rattle.stm_attempt.specs.Next.{next_at_end, next_after, list_asked}
+use Rattle.stm_attempt.specs.Next.{next_after, list_asked}
 use Rattle.stm_entries.specs.Entered.{answers_kept}
-use Rattle.stm_journal.specs.Fetched.{fetched, fetch_reported, fetch_all_reported, IsRefusalOfAll}
+use Rattle.stm_journal.specs.Fetched.{fetch_reported, fetch_all_reported, IsRefusalOfAll}
 use Rattle.stm_journal.specs.JournalState.{JournalState}
 use Rattle.stm_journal.specs.Verdicts.{after_commit, sent}
 use Rattle.stm_journal.proofs.Cases.{IsOfRun, HasCommitted, HasFailed, is_refused}
@@ -68,27 +66,18 @@ pub record IsAfterList (r : Runner) (next : Next) : Type 0 where
   pub has_list : is_due r.task.program.prefetch r.known.reads ≡ false
   pub is_next : next_after r.task.program r.task.level r.known.reads (run_on r.task.program r.known.reads) ≡ next
 
-after_list_by : (r : Runner) (next : Next) (due : Bool) → is_due r.task.program.prefetch r.known.reads ≡ due → list_asked next ≡ None →
-    cond due (FetchAll r.task.program.prefetch 0) (next_after r.task.program r.task.level r.known.reads (run_on r.task.program r.known.reads)) ≡ next →
-    IsAfterList r next
-after_list_by r next true is no_list reported =
-    let both : Some r.task.program.prefetch ≡ None = ap list_asked reported ∙ no_list in absurd (cc both)
-after_list_by r next false is no_list reported = record { has_list = is; is_next = reported }
-
 -- where what is next is no list, the list is not due
 is_after_list : (r : Runner) (next : Next) → list_asked next ≡ None → next_for r ≡ next → IsAfterList r next
-is_after_list r next no_list reported = after_list_by r next (is_due r.task.program.prefetch r.known.reads) refl no_list reported
+is_after_list r next no_list reported = grind (arith, nat_tests)
 
 step_after : (id : ℕ) (r : Runner) (w : World) → is_due r.task.program.prefetch r.known.reads ≡ false →
     step_live id r w ≡ step_on id r r.known.reads (run_on r.task.program r.known.reads) w
 unfolding step_live
-step_after id r w not =
-    ap (λ (b : Bool). cond b (fetch_list id r w) (step_on id r r.known.reads (run_on r.task.program r.known.reads) w)) not
+step_after id r w not = grind (arith, nat_tests)
 
 step_due : (id : ℕ) (r : Runner) (w : World) → is_due r.task.program.prefetch r.known.reads ≡ true → step_live id r w ≡ fetch_list id r w
 unfolding step_live
-step_due id r w due =
-    ap (λ (b : Bool). cond b (fetch_list id r w) (step_on id r r.known.reads (run_on r.task.program r.known.reads) w)) due
+step_due id r w due = grind (arith, nat_tests)
 
 -- ---- a list ----
 
@@ -97,26 +86,12 @@ pub record IsListing (r : Runner) (keys : List (List ℕ)) : Type 0 where
   pub due : is_due r.task.program.prefetch r.known.reads ≡ true
   pub keys_are : r.task.program.prefetch ≡ keys
 
-no_list_at_end : (program : ProgramTree) (level : Level) (reads : List ReadAnswer) (run : Run) (end : End) (keys : List (List ℕ)) (at : ℕ) →
-    next_at_end program level reads run end ≡ FetchAll keys at → ⊥
-no_list_at_end program level reads run DoneEnd keys at reported = cc
-no_list_at_end program level reads run (AbortedEnd text) keys at reported = cc
-no_list_at_end program level reads run (FaultedEnd fault) keys at reported = cc
-
 no_list_after : (program : ProgramTree) (level : Level) (reads : List ReadAnswer) (x : Answered) (keys : List (List ℕ)) (at : ℕ) →
     next_after program level reads x ≡ FetchAll keys at → ⊥
-no_list_after program level reads (Wants k trace) keys at reported = cc
-no_list_after program level reads (EndedRun run) keys at reported = no_list_at_end program level reads run run.end keys at reported
-
-listing_by : (r : Runner) (keys : List (List ℕ)) (at : ℕ) (due : Bool) → is_due r.task.program.prefetch r.known.reads ≡ due →
-    cond due (FetchAll r.task.program.prefetch 0) (next_after r.task.program r.task.level r.known.reads (run_on r.task.program r.known.reads))
-    ≡ FetchAll keys at → IsListing r keys
-listing_by r keys at true is reported = record { due = is; keys_are = cc }
-listing_by r keys at false is reported =
-    absurd (no_list_after r.task.program r.task.level r.known.reads (run_on r.task.program r.known.reads) keys at reported)
+no_list_after program level reads x keys at reported = grind (arith, nat_tests)
 
 pub is_listing : (r : Runner) (keys : List (List ℕ)) (at : ℕ) → next_for r ≡ FetchAll keys at → IsListing r keys
-is_listing r keys at reported = listing_by r keys at (is_due r.task.program.prefetch r.known.reads) refl reported
+is_listing r keys at reported = grind (arith, nat_tests, no_list_after)
 
 -- a fetch of the list in the step of a runner, by what it comes to
 abbrev pub listed_step : ℕ → Runner → ℕ → Result (List ReadAnswer) StoreRefusal → World → Stepped
@@ -127,36 +102,15 @@ reported_now : (h : History) (keys : List (List ℕ)) → map key_read (map (ans
 reported_now h [] = refl
 reported_now h (key ∷ keys) = ap (λ (l : List KeyRead). modified_now h key ∷ l) (reported_now h keys)
 
-listed_by : (id : ℕ) (r : Runner) (w : World) (many : Bool) →
-    cond many (replied (Ended id (event_refusal TooManyOps)) id Over w)
-    (replied (Prefetched id (now w.standing.history) (map (modified_now w.standing.history) r.task.program.prefetch)) id
-    (Live (with_answers (map (answer_now w.standing.history) r.task.program.prefetch) r)) w)
-    ≡ listed_step id r (now w.standing.history) (cond many (Err TooManyOps) (Ok (map (answer_now w.standing.history) r.task.program.prefetch))) w
-listed_by id r w true = refl
-listed_by id r w false =
-    ap (λ (reads : List KeyRead). replied (Prefetched id (now w.standing.history) reads) id
-    (Live (with_answers (map (answer_now w.standing.history) r.task.program.prefetch) r)) w)
-    (sym (reported_now w.standing.history r.task.program.prefetch))
-
 pub step_lists : (id : ℕ) (r : Runner) (w : World) →
     fetch_list id r w ≡ listed_step id r (now w.standing.history) (fetch_all_reported w.standing r.task.program.prefetch) w
-step_lists id r w = listed_by id r w (nat_lt w.standing.limit (length r.task.program.prefetch))
+step_lists id r w = grind (arith, nat_tests, reported_now)
 
 listed_leaves : (id : ℕ) (r q : Runner) (j after : JournalState) (slots : List Slot) (revision : ℕ)
     (o : Result (List ReadAnswer) StoreRefusal) (reported : StepOutcome) → reported ≡ reported_of_list id revision o → q ≡ after_reported_list o r → after ≡ j →
     listed_step id r revision o (world_around (workplace j r) slots)
     ≡ record { reply = Ok (reply_in reported); next = world_around (workplace after q) (with_slot id (slot_after reported q) slots) }
-listed_leaves id r q j after slots revision (Ok answers) reported reported_is runner_is journal_is =
-    let new : Runner = with_answers answers r in
-    let says : StepOutcome = GoesOn (Prefetched id revision (map key_read answers)) in
-    let made : StepOutcome → Runner → JournalState → Stepped = λ t p x.
-    record { reply = Ok (reply_in t); next = world_around (workplace x p) (with_slot id (slot_after t p) slots) } in
-    sym (ap (λ (t : StepOutcome). made t q after) reported_is ∙ ap (λ (p : Runner). made says p after) runner_is ∙ ap (λ (x : JournalState). made says new x) journal_is)
-listed_leaves id r q j after slots revision (Err cause) reported reported_is runner_is journal_is =
-    let says : StepOutcome = Ends (Ended id (event_refusal cause)) in
-    let made : StepOutcome → JournalState → Stepped = λ t x.
-    record { reply = Ok (reply_in t); next = world_around (workplace x q) (with_slot id (slot_after t q) slots) } in
-    sym (ap (λ (t : StepOutcome). made t after) reported_is ∙ ap (λ (x : JournalState). made says x) journal_is)
+listed_leaves id r q j after slots revision o reported reported_is runner_is journal_is = grind (arith, nat_tests)
 
 pub list_leaves : (id : ℕ) (r q : Runner) (j after : JournalState) (keys : List (List ℕ)) (reported : StepOutcome) → IsListing r keys →
     reported ≡ reported_of_list id (now j.standing.history) (fetch_all_reported j.standing keys) →
@@ -174,13 +128,8 @@ list_leaves id r q j after keys reported x reported_is runner_is journal_is slot
 pub record AreAnswers (s : Standing) (keys : List (List ℕ)) (answers : List ReadAnswer) : Type 0 where
   pub are_now : map (answer_now s.history) keys ≡ answers
 
-answers_by : (s : Standing) (keys : List (List ℕ)) (answers : List ReadAnswer) (many : Bool) →
-    cond many (Err TooManyOps) (Ok (map (answer_now s.history) keys)) ≡ Ok answers → AreAnswers s keys answers
-answers_by s keys answers true is = absurd (cc)
-answers_by s keys answers false is = record { are_now = cc }
-
 are_answers : (s : Standing) (keys : List (List ℕ)) (answers : List ReadAnswer) → fetch_all_reported s keys ≡ Ok answers → AreAnswers s keys answers
-are_answers s keys answers is = answers_by s keys answers (nat_lt s.limit (length keys)) is
+are_answers s keys answers is = grind (arith, nat_tests)
 
 keys_now : (h : History) (keys : List (List ℕ)) → map (λ (a : ReadAnswer). a.key) (map (answer_now h) keys) ≡ keys
 keys_now h [] = refl
@@ -189,53 +138,40 @@ keys_now h (key ∷ keys) = ap (λ (l : List (List ℕ)). key ∷ l) (keys_now h
 -- they are of the list's keys, in its order
 pub listed_keys : (s : Standing) (keys : List (List ℕ)) (answers : List ReadAnswer) → fetch_all_reported s keys ≡ Ok answers →
     keys ≡ map (λ (a : ReadAnswer). a.key) answers
-listed_keys s keys answers is =
-    sym (keys_now s.history keys) ∙ ap (λ (l : List ReadAnswer). map (λ (a : ReadAnswer). a.key) l) (are_answers s keys answers is).are_now
+listed_keys s keys answers is = grind (arith, nat_tests, keys_now, are_answers)
 
 -- and all of one revision
 show_now : (h : History) (keys : List (List ℕ)) → AllShow (now h) (map (answer_now h) keys)
 show_now h [] = tt
 show_now h (key ∷ keys) = (refl, show_now h keys)
 
-show_one : (h : History) (keys : List (List ℕ)) → ShowOneRevision (map (answer_now h) keys)
-show_one h [] = tt
-show_one h (key ∷ keys) = show_now h keys
-
 pub listed_show_one : (s : Standing) (keys : List (List ℕ)) (answers : List ReadAnswer) → fetch_all_reported s keys ≡ Ok answers → ShowOneRevision answers
-listed_show_one s keys answers is = subst ShowOneRevision (are_answers s keys answers is).are_now (show_one s.history keys)
+listed_show_one s keys answers is = grind (arith, nat_tests, are_answers, show_now)
 
 -- what a fetch of a list that the store answered reports and leaves, also where an allocation failed
 pub list_answers : (s : Standing) (id revision : ℕ) (keys : List (List ℕ)) (answers : List ReadAnswer) (outcome : Result StepOutcome AllocError) →
     revision ≡ now s.history → fetch_all_reported s keys ≡ Ok answers →
     IfOk outcome (λ reported. reported ≡ GoesOn (Prefetched id revision (map key_read answers))) →
     IfOk outcome (λ reported. reported ≡ reported_of_list id (now s.history) (fetch_all_reported s keys))
-list_answers s id revision keys answers (Ok reported) counts is reported_is =
-    reported_is ∙ ap (λ (n : ℕ). reported_of_list id n (Ok answers)) counts ∙ ap (reported_of_list id (now s.history)) (sym is)
-list_answers s id revision keys answers (Err e) counts is reported_is = tt
+list_answers s id revision keys answers outcome counts is reported_is = grind (arith, nat_tests)
 
 pub list_answers_leaves : (s : Standing) (keys : List (List ℕ)) (answers : List ReadAnswer) (r q : Runner) (outcome : Result StepOutcome AllocError) →
     fetch_all_reported s keys ≡ Ok answers → OnOk outcome (q ≡ with_answers answers r) → OnOk outcome (q ≡ after_reported_list (fetch_all_reported s keys) r)
-list_answers_leaves s keys answers r q (Ok reported) is left = left ∙ ap (λ (o : Result (List ReadAnswer) StoreRefusal). after_reported_list o r) (sym is)
-list_answers_leaves s keys answers r q (Err e) is left = tt
+list_answers_leaves s keys answers r q outcome is left = grind (arith, nat_tests)
 
 -- the same of one that the store refused
 list_cause : (s : Standing) (keys : List (List ℕ)) (cause : StoreRefusal) → cause ≢ OutOfMemory → IsRefusalOfAll s keys cause →
     fetch_all_reported s keys ≡ Err cause
-list_cause s keys cause not (inl want) = absurd (not want)
-list_cause s keys cause not (inr is) = is
+list_cause s keys cause not h5 = grind (arith, nat_tests)
 
 pub list_refused : (s : Standing) (id : ℕ) (keys : List (List ℕ)) (cause : StoreRefusal) (outcome : Result StepOutcome AllocError) →
     IsRefusalOfAll s keys cause → IfOk outcome (λ reported. reported ≡ Ends (Ended id (event_refusal cause))) → OnOk outcome (cause ≢ OutOfMemory) →
     IfOk outcome (λ reported. reported ≡ reported_of_list id (now s.history) (fetch_all_reported s keys))
-list_refused s id keys cause (Ok reported) refused reported_is not =
-    reported_is ∙ ap (reported_of_list id (now s.history)) (sym (list_cause s keys cause not refused))
-list_refused s id keys cause (Err e) refused reported_is not = tt
+list_refused s id keys cause outcome refused reported_is not = grind (arith, nat_tests, list_cause)
 
 pub list_refused_leaves : (s : Standing) (keys : List (List ℕ)) (cause : StoreRefusal) (r : Runner) (outcome : Result StepOutcome AllocError) →
     IsRefusalOfAll s keys cause → OnOk outcome (cause ≢ OutOfMemory) → OnOk outcome (r ≡ after_reported_list (fetch_all_reported s keys) r)
-list_refused_leaves s keys cause r (Ok reported) refused not =
-    ap (λ (o : Result (List ReadAnswer) StoreRefusal). after_reported_list o r) (sym (list_cause s keys cause not refused))
-list_refused_leaves s keys cause r (Err e) refused not = tt
+list_refused_leaves s keys cause r outcome refused not = grind (arith, nat_tests, list_cause)
 
 -- ---- a fetch ----
 
@@ -246,23 +182,12 @@ pub record IsWanting (r : Runner) (key : List ℕ) (at : ℕ) : Type 0 where
   pub wants : run_on r.task.program r.known.reads ≡ Wants key trace
   pub at_is : at_of r.task.level r.known.reads ≡ at
 
-no_fetch_at_end : (program : ProgramTree) (level : Level) (reads : List ReadAnswer) (run : Run) (end : End) (key : List ℕ) (at : ℕ) →
-    next_at_end program level reads run end ≡ Fetch key at → ⊥
-no_fetch_at_end program level reads run DoneEnd key at reported = cc
-no_fetch_at_end program level reads run (AbortedEnd text) key at reported = cc
-no_fetch_at_end program level reads run (FaultedEnd fault) key at reported = cc
-
 wanting_by : (r : Runner) (x : Answered) (key : List ℕ) (at : ℕ) → is_due r.task.program.prefetch r.known.reads ≡ false → run_on r.task.program r.known.reads ≡ x →
     next_after r.task.program r.task.level r.known.reads x ≡ Fetch key at → IsWanting r key at
-wanting_by r (Wants k trace) key at listed is reported =
-    let same : k ≡ key = cc in
-    record { has_list = listed; trace = trace; wants = is ∙ ap (λ (l : List ℕ). Wants l trace) same; at_is = cc }
-wanting_by r (EndedRun run) key at listed is reported = absurd (no_fetch_at_end r.task.program r.task.level r.known.reads run run.end key at reported)
+wanting_by r x key at listed is reported = grind (arith, nat_tests)
 
 pub is_wanting : (r : Runner) (key : List ℕ) (at : ℕ) → next_for r ≡ Fetch key at → IsWanting r key at
-is_wanting r key at reported =
-    let behind : IsAfterList r (Fetch key at) = is_after_list r (Fetch key at) refl reported in
-    wanting_by r (run_on r.task.program r.known.reads) key at behind.has_list refl behind.is_next
+is_wanting r key at reported = grind (arith, nat_tests, is_after_list, wanting_by)
 
 -- a key that is wanted is not empty
 pub wanted_is_named : (r : Runner) (key : List ℕ) (at : ℕ) → IsWanting r key at → 0 < length key
@@ -273,32 +198,16 @@ abbrev pub fetched_step : ℕ → Runner → List ℕ → Result ReadAnswer Stor
 fetched_step id r key (Ok a) w = replied (Fetched id key (mod_of a.kv) a.of_rev a.revision) id (Live (record r { known = after_fetch r.task a r.known })) w
 fetched_step id r key (Err cause) w = replied (Ended id (event_refusal cause)) id Over w
 
-fetched_by : (id : ℕ) (r : Runner) (key : List ℕ) (base : ℕ) (w : World) (below : Bool) →
-    cond below (replied (Ended id (event_refusal Compacted)) id Over w) (fetch id r key (revision_read w.standing.history base) w)
-    ≡ fetched_step id r key (cond below (Err Compacted) (Ok (fetched w.standing.history key base))) w
-unfolding fetch
-fetched_by id r key base w true = refl
-fetched_by id r key base w false = refl
-
 pub step_fetches : (id : ℕ) (r : Runner) (key : List ℕ) (base : ℕ) (w : World) →
     fetch_at id r key base w ≡ fetched_step id r key (fetch_reported w.standing key base) w
-step_fetches id r key base w = fetched_by id r key base w (is_below_floor w.standing.floor base)
+unfolding fetch
+step_fetches id r key base w = grind (arith, nat_tests)
 
 fetched_leaves : (id : ℕ) (r q : Runner) (j after : JournalState) (slots : List Slot) (key : List ℕ) (o : Result ReadAnswer StoreRefusal)
     (reported : StepOutcome) → reported ≡ reported_of_fetch id key o → q ≡ after_reported_fetch o r → after ≡ j →
     fetched_step id r key o (world_around (workplace j r) slots)
     ≡ record { reply = Ok (reply_in reported); next = world_around (workplace after q) (with_slot id (slot_after reported q) slots) }
-fetched_leaves id r q j after slots key (Ok a) reported reported_is runner_is journal_is =
-    let new : Runner = with_answer a r in
-    let says : StepOutcome = GoesOn (Fetched id key (mod_of a.kv) a.of_rev a.revision) in
-    let made : StepOutcome → Runner → JournalState → Stepped = λ t p x.
-    record { reply = Ok (reply_in t); next = world_around (workplace x p) (with_slot id (slot_after t p) slots) } in
-    sym (ap (λ (t : StepOutcome). made t q after) reported_is ∙ ap (λ (p : Runner). made says p after) runner_is ∙ ap (λ (x : JournalState). made says new x) journal_is)
-fetched_leaves id r q j after slots key (Err cause) reported reported_is runner_is journal_is =
-    let says : StepOutcome = Ends (Ended id (event_refusal cause)) in
-    let made : StepOutcome → JournalState → Stepped = λ t x.
-    record { reply = Ok (reply_in t); next = world_around (workplace x q) (with_slot id (slot_after t q) slots) } in
-    sym (ap (λ (t : StepOutcome). made t after) reported_is ∙ ap (λ (x : JournalState). made says x) journal_is)
+fetched_leaves id r q j after slots key o reported reported_is runner_is journal_is = grind (arith, nat_tests)
 
 pub fetch_leaves : (id : ℕ) (r q : Runner) (j after : JournalState) (key : List ℕ) (at : ℕ) (reported : StepOutcome) → IsWanting r key at →
     reported ≡ reported_of_fetch id key (fetch_reported j.standing key at) → q ≡ after_reported_fetch (fetch_reported j.standing key at) r → after ≡ j →
@@ -311,64 +220,42 @@ fetch_leaves id r q j after key at reported x reported_is runner_is journal_is s
     ∙ step_fetches id r key at w
     ∙ fetched_leaves id r q j after slots key (fetch_reported j.standing key at) reported reported_is runner_is journal_is
 
--- what a fetch that the store answered reports and leaves, also where an allocation failed
-answered_key : (s : Standing) (key : List ℕ) (at : ℕ) (a : ReadAnswer) (below : Bool) →
-    cond below (Err Compacted) (Ok (fetched s.history key at)) ≡ Ok a → key ≡ a.key
-answered_key s key at a true is = absurd (cc)
-answered_key s key at a false is = let same : fetched s.history key at ≡ a = cc in ap (λ (x : ReadAnswer). x.key) same
-
 -- it is of the key that was fetched
 pub fetched_key : (s : Standing) (key : List ℕ) (at : ℕ) (a : ReadAnswer) → fetch_reported s key at ≡ Ok a → key ≡ a.key
-fetched_key s key at a is = answered_key s key at a (is_below_floor s.floor at) is
+fetched_key s key at a is = grind (arith, nat_tests)
 
 pub fetch_answers : (s : Standing) (id : ℕ) (key : List ℕ) (at : ℕ) (a : ReadAnswer) (outcome : Result StepOutcome AllocError) → fetch_reported s key at ≡ Ok a →
     IfOk outcome (λ reported. reported ≡ GoesOn (Fetched id key (mod_of a.kv) a.of_rev a.revision)) →
     IfOk outcome (λ reported. reported ≡ reported_of_fetch id key (fetch_reported s key at))
-fetch_answers s id key at a (Ok reported) is reported_is = reported_is ∙ ap (reported_of_fetch id key) (sym is)
-fetch_answers s id key at a (Err e) is reported_is = tt
+fetch_answers s id key at a outcome is reported_is = grind (arith, nat_tests)
 
 pub fetch_answers_leaves : (s : Standing) (key : List ℕ) (at : ℕ) (a : ReadAnswer) (r q : Runner) (outcome : Result StepOutcome AllocError) →
     fetch_reported s key at ≡ Ok a → OnOk outcome (q ≡ with_answer a r) → OnOk outcome (q ≡ after_reported_fetch (fetch_reported s key at) r)
-fetch_answers_leaves s key at a r q (Ok reported) is left = left ∙ ap (λ (o : Result ReadAnswer StoreRefusal). after_reported_fetch o r) (sym is)
-fetch_answers_leaves s key at a r q (Err e) is left = tt
+fetch_answers_leaves s key at a r q outcome is left = grind (arith, nat_tests)
 
 -- the same of one that the store refused
 refused_cause : (s : Standing) (key : List ℕ) (at : ℕ) (cause : StoreRefusal) → cause ≢ OutOfMemory →
     (cause ≡ OutOfMemory) ⊎ (fetch_reported s key at ≡ Err cause) → fetch_reported s key at ≡ Err cause
-refused_cause s key at cause not (inl want) = absurd (not want)
-refused_cause s key at cause not (inr is) = is
+refused_cause s key at cause not h6 = grind (arith, nat_tests)
 
 pub fetch_refused : (s : Standing) (id : ℕ) (key : List ℕ) (at : ℕ) (cause : StoreRefusal) (outcome : Result StepOutcome AllocError) →
     (cause ≡ OutOfMemory) ⊎ (fetch_reported s key at ≡ Err cause) → IfOk outcome (λ reported. reported ≡ Ends (Ended id (event_refusal cause))) → OnOk outcome (cause ≢ OutOfMemory) →
     IfOk outcome (λ reported. reported ≡ reported_of_fetch id key (fetch_reported s key at))
-fetch_refused s id key at cause (Ok reported) refused reported_is not = reported_is ∙ ap (reported_of_fetch id key) (sym (refused_cause s key at cause not refused))
-fetch_refused s id key at cause (Err e) refused reported_is not = tt
+fetch_refused s id key at cause outcome refused reported_is not = grind (arith, nat_tests, refused_cause)
 
 pub fetch_refused_leaves : (s : Standing) (key : List ℕ) (at : ℕ) (cause : StoreRefusal) (r : Runner) (outcome : Result StepOutcome AllocError) →
     (cause ≡ OutOfMemory) ⊎ (fetch_reported s key at ≡ Err cause) → OnOk outcome (cause ≢ OutOfMemory) →
     OnOk outcome (r ≡ after_reported_fetch (fetch_reported s key at) r)
-fetch_refused_leaves s key at cause r (Ok reported) refused not =
-    ap (λ (o : Result ReadAnswer StoreRefusal). after_reported_fetch o r) (sym (refused_cause s key at cause not refused))
-fetch_refused_leaves s key at cause r (Err e) refused not = tt
+fetch_refused_leaves s key at cause r outcome refused not = grind (arith, nat_tests, refused_cause)
 
 -- ---- a run that came to its end ----
 
-ready_at_end : (r : Runner) (run : Run) (end : End) (ready : ReadyRun) → is_due r.task.program.prefetch r.known.reads ≡ false →
-    run_on r.task.program r.known.reads ≡ EndedRun run → run.end ≡ end →
-    next_at_end r.task.program r.task.level r.known.reads run end ≡ Ready ready → (q : Run) × IsReady r q ready
-ready_at_end r run DoneEnd ready listed is ended reported = (run, record { has_list = listed; is_run = is; is_done = ended; is = cc })
-ready_at_end r run (AbortedEnd text) ready listed is ended reported = absurd (cc)
-ready_at_end r run (FaultedEnd fault) ready listed is ended reported = absurd (cc)
-
 ready_by : (r : Runner) (x : Answered) (ready : ReadyRun) → is_due r.task.program.prefetch r.known.reads ≡ false → run_on r.task.program r.known.reads ≡ x →
     next_after r.task.program r.task.level r.known.reads x ≡ Ready ready → (q : Run) × IsReady r q ready
-ready_by r (Wants k trace) ready listed is reported = absurd (cc)
-ready_by r (EndedRun run) ready listed is reported = ready_at_end r run run.end ready listed is refl reported
+ready_by r x ready listed is reported = grind (arith, nat_tests)
 
 pub is_ready : (r : Runner) (ready : ReadyRun) → next_for r ≡ Ready ready → (q : Run) × IsReady r q ready
-is_ready r ready reported =
-    let behind : IsAfterList r (Ready ready) = is_after_list r (Ready ready) refl reported in
-    ready_by r (run_on r.task.program r.known.reads) ready behind.has_list refl behind.is_next
+is_ready r ready reported = grind (arith, nat_tests, is_after_list, ready_by)
 
 finished : (id : ℕ) (r : Runner) (run : Run) (w : World) → is_due r.task.program.prefetch r.known.reads ≡ false →
     run_on r.task.program r.known.reads ≡ EndedRun run → step_live id r w ≡ finish id r r.known.reads run run.end w
@@ -381,20 +268,14 @@ step_commits id r run ready w x = finished id r run w x.has_list x.is_run ∙ ap
 -- what its commit leaves is what its step leaves
 pub commit_leaves : (id : ℕ) (r : Runner) (run : Run) (ready : ReadyRun) (outcome : Result StepOutcome AllocError) (before after : Workplace) → IsReady r run ready →
     Leaves id outcome before after (commit id r r.known.reads run) → Leaves id outcome before after (step_live id r)
-commit_leaves id r run ready (Ok reported) before after x leaves =
-    λ slots. step_commits id r run ready (world_around before slots) x ∙ leaves slots
-commit_leaves id r run ready (Err e) before after x leaves = leaves
+commit_leaves id r run ready outcome before after x leaves = grind (arith, nat_tests, step_commits)
 
 -- A runner that went on is still the one that it was: what its commit leaves is what its step leaves.
 pub ready_leaves : (id : ℕ) (r q : Runner) (ready : ReadyRun) (outcome : Result StepOutcome AllocError) (j : JournalState) (after : Workplace) →
     q ≡ r → next_for r ≡ Ready ready →
     ((run : Run) → IsReady q run ready → Leaves id outcome (workplace j q) after (commit id q q.known.reads run)) →
     Leaves id outcome (workplace j r) after (step_live id r)
-ready_leaves id r q ready outcome j after same reported leaves =
-    let found : (run : Run) × IsReady r run ready = is_ready r ready reported in
-    let mine = subst (λ (x : Runner). (run : Run) → IsReady x run ready → Leaves id outcome (workplace j x) after (commit id x x.known.reads run))
-    same leaves in
-    commit_leaves id r found.0 ready outcome (workplace j r) after found.1 (mine found.0 found.1)
+ready_leaves id r q ready outcome j after same reported leaves = grind (arith, nat_tests, is_ready, commit_leaves)
 
 -- the same of a commit that may have been reported
 pub ready_leaves_quietly : (id : ℕ) (r q last : Runner) (ready : ReadyRun) (o : Option StepOutcome) (j : JournalState) → q ≡ r → next_for r ≡ Ready ready →
@@ -414,49 +295,25 @@ pub record IsOver (r : Runner) (run : Run) : Type 0 where
   pub is_run : run_on r.task.program r.known.reads ≡ EndedRun run
   pub not_done : run.end ≢ DoneEnd
 
-aborted_at_end : (r : Runner) (run aborted : Run) (end : End) → is_due r.task.program.prefetch r.known.reads ≡ false →
-    run_on r.task.program r.known.reads ≡ EndedRun run → run.end ≡ end →
-    next_at_end r.task.program r.task.level r.known.reads run end ≡ AbortedNext aborted → IsOver r aborted
-aborted_at_end r run aborted DoneEnd listed is ended reported = absurd (cc)
-aborted_at_end r run aborted (AbortedEnd text) listed is ended reported =
-    let same : run ≡ aborted = cc in subst (IsOver r) same (record { has_list = listed; is_run = is; not_done = λ done. absurd (cc) })
-aborted_at_end r run aborted (FaultedEnd fault) listed is ended reported = absurd (cc)
-
 aborted_by : (r : Runner) (x : Answered) (aborted : Run) → is_due r.task.program.prefetch r.known.reads ≡ false →
     run_on r.task.program r.known.reads ≡ x →
     next_after r.task.program r.task.level r.known.reads x ≡ AbortedNext aborted → IsOver r aborted
-aborted_by r (Wants k trace) aborted listed is reported = absurd (cc)
-aborted_by r (EndedRun run) aborted listed is reported = aborted_at_end r run aborted run.end listed is refl reported
+aborted_by r x aborted listed is reported = grind (arith, nat_tests)
 
 pub has_aborted : (r : Runner) (run : Run) → next_for r ≡ AbortedNext run → IsOver r run
-has_aborted r run reported =
-    let behind : IsAfterList r (AbortedNext run) = is_after_list r (AbortedNext run) refl reported in
-    aborted_by r (run_on r.task.program r.known.reads) run behind.has_list refl behind.is_next
-
-faulted_at_end : (r : Runner) (run faulted : Run) (end : End) → is_due r.task.program.prefetch r.known.reads ≡ false →
-    run_on r.task.program r.known.reads ≡ EndedRun run → run.end ≡ end →
-    next_at_end r.task.program r.task.level r.known.reads run end ≡ FaultedNext faulted → IsOver r faulted
-faulted_at_end r run faulted DoneEnd listed is ended reported = absurd (cc)
-faulted_at_end r run faulted (AbortedEnd text) listed is ended reported = absurd (cc)
-faulted_at_end r run faulted (FaultedEnd fault) listed is ended reported =
-    let same : run ≡ faulted = cc in subst (IsOver r) same (record { has_list = listed; is_run = is; not_done = λ done. absurd (cc) })
+has_aborted r run reported = grind (arith, nat_tests, is_after_list, aborted_by)
 
 faulted_by : (r : Runner) (x : Answered) (faulted : Run) → is_due r.task.program.prefetch r.known.reads ≡ false →
     run_on r.task.program r.known.reads ≡ x →
     next_after r.task.program r.task.level r.known.reads x ≡ FaultedNext faulted → IsOver r faulted
-faulted_by r (Wants k trace) faulted listed is reported = absurd (cc)
-faulted_by r (EndedRun run) faulted listed is reported = faulted_at_end r run faulted run.end listed is refl reported
+faulted_by r x faulted listed is reported = grind (arith, nat_tests)
 
 pub has_faulted : (r : Runner) (run : Run) → next_for r ≡ FaultedNext run → IsOver r run
-has_faulted r run reported =
-    let behind : IsAfterList r (FaultedNext run) = is_after_list r (FaultedNext run) refl reported in
-    faulted_by r (run_on r.task.program r.known.reads) run behind.has_list refl behind.is_next
+has_faulted r run reported = grind (arith, nat_tests, is_after_list, faulted_by)
 
 end_is : (id : ℕ) (r : Runner) (run : Run) (end : End) (reply : Reply) (w : World) → ReturnsEnd id end reply →
     finish id r r.known.reads run end w ≡ replied reply id Over w
-end_is id r run DoneEnd reply w reports = absurd reports
-end_is id r run (AbortedEnd text) reply w reports = ap (λ (x : Reply). replied x id Over w) (sym reports)
-end_is id r run (FaultedEnd fault) reply w reports = ap (λ (x : Reply). replied x id Over w) (sym reports)
+end_is id r run end reply w reports = grind (arith, nat_tests)
 
 pub end_leaves : (id : ℕ) (r q : Runner) (j : JournalState) (run : Run) (reply : Reply) → IsOver r run → ReturnsEnd id run.end reply →
     Leaves id (Ok (Ends reply)) (workplace j r) (workplace j q) (step_live id r)
@@ -464,12 +321,6 @@ end_leaves id r q j run reply x reports slots =
     finished id r run (world_around (workplace j r) slots) x.has_list x.is_run ∙ end_is id r run run.end reply (world_around (workplace j r) slots) reports
 
 -- ---- a commit ----
-
-commit_is : (id : ℕ) (r : Runner) (run : Run) (w : World) →
-    commit id r r.known.reads run w
-    ≡ commit_reported id r r.known.reads run (committed (terms_of w.standing) r.task.level r.known.reads run) w
-unfolding commit
-commit_is id r run w = refl
 
 -- what the commit of a run comes to, by the run that is ready
 abbrev pub outcome_of : Standing → ReadyRun → Run → Result Done StoreRefusal
@@ -484,9 +335,8 @@ of_run r run ready x on named = record { kept = on; named = named; ended = ready
 commit_by : (id : ℕ) (r : Runner) (run : Run) (ready : ReadyRun) (j : JournalState) (slots : List Slot) → IsReady r run ready →
     commit id r r.known.reads run (world_around (workplace j r) slots)
     ≡ commit_reported id r r.known.reads run (outcome_of j.standing ready run) (world_around (workplace j r) slots)
-commit_by id r run ready j slots x =
-    commit_is id r run (world_around (workplace j r) slots)
-    ∙ ap (λ (a : ReadyRun). commit_reported id r r.known.reads run (outcome_of j.standing a run) (world_around (workplace j r) slots)) (sym x.is)
+unfolding commit
+commit_by id r run ready j slots x = grind (arith, nat_tests)
 
 taken_is : (id : ℕ) (r : Runner) (run : Run) (ready : ReadyRun) (j after : JournalState) (slots : List Slot) (done : Done) (revision attempts : ℕ)
     (output : List Value) (trace : List TraceItem) (answers : List CommittedRead) →
@@ -497,16 +347,13 @@ taken_is : (id : ℕ) (r : Runner) (run : Run) (ready : ReadyRun) (j after : Jou
       reply = Ok (Committed id revision attempts output trace answers);
       next = world_around (workplace after q) (with_slot id Over slots);
     }
-taken_is id r run ready j after slots done revision attempts output trace answers a b c d e f q =
-    cc (sym a, sym b, sym c, sym d, sym e, sym f)
+taken_is id r run ready j after slots done revision attempts output trace answers a b c d e f q = grind (arith, nat_tests)
 
 -- the world that a commit leaves, with the entry of the run that is ready
 taken_leaves : (id : ℕ) (r : Runner) (run : Run) (ready : ReadyRun) (j after : JournalState) (slots : List Slot) (done : Done) → IsReady r run ready →
     after ≡ after_commit j ready done →
     world_of after (with_slot id Over slots) ≡ (take_commit id r r.known.reads run done (world_around (workplace j r) slots)).next
-taken_leaves id r run ready j after slots done x left =
-    ap (λ (k : JournalState). world_of k (with_slot id Over slots)) left
-    ∙ ap (λ (p : ReadyRun). world_of (after_commit j p done) (with_slot id Over slots)) x.is
+taken_leaves id r run ready j after slots done x left = grind (arith, nat_tests)
 
 -- a commit that succeeded
 pub take_leaves : (id : ℕ) (r q : Runner) (run : Run) (ready : ReadyRun) (j after : JournalState)
@@ -530,24 +377,7 @@ again_by : (id : ℕ) (r q : Runner) (seen : Seen) (j after : JournalState) (slo
     (more ≡ true → q ≡ begun_again (map (answer_now j.standing.history) (reread_keys r.task.level r.known.reads)) r) → after ≡ j →
     fail_commit id r seen modified (world_around (workplace j r) slots)
     ≡ record { reply = Ok (reply_in reported); next = world_around (workplace after q) (with_slot id (slot_after reported q) slots) }
-again_by id r q seen j after slots modified reported true go reported_is again same =
-    let new : Runner = begun_again (map (answer_now j.standing.history) (reread_keys r.task.level r.known.reads)) r in
-    let says : StepOutcome = GoesOn (Conflict id seen.key seen.mod_rev modified) in
-    let w : World = world_around (workplace j r) slots in
-    let made : StepOutcome → Runner → JournalState → Stepped = λ t p x.
-    record { reply = Ok (reply_in t); next = world_around (workplace x p) (with_slot id (slot_after t p) slots) } in
-    ap (λ b. cond b (replied (Conflict id seen.key seen.mod_rev modified) id (Live new) w)
-    (replied (GaveUp id (r.failures + 1) seen.key seen.mod_rev modified) id Over w)) go
-    ∙ sym (ap (λ (t : StepOutcome). made t q after) reported_is ∙ ap (λ (p : Runner). made says p after) (again refl) ∙ ap (λ (x : JournalState). made says new x) same)
-again_by id r q seen j after slots modified reported false go reported_is again same =
-    let new : Runner = begun_again (map (answer_now j.standing.history) (reread_keys r.task.level r.known.reads)) r in
-    let says : StepOutcome = Ends (GaveUp id (r.failures + 1) seen.key seen.mod_rev modified) in
-    let w : World = world_around (workplace j r) slots in
-    let made : StepOutcome → JournalState → Stepped = λ t x.
-    record { reply = Ok (reply_in t); next = world_around (workplace x q) (with_slot id (slot_after t q) slots) } in
-    ap (λ b. cond b (replied (Conflict id seen.key seen.mod_rev modified) id (Live new) w)
-    (replied (GaveUp id (r.failures + 1) seen.key seen.mod_rev modified) id Over w)) go
-    ∙ sym (ap (λ (t : StepOutcome). made t after) reported_is ∙ ap (λ (x : JournalState). made says x) same)
+again_by id r q seen j after slots modified reported more go reported_is again same = grind (arith, nat_tests)
 
 -- a commit of which a compare failed
 fail_leaves : (id : ℕ) (r q : Runner) (run : Run) (ready : ReadyRun) (j after : JournalState) (key : List ℕ) (seen modified : ℕ)
@@ -618,72 +448,35 @@ refusal_comes_to id r run ready j after cause (Err e) x of reported_is other ref
 named_again : (h : History) (reads : List ReadAnswer) → AreNamed reads → AreNamed (map (answer_now h) (map (λ (a : ReadAnswer). a.key) reads))
 named_again h [] named = named
 named_again h (a ∷ reads) named =
-    All-cons (λ (x : ReadAnswer). 0 < length x.key) (answer_now h a.key) (map (answer_now h) (map (λ (x : ReadAnswer). x.key) reads))
-    (All-head (λ (x : ReadAnswer). 0 < length x.key) a reads named)
-    (named_again h reads (All-tail (λ (x : ReadAnswer). 0 < length x.key) a reads named))
-
-named_by : (h : History) (b : Bool) (reads : List ReadAnswer) → AreNamed reads →
-    AreNamed (map (answer_now h) (cond b (map (λ (a : ReadAnswer). a.key) reads) []))
-named_by h true reads named = named_again h reads named
-named_by h false reads named = All-nil (λ (x : ReadAnswer). 0 < length x.key)
+    grind (arith, nat_tests, All-cons, All-head, All-tail, named_again h reads (All-tail (λ (x : ReadAnswer). 0 < length x.key) a reads named))
 
 -- the keys that were read again are named, as those that were read
 pub reread_named : (h : History) (level : Level) (reads : List ReadAnswer) → AreNamed reads → AreNamed (map (answer_now h) (reread_keys level reads))
-reread_named h level reads named = named_by h (is_serializable level) reads named
+reread_named h level reads named = grind (arith, nat_tests, named_again, All-nil)
 
 -- ---- which events are taken ----
 
 either_is_taken : (b : Bool) (first second : Stepped) → IsOk first.reply → IsOk second.reply → IsOk (cond b first second).reply
-either_is_taken true first second one other = one
-either_is_taken false first second one other = other
-
-decided_is_taken : (id : ℕ) (r : Runner) (reads : List ReadAnswer) (run : Run) (done : Done) (failed : Option FailedCompare) (w : World) →
-    IsOk (decided id r reads run done failed w).reply
-decided_is_taken id r reads run done None w = refl
-decided_is_taken id r reads run done (Some f) w = either_is_taken (may_go_on r) _ _ refl refl
+either_is_taken b first second one other = grind (arith, nat_tests)
 
 reported_is_taken : (id : ℕ) (r : Runner) (reads : List ReadAnswer) (run : Run) (o : Result Done StoreRefusal) (w : World) →
     IsOk (commit_reported id r reads run o w).reply
-reported_is_taken id r reads run (Ok done) w = decided_is_taken id r reads run done done.answer.failed w
-reported_is_taken id r reads run (Err cause) w = refl
-
-commit_is_taken : (id : ℕ) (r : Runner) (reads : List ReadAnswer) (run : Run) (w : World) → IsOk (commit id r reads run w).reply
-unfolding commit
-commit_is_taken id r reads run w =
-    reported_is_taken id r reads run (committed (terms_of w.standing) r.task.level reads run) w
+reported_is_taken id r reads run o w = grind (arith, nat_tests, either_is_taken)
 
 finish_is_taken : (id : ℕ) (r : Runner) (reads : List ReadAnswer) (run : Run) (end : End) (w : World) → IsOk (finish id r reads run end w).reply
-finish_is_taken id r reads run DoneEnd w = commit_is_taken id r reads run w
-finish_is_taken id r reads run (AbortedEnd text) w = refl
-finish_is_taken id r reads run (FaultedEnd fault) w = refl
-
-fetch_is_taken : (id : ℕ) (r : Runner) (key : List ℕ) (of_rev : ℕ) (w : World) → IsOk (fetch id r key of_rev w).reply
-unfolding fetch
-fetch_is_taken id r key of_rev w = refl
+unfolding commit
+finish_is_taken id r reads run end w = grind (arith, nat_tests, reported_is_taken)
 
 on_is_taken : (id : ℕ) (r : Runner) (reads : List ReadAnswer) (answered : Answered) (w : World) → IsOk (step_on id r reads answered w).reply
-on_is_taken id r reads (Wants key trace) w =
-    let base : ℕ = at_of r.task.level reads in
-    let of_rev : ℕ = revision_read w.standing.history base in
-    either_is_taken (is_below_floor w.standing.floor base) (replied (Ended id (event_refusal Compacted)) id Over w) (fetch id r key of_rev w) refl
-    (fetch_is_taken id r key of_rev w)
-on_is_taken id r reads (EndedRun run) w = finish_is_taken id r reads run run.end w
-
-list_is_taken : (id : ℕ) (r : Runner) (w : World) → IsOk (fetch_list id r w).reply
-list_is_taken id r w = either_is_taken (nat_lt w.standing.limit (length r.task.program.prefetch)) _ _ refl refl
+unfolding fetch
+on_is_taken id r reads answered w = grind (arith, nat_tests, either_is_taken, finish_is_taken)
 
 -- a step of a runner that is there is taken
 pub live_is_taken : (id : ℕ) (r : Runner) (w : World) → IsOk (step_live id r w).reply
 unfolding step_live
-live_is_taken id r w =
-    either_is_taken (is_due r.task.program.prefetch r.known.reads) (fetch_list id r w) (step_on id r r.known.reads (run_on r.task.program r.known.reads) w)
-    (list_is_taken id r w) (on_is_taken id r r.known.reads (run_on r.task.program r.known.reads) w)
+live_is_taken id r w = grind (arith, nat_tests, either_is_taken, on_is_taken)
 
 -- ---- a start ----
-
-start_by : (b : Bool) (w : World) (s : Stepped) → b ≡ false → cond b (refused BadLimit w) s ≡ s
-start_by true w s some = absurd (cc)
-start_by false w s some = refl
 
 -- a start that may send a commit is taken
 pub start_takes : (task : Task) (w : World) → task.limit ≢ 0 →
@@ -692,7 +485,7 @@ pub start_takes : (task : Task) (w : World) → task.limit ≢ 0 →
       next = record { standing = w.standing; runners = w.runners ++ Live (begin task) ∷ []; entries = w.entries };
     }
 unfolding start_runner
-start_takes task w some = start_by (nat_eq task.limit 0) w _ (other_number task.limit 0 some)
+start_takes task w some = grind (arith, nat_tests, other_number)
 
 pub start_is_taken : (task : Task) (w : World) → task.limit ≢ 0 → IsOk (start_runner task w).reply
 start_is_taken task w some = ap (λ (s : Stepped). is_ok s.reply) (start_takes task w some)
@@ -700,17 +493,11 @@ start_is_taken task w some = ap (λ (s : Stepped). is_ok s.reply) (start_takes t
 -- the new runner's number, as the code has it
 pub added_number : (task : Task) (w : World) (before after : List Slot) (slot : Slot) (r : Runner) (id : ℕ) → task.limit ≢ 0 → before ≡ w.runners →
     after ≡ before ++ slot ∷ [] → slot ≡ Live r → r ≡ begin task → id ≡ length after → (start_runner task w).reply ≡ Ok (Started id)
-added_number task w before after slot r id some before_is after_is slot_is runner_is id_is =
-    ap (λ (s : Stepped). s.reply) (start_takes task w some)
-    ∙ ap (λ (n : ℕ). Ok (Started n))
-    (ap (λ (l : List Slot). length l + 1) (sym before_is) ∙ sym (id_is ∙ ap (λ (l : List Slot). length l) after_is ∙ count_grows before slot))
+added_number task w before after slot r id some before_is after_is slot_is runner_is id_is = grind (arith, nat_tests, start_takes, count_grows)
 
 pub added_world : (task : Task) (w : World) (j : JournalState) (before after : List Slot) (slot : Slot) (r : Runner) → task.limit ≢ 0 →
     world_of j before ≡ w → after ≡ before ++ slot ∷ [] → slot ≡ Live r → r ≡ begin task → world_of j after ≡ (start_runner task w).next
-added_world task w j before after slot r some view_is after_is slot_is runner_is =
-    ap (world_of j) (after_is ∙ ap (λ (x : Slot). before ++ x ∷ []) (slot_is ∙ ap (λ (x : Runner). Live x) runner_is))
-    ∙ ap (λ (v : World). record { standing = v.standing; runners = v.runners ++ Live (begin task) ∷ []; entries = v.entries }) view_is
-    ∙ sym (ap (λ (x : Stepped). x.next) (start_takes task w some))
+added_world task w j before after slot r some view_is after_is slot_is runner_is = grind (arith, nat_tests, start_takes)
 
 -- one that may send none is refused
 pub start_refuses : (program : ProgramTree) (level : Level) (w : World) →
@@ -724,28 +511,13 @@ reported_reports : (id : ℕ) (j after : JournalState) (places slots : List Slot
     found ≡ Some r → Leaves id (Ok reported) (workplace j r) (workplace after q) (step_live id r) →
     slots ≡ with_slot id (slot_after reported q) (with_slot id Over places) →
     Returns (Ok (Ok (reply_in reported))) (world_of j places) (world_of after slots) (step_runner id found (world_of j places))
-reported_reports id j after places slots r q reported None is leaves put = absurd (cc)
-reported_reports id j after places slots r q reported (Some other) is leaves put =
-    let old : World = world_of j places in
-    let same : other ≡ r = cc in
-    let stepped = leaves places in (
-      ap (λ (x : Runner). (step_live id x old).reply) same ∙ ap (λ (s : Stepped). s.reply) stepped,
-      ap (λ (x : Runner). (step_live id x old).next) same ∙ ap (λ (s : Stepped). s.next) stepped
-          ∙ ap (λ (l : List Slot). world_of after l) (sym (put ∙ put_there id places (slot_after reported q))),
-    )
+reported_reports id j after places slots r q reported found is leaves put = grind (arith, nat_tests, put_there)
 
 ran_out_reports : (id : ℕ) (j after : JournalState) (places slots : List Slot) (r q : Runner) (e : AllocError)
     (found : Option Runner) → found ≡ Some r → runner_at id places ≡ Some r → workplace after q ≡ workplace j r →
     slots ≡ with_slot id (Live q) (with_slot id Over places) →
     Returns (Err e) (world_of j places) (world_of after slots) (step_runner id found (world_of j places))
-ran_out_reports id j after places slots r q e None is there leaves put = absurd (cc)
-ran_out_reports id j after places slots r q e (Some other) is there leaves put =
-    let runner_is : q ≡ r = ap (λ (p : Workplace). p.runner) leaves in
-    let slots_are : slots ≡ places =
-    put ∙ ap (λ (x : Runner). with_slot id (Live x) (with_slot id Over places)) runner_is ∙ put_back id places r there in (
-      ap (λ (x : JournalState). world_of x slots) (ap (λ (p : Workplace). p.journal) leaves) ∙ ap (λ (l : List Slot). world_of j l) slots_are,
-      live_is_taken id other (world_of j places),
-    )
+ran_out_reports id j after places slots r q e found is there leaves put = grind (arith, nat_tests, put_back, live_is_taken)
 
 -- the reply to the step of a runner that runs, also where memory ran out
 pub outcome_reports : (id : ℕ) (j after : JournalState) (places slots : List Slot) (r q : Runner)

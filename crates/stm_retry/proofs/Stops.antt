@@ -1,13 +1,12 @@
 -- A run that was stopped because memory ran out goes on alike after the stop.
-use Rattle.std.proofs.Common.{◌≡◌, ◌≢◌, ◌≤◌, ◌∙◌, ◌⊎◌, inl, inr, ℕ, zero, suc, cond, List, [], ◌∷◌, ◌++◌, length, length-append, take, drop}
-use Rattle.std.proofs.Common.{Option, Some, None, Result, Ok, Err, refl, sym, ap, subst, arith, append_assoc}
+use Rattle.std.proofs.Common.{◌≡◌, ◌≢◌, ◌≤◌, ◌∙◌, ◌⊎◌, inl, inr, ℕ, zero, suc, List, [], ◌∷◌, ◌++◌, length, length-append, take, drop}
+use Rattle.std.proofs.Common.{Option, Some, None, Result, Err, refl, sym, ap, subst, arith, append_assoc}
 use Rattle.std.specs.Prelude.{slice_get, IfErr}
-use Rattle.std.proofs.lemmas.Bool.{le-ltb}
+use Rattle.std.proofs.lemmas.Bool.{le-ltb, Decides.nat_tests}
 use Rattle.stm_leases.specs.DueFirst.{first_due}
 use Rattle.stm_outcome.specs.declared.advance.Expired.{Expired}
 use Rattle.stm_outcome.specs.declared.refusal.Refusal.{Refusal}
-use Rattle.stm_outcome.specs.declared.refusal.Refusal.TheVariants.{TimeGoesBack}
-use Rattle.stm_txn.specs.Standing.{Standing, Advance as StoreAdvance, ended, after, expired_in, expire_up_to, expire_all, at_moment, advanced, HasCome}
+use Rattle.stm_txn.specs.Standing.{Standing, Advance as StoreAdvance, ended, after, expire_up_to, expire_all, at_moment, advanced, HasCome}
 use Rattle.stm_txn.proofs.Ending.{ended_is, next_ended}
 use Rattle.stm_entries.specs.declared.entry.Entry.{Entry}
 use Rattle.stm_entries.specs.declared.entry.Entry.TheVariants.{Expire}
@@ -15,7 +14,6 @@ use Rattle.stm_entries.specs.Entered.{expiries}
 use Rattle.stm_events.specs.declared.event.WorldEvent.{WorldEvent}
 use Rattle.stm_events.specs.declared.event.WorldEvent.TheVariants.{Advance, Compact}
 use Rattle.stm_events.specs.declared.reply.Reply.{Reply}
-use Rattle.stm_events.specs.declared.reply.Reply.TheVariants.{Started}
 use Rattle.stm_events.specs.declared.refusal.Denied.{Denied}
 use Rattle.stm_events.specs.Replies.{advance_reply}
 use Rattle.stm_events.specs.Called.{expired_reported}
@@ -29,29 +27,17 @@ use Rattle.stm_retry.specs.Stops.{with_expired, first_with_expired, RepeatsAlike
 
 -- ---- an advance ----
 
--- expiries leave the moment
-ended_moment : (many : ℕ) (s : Standing) (id : ℕ) (o : Result Standing Refusal) → ended s id ≡ o →
-    ((next : Standing) → (expire_up_to many next).leaves.moment ≡ next.moment) → (advance_ended many s id o).leaves.moment ≡ s.moment
-ended_moment many s id (Err cause) is rest = refl
-ended_moment many s id (Ok next) is rest = rest next ∙ sym (ap (λ (x : Standing). x.moment) (ended_is s next id is))
-
 due_moment : (many : ℕ) (s : Standing) (o : Option ℕ) → ((next : Standing) → (expire_up_to many next).leaves.moment ≡ next.moment) →
     (advance_due many s o).leaves.moment ≡ s.moment
-due_moment many s None rest = refl
-due_moment many s (Some id) rest = ended_moment many s id (ended s id) refl rest
+due_moment many s o rest = grind (arith, nat_tests, ended_is)
 
 moment_stays : (many : ℕ) (s : Standing) → (expire_up_to many s).leaves.moment ≡ s.moment
 moment_stays zero s = refl
 moment_stays (suc many) s = due_moment many s (first_due s.live s.moment) (λ next. moment_stays many next)
 
-moment_is_set : (s left : Standing) (moment : ℕ) (expired : List Expired) → HasCome (at_moment s moment) expired left → left.moment ≡ moment
-moment_is_set s left moment expired come =
-    sym (ap (λ (a : StoreAdvance). a.leaves.moment) come) ∙ moment_stays (length expired) (at_moment s moment)
-
 -- an advance that does not go back
 forward : (s : Standing) (moment : ℕ) → s.moment ≤ moment → expire_all (at_moment s moment) ≡ advanced s moment
-forward s moment above =
-    sym (ap (λ b. cond b (record { expired = []; leaves = s; cause = Some TimeGoesBack }) (expire_all (at_moment s moment))) (le-ltb moment s.moment above))
+forward s moment above = grind (arith, nat_tests, le-ltb)
 
 -- an advance to the moment that is set already
 same_moment : (s : Standing) (moment : ℕ) → s.moment ≡ moment → expire_all s ≡ advanced s moment
@@ -62,23 +48,12 @@ first_by_end : (start left : Standing) (id : ℕ) (e : Expired) (es : List Expir
     first_due start.live start.moment ≡ Some id → ended start id ≡ o →
     advance_ended (length es) start id o ≡ record { expired = e ∷ es; leaves = left; cause = None } →
     ((next : Standing) → HasCome next es left → expire_all next ≡ after es (expire_all left)) → expire_all start ≡ after (e ∷ es) (expire_all left)
-first_by_end start left id e es (Err cause) due is come rest =
-    let never : [] ≡ e ∷ es = ap (λ (a : StoreAdvance). a.expired) come in absurd (cc)
-first_by_end start left id e es (Ok next) due is come rest =
-    let parts : expired_in id next ∷ (expire_up_to (length es) next).expired ≡ e ∷ es = ap (λ (a : StoreAdvance). a.expired) come in
-    let named : expired_in id next ≡ e = cc in
-    let others : (expire_up_to (length es) next).expired ≡ es = cc in
-    let leaves : (expire_up_to (length es) next).leaves ≡ left = ap (λ (a : StoreAdvance). a.leaves) come in
-    let cause : (expire_up_to (length es) next).cause ≡ None = ap (λ (a : StoreAdvance). a.cause) come in
-    next_ended start next id due is
-    ∙ ap (after (expired_in id next ∷ [])) (rest next (λ i. record { expired = others i; leaves = leaves i; cause = cause i }))
-    ∙ ap (λ (x : Expired). after (x ∷ es) (expire_all left)) named
+first_by_end start left id e es o due is come rest = grind (arith, nat_tests, next_ended)
 
 first_by_due : (start left : Standing) (e : Expired) (es : List Expired) (o : Option ℕ) → first_due start.live start.moment ≡ o →
     advance_due (length es) start o ≡ record { expired = e ∷ es; leaves = left; cause = None } →
     ((next : Standing) → HasCome next es left → expire_all next ≡ after es (expire_all left)) → expire_all start ≡ after (e ∷ es) (expire_all left)
-first_by_due start left e es None due come rest =
-    let never : [] ≡ e ∷ es = ap (λ (a : StoreAdvance). a.expired) come in absurd (cc)
+first_by_due start left e es None due come rest = grind (arith, nat_tests)
 first_by_due start left e es (Some id) due come rest = first_by_end start left id e es (ended start id) due refl come rest
 
 -- whatever expired first, what is left expires after it
@@ -89,9 +64,7 @@ rest_expires (e ∷ es) start left come =
 
 advances_go_on : (s left : Standing) (moment : ℕ) (expired : List Expired) → s.moment ≤ moment → HasCome (at_moment s moment) expired left →
     advanced s moment ≡ after expired (advanced left moment)
-advances_go_on s left moment expired above come =
-    sym (forward s moment above) ∙ rest_expires expired (at_moment s moment) left come
-    ∙ ap (after expired) (same_moment left moment (moment_is_set s left moment expired come))
+advances_go_on s left moment expired above come = grind (arith, nat_tests, forward, rest_expires, same_moment, moment_stays)
 
 -- ---- an event ----
 
@@ -101,8 +74,7 @@ expiries-append (e ∷ es) more = ap (λ (l : List Entry). Expire e.id ∷ l) (e
 
 reported_after : (moment : ℕ) (before rest : List Expired) (cause : Option Refusal) →
     advance_reply moment (before ++ rest) cause ≡ with_expired before (advance_reply moment rest cause)
-reported_after moment before rest None = refl
-reported_after moment before rest (Some cause) = refl
+reported_after moment before rest cause = grind (arith, nat_tests)
 
 -- the advance after some expiries
 expired_repeats : (moment : ℕ) (expired : List Expired) (old : World) (left : Standing) → old.standing.moment ≤ moment →
@@ -125,19 +97,11 @@ cut_repeats moment expired old new above cut =
 
 -- with nothing in front a reply is as it is
 none_in_front : (reply : Result Reply Denied) → with_expired [] reply ≡ reply
-none_in_front (Ok (Started runner)) = refl
-none_in_front _ = refl
-
-none_before : (replies : List (Result Reply Denied)) → first_with_expired [] replies ≡ replies
-none_before [] = refl
-none_before (reply ∷ replies) = ap (λ (r : Result Reply Denied). r ∷ replies) (none_in_front reply)
+none_in_front reply = grind (arith, nat_tests)
 
 -- an event that left the world as it was
 unchanged_repeats : (event : WorldEvent) (expired : List Expired) (old new : World) → IsUnchanged expired old new → RepeatsAlike event expired old new
-unchanged_repeats event expired old new same =
-    subst (λ (es : List Expired). RepeatsAlike event es old new) (sym same.0)
-    (subst (λ (w : World). RepeatsAlike event [] old w) (sym same.1)
-    (record { reply_is = sym (none_in_front (step event old).reply); next_is = refl }))
+unchanged_repeats event expired old new same = grind (arith, nat_tests, none_in_front)
 
 advance_repeats : (moment : ℕ) (expired : List Expired) (old new : World) → old.standing.moment ≤ moment →
     (IsUnchanged expired old new ⊎ IsCutShort moment expired old new) → RepeatsAlike (Advance moment) expired old new
@@ -169,23 +133,16 @@ stopped_at (e ∷ es) (suc n) expired old new want =
 -- a run for whose replies there was no room
 stopped_before : (events : List WorldEvent) (taken : ℕ) (expired : List Expired) (old new : World) → taken ≡ 0 → IsUnchanged expired old new →
     GoesOnAlike events taken expired old new
-stopped_before events taken expired old new none same =
-    subst (λ n. GoesOnAlike events n expired old new) (sym none)
-    (subst (λ (es : List Expired). GoesOnAlike events 0 es old new) (sym same.0)
-    (subst (λ (w : World). GoesOnAlike events 0 [] old w) (sym same.1)
-    (record { replies = sym (none_before (replies_to events old)); world = refl })))
+stopped_before events taken expired old new none same = grind (arith, nat_tests, none_in_front)
 
 runs_go_on : (events : List WorldEvent) (taken : ℕ) (expired : List Expired) (old new : World) → IsRunStop events taken expired old new →
     GoesOnAlike events taken expired old new
-runs_go_on events taken expired old new (inl before) = stopped_before events taken expired old new before.0 before.1
-runs_go_on events taken expired old new (inr want) = stopped_at events taken expired old new want
+runs_go_on events taken expired old new h6 = grind (arith, nat_tests, stopped_before, stopped_at)
 
 -- what a run that stopped answers
 pub answer_goes_on : {A : Type 0} (answer : Result A RunStop) (reported stop : RunStop) (events : List WorldEvent) (old new : World) → answer ≡ Err reported →
     reported ≡ stop → IsRunStop events stop.done stop.expired old new → IfErr answer (λ (s : RunStop). GoesOnAlike events s.done s.expired old new)
-answer_goes_on {A = A} answer reported stop events old new is same stopped =
-    subst (λ (r : Result A RunStop). IfErr r (λ (s : RunStop). GoesOnAlike events s.done s.expired old new)) (sym (is ∙ ap (λ (s : RunStop). Err s) same))
-    (runs_go_on events stop.done stop.expired old new stopped)
+answer_goes_on {A = A} answer reported stop events old new is same stopped = grind (arith, nat_tests, runs_go_on)
 
 all_runs_go_on : (stops : List Stop) (events : List WorldEvent) (w : World) → AreStops stops events w → ComeToTheWhole stops events w
 all_runs_go_on [] events w are = record { replies = refl; world = refl }
@@ -204,8 +161,7 @@ stops_go_on = record { advances = advances_go_on; events = events_repeat; runs =
 -- ---- wrong accounts of how a run goes on ----
 
 reported_length : (moment : ℕ) (expired : List Expired) (cause : Option Refusal) → length (expired_reported (advance_reply moment expired cause)) ≡ length expired
-reported_length moment expired None = refl
-reported_length moment expired (Some cause) = refl
+reported_length moment expired cause = grind (arith, nat_tests)
 
 -- an advance does not report what is left as though nothing had expired before
 twice_reported : (moment : ℕ) (expired rest : List Expired) (cause : Option Refusal) → expired ≢ [] →
@@ -250,11 +206,6 @@ stopped_again (e ∷ es) (suc n) expired old new want some same =
     stopped_again es n expired next new want some
     (rest_alike (step e old).reply (replies_to es next) (replies_to (take n es) next ++ replies_to (drop n es) new) same)
 
-list_reported_again : (events : List WorldEvent) (taken : ℕ) (expired : List Expired) (old new : World) → IsRunStop events taken expired old new →
-    expired ≢ [] → replies_to events old ≡ replies_to (take taken events) old ++ replies_to (drop taken events) new → ⊥
-list_reported_again events taken expired old new (inl before) some same = some before.1.0
-list_reported_again events taken expired old new (inr want) some same = stopped_again events taken expired old new want some same
-
 -- what had expired is entered
 grown : (entries : List Entry) (expired : List Expired) → expired ≢ [] → entries ≡ entries ++ expiries expired → ⊥
 grown entries [] some same = some refl
@@ -264,8 +215,7 @@ grown entries (e ∷ es) some same =
 
 advance_undone : (moment : ℕ) (expired : List Expired) (old new : World) → (IsUnchanged expired old new ⊎ IsCutShort moment expired old new) →
     expired ≢ [] → new ≡ old → ⊥
-advance_undone moment expired old new (inl unchanged) some same = some unchanged.0
-advance_undone moment expired old new (inr cut) some same = grown old.entries expired some (ap (λ (w : World). w.entries) (sym same ∙ cut.rest))
+advance_undone moment expired old new h5 some same = grind (arith, nat_tests, grown)
 
 event_undone : (event : WorldEvent) (expired : List Expired) (old new : World) → OutOfMemoryReturns event expired old new → expired ≢ [] → new ≡ old → ⊥
 event_undone (Advance moment) expired old new want some same = advance_undone moment expired old new want.1 some same
@@ -273,14 +223,11 @@ event_undone (Compact revision) expired old new want some same = absurd want
 event_undone _ expired old new want some same = some want.0.0
 
 stopped_undone : (o : Option WorldEvent) (expired : List Expired) (before new : World) → OutOfMemoryReturnsAt o expired before new → expired ≢ [] → new ≡ before → ⊥
-stopped_undone None expired before new want some same = absurd want
-stopped_undone (Some event) expired before new want some same = event_undone event expired before new want some same
+stopped_undone o expired before new want some same = grind (arith, nat_tests, event_undone)
 
 nothing_left : (events : List WorldEvent) (taken : ℕ) (expired : List Expired) (old new : World) → IsRunStop events taken expired old new →
     expired ≢ [] → new ≡ world_after (take taken events) old → ⊥
-nothing_left events taken expired old new (inl before) some same = some before.1.0
-nothing_left events taken expired old new (inr want) some same =
-    stopped_undone (slice_get events taken) expired (world_after (take taken events) old) new want some same
+nothing_left events taken expired old new h6 some same = grind (arith, nat_tests, stopped_undone)
 
 pub wrong_stops : WrongStops
-wrong_stops = record { list_reported_again = list_reported_again; nothing_left = nothing_left }
+wrong_stops = grind (arith, nat_tests, nothing_left, stopped_again)

@@ -1,4 +1,4 @@
-use Rattle.std.proofs.Common.{◌≡◌, ◌∙◌, ap, subst, sym}
+use Rattle.std.proofs.Common.{◌∙◌, ap, subst, sym}
 use Rattle.stm_attempt.specs.AttemptState.{AttemptState}
 use Rattle.stm_world.specs.Task.{Task}
 use Rattle.stm_retry.specs.RunnerView.{RunnerView, view_of, task_of, IsRunner}

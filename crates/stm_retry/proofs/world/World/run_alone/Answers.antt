@@ -1,4 +1,4 @@
-use Rattle.std.proofs.Common.{◌∙◌, sym, ap}
+use Rattle.std.proofs.Common.{◌∙◌, ap}
 use Rattle.stm_txn.specs.Standing.{Standing}
 use Rattle.stm_retry.proofs.AloneLemmas.{run_reported}
 use Rattle.stm_retry.proofs.world.World.run_alone.Goals as goal

@@ -4,7 +4,7 @@ use Rattle.stm_events.specs.declared.refusal.Denied.{Denied}
 use Rattle.stm_world.specs.World.{World, world_after, replies_to}
 use Rattle.stm_report.specs.FormatScript.{IsTextSince}
 use Rattle.stm_report.proofs.FormatRowLemmas.{one_reply}
-use Rattle.stm_report.proofs.format_script.report_from.Goals as goal
+use Rattle.stm_report.proofs.format_script.kept_from.Goals as goal
 
 pub render-requires : goal.render-requires
 render-requires c =

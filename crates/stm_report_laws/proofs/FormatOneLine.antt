@@ -15,7 +15,7 @@ use Rattle.stm_events.specs.declared.event.WorldEvent.{WorldEvent}
 use Rattle.stm_events.specs.declared.event.WorldEvent.TheVariants as event
 use Rattle.stm_events.specs.declared.reply.Reply.{Reply}
 use Rattle.stm_events.specs.declared.reply.Reply.TheVariants.{Started, Prefetched, Fetched, Committed, Conflict, GaveUp, Aborted, Faulted, Ended}
-use Rattle.stm_events.specs.declared.reply.Reply.TheVariants.{Txn, Granted, Kept, Revoked, Advanced, Compacted, Watching, Batch, Lost, Cancelled}
+use Rattle.stm_events.specs.declared.reply.Reply.TheVariants.{Txn, Revoked, Advanced, Watching, Batch, Lost}
 use Rattle.stm_events.specs.declared.refusal.Denied.{Denied}
 use Rattle.stm_events.specs.declared.refusal.EventRefusal.{EventRefusal}
 use Rattle.stm_events.specs.Names.{refusal_name}
@@ -320,15 +320,12 @@ reply_without cuts labels h before e (Aborted runner text) = reported_without cu
 reply_without cuts labels h before e (Faulted runner fault) = reported_without cuts.value (codes "FAULT") (fault_name fault) refl
 reply_without cuts labels h before e (Ended runner cause) = reported_without cuts.value (codes "ENDED") (refusal_name cause) refl
 reply_without cuts labels h before e (Txn succeeded revision answers) = txn_without cuts.value e succeeded revision
-reply_without cuts labels h before e (Granted id) = asked_without e
-reply_without cuts labels h before e (Kept id) = named_without (codes "keep") id refl
 reply_without cuts labels h before e (Revoked id revision) = revoked_without id revision
 reply_without cuts labels h before e (Advanced now expired) = advanced_without now expired
-reply_without cuts labels h before e (Compacted revision) = compacted_without revision
 reply_without cuts labels h before e (Watching watcher) = watch_without cuts watcher e
 reply_without cuts labels h before e (Batch watcher upto events) = batch_without cuts watcher upto events
 reply_without cuts labels h before e (Lost watcher floor) = lost_without watcher floor
-reply_without cuts labels h before e (Cancelled watcher) = named_without (codes "cancel") watcher refl
+reply_without cuts labels h before e other = asked_without e
 
 told_without : (cuts : Cuts) (labels : List RunnerLabel) (h : History) (before : ℕ) (e : WorldEvent) (reply : Result Reply Denied) → has 10 (told_words cuts labels h before e reply) ≡ false
 told_without cuts labels h before e reply = grind (arith, nat_tests, reply_without, refused_without)

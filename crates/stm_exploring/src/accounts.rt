@@ -543,7 +543,10 @@ fn account_before<'a>(
 ) -> Result<Account<'a>, AllocError> {
     let mut keys = KeyUse::new(alloc, whole)?;
     match note_keys(alloc, &mut keys, at.others, at.programs, answers) {
-        Ok(()) => account_of(alloc, whole.runner_count(), keys, at.programs, answers, told),
+        Ok(()) => {
+            let count = whole.runner_count();
+            account_of(alloc, count, keys, at.programs, answers, told)
+        }
         Err(_) => {
             drop(keys);
             Err(AllocError)

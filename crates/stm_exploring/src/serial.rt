@@ -147,7 +147,8 @@ pub(crate) fn compare_scenario<O: Audience>(
     let mut begun = begin(alloc, scenario, &[], &mut budget.observer)?;
     let answer = compare_in_either(alloc, &begun, budget);
     if let Ok(found) = &answer {
-        tell_name(alloc, &mut begun.world, begun.others, found, &mut budget.observer);
+        let audience = &mut budget.observer;
+        tell_name(alloc, &mut begun.world, begun.others, found, audience);
     }
     drop(begun);
     answer

@@ -170,8 +170,7 @@ reply_without : (cuts : Cuts) (labels : List RunnerLabel) (h : History) (before 
 reply_without cuts labels h before e (Ended runner cause) = reported_without cuts.value (codes "ENDED") (refusal_name cause) refl
 reply_without cuts labels h before e (Faulted runner fault) = reported_without cuts.value (codes "FAULT") (fault_name fault) refl
 reply_without cuts labels h before e reply =
-    grind (arith, nat_tests, has_both, decimal_without, start_without, reads_without, fetched_without, commit_without, compared_without, reported_without,
-    txn_without, ends_without, watched_without, batch_without, asked_without)
+    grind (arith, nat_tests, has_both, decimal_without, start_without, reads_without, fetched_without, commit_without, compared_without, reported_without, txn_without, ends_without, watched_without, batch_without, asked_without)
 
 told_without : (cuts : Cuts) (labels : List RunnerLabel) (h : History) (before : ℕ) (e : WorldEvent) (reply : Result Reply Denied) → has 10 (told_words cuts labels h before e reply) ≡ false
 told_without cuts labels h before e reply = grind (arith, nat_tests, has_both, reply_without, asked_without, refusal_without)

@@ -7,7 +7,7 @@ use Rattle.stm_texts.specs.declared.scenario.Scenario.{Scenario}
 use Rattle.stm_world.specs.World.{World}
 use Rattle.stm_exploring.specs.declared.rules.Rule.{Rule}
 use Rattle.stm_exploring.specs.declared.rules.RuleAnswer.{RuleAnswer}
-use Rattle.stm_exploring.specs.declared.searching.Search.{Search}
+use Rattle.stm_exploring.specs.declared.searching.Searched.{Searched}
 use Rattle.stm_exploring.specs.declared.setup.Begun.{Begun}
 use Rattle.stm_exploring.specs.Asking.{ends_of, place_of}
 use Rattle.stm_exploring.specs.Judging.{AreFoundFrom}
@@ -36,14 +36,14 @@ pub record HasBegun (s : Scenario) (rules : List Rule) (b : Begun) : Type 0 wher
 
 -- ---- a search
 
-abbrev pub place_at : Search → Place
+abbrev pub place_at : Searched → Place
 place_at at = record { world = at.world.now; others = at.others.now }
 
 -- the programs are those of the runners, and serial orders are enough where that is said
-pub record CanSearch (at : Search) : Type 0 where
+pub record CanSearch (at : Searched) : Type 0 where
   pub programs : AreProgramsOf at.programs.now at.world.now.runners
   pub comparing : at.comparing ≡ true → IsComparing (place_at at)
 
 -- it is so of these rules after the schedules from there
-abbrev pub AreFoundThere : Search → List Rule → List RuleAnswer → Type 0
+abbrev pub AreFoundThere : Searched → List Rule → List RuleAnswer → Type 0
 AreFoundThere at rules answers = AreFoundFrom at.waits.now rules (place_at at) at.ends.now answers

@@ -10,7 +10,7 @@ use crate::final_words::{AskedOutput, outputs_asked, wrong_ends};
 use crate::key_use::{KeyUse, VaryingRule, varying_rules};
 use crate::rules::{RuleAnswer, has_kept};
 use crate::run_texts::tell_texts;
-use crate::searching::Search;
+use crate::searching::Searched;
 use crate::seen_ends::{SeenEnds, never_words};
 use serde_json::Value as Json;
 use std::alloc::{AllocError, Global};
@@ -536,7 +536,7 @@ fn account_of<'a>(
 /// The account of no run, about rules.
 fn account_before<'a>(
     alloc: Global,
-    at: &Search<'a>,
+    at: &Searched<'a>,
     whole: &World,
     answers: &'a [RuleAnswer],
     told: Told,
@@ -557,7 +557,7 @@ fn account_before<'a>(
 /// Makes an account, and says it. The orders are gone through in a world that stands for the whole one.
 fn make_account<O: Audience>(
     alloc: Global,
-    at: &Search<'_>,
+    at: &Searched<'_>,
     whole: &World,
     answers: &[RuleAnswer],
     seen: Option<&SeenEnds>,
@@ -578,7 +578,7 @@ fn make_account<O: Audience>(
 /// were seen, and which keys the rules ask for that are not there in the whole world and that nothing puts. Or it says that an allocation failed for it.
 pub(crate) fn tell_account<O: Audience>(
     alloc: Global,
-    at: &Search<'_>,
+    at: &Searched<'_>,
     whole: &World,
     answers: &[RuleAnswer],
     seen: Option<&SeenEnds>,

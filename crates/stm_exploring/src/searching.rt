@@ -28,9 +28,9 @@ use stm_retry::World;
 use stm_serial_search::programs_started;
 use stm_texts::{Scenario, WorldEvent, opens_with};
 
-/// A search for rules: where it begins, and which runners wait.
+/// What a search for rules goes through: where it begins, and which runners wait.
 #[derive(Clone, Copy)]
-pub(crate) struct Search<'a> {
+pub(crate) struct Searched<'a> {
     /// The world from which all schedules go.
     pub(crate) world: &'a World,
     /// What the others have yet to bring.
@@ -48,7 +48,7 @@ pub(crate) struct Search<'a> {
 /// Whether each of these rules is kept after every schedule, where no runner waits: by serial orders, too, where all commit at levels that compare.
 fn judge<O: Observer>(
     alloc: Global,
-    at: &Search<'_>,
+    at: &Searched<'_>,
     rules: &[Program],
     budget: &mut Budget<O>,
 ) -> Result<Vec<Answer>, AllocError>
@@ -64,7 +64,7 @@ fn judge<O: Observer>(
 /// Whether each is kept after every schedule in which the runners wait.
 fn judge_beside<O: Observer>(
     alloc: Global,
-    at: &Search<'_>,
+    at: &Searched<'_>,
     rules: &[Program],
     seen: &SeenEnds,
     budget: &mut Budget<O>,
@@ -81,7 +81,7 @@ fn judge_beside<O: Observer>(
 /// The same of rules that are asked then.
 fn judge_when<O: Observer>(
     alloc: Global,
-    at: &Search<'_>,
+    at: &Searched<'_>,
     when: When,
     rules: &[Program],
     seen: &SeenEnds,
@@ -99,7 +99,7 @@ fn judge_when<O: Observer>(
 /// What is known of these rules, all of which are asked then: they are searched for in one walk, for which at most so many moves are made.
 fn judge_group<O: Observer>(
     alloc: Global,
-    at: &Search<'_>,
+    at: &Searched<'_>,
     when: When,
     rules: &[Rule],
     seen: &SeenEnds,
@@ -122,7 +122,7 @@ fn judge_group<O: Observer>(
 /// moves may be made as `budget` has left.
 fn judge_rules<O: Observer>(
     alloc: Global,
-    at: &Search<'_>,
+    at: &Searched<'_>,
     rules: &[Rule],
     seen: &SeenEnds,
     budget: &mut Budget<O>,
@@ -157,7 +157,7 @@ fn seen_if_waiting<'a>(waits: &[Wait], seen: &'a SeenEnds) -> Option<&'a SeenEnd
 /// The same, and it is said what that covers, of the whole world in the place of which this one is searched. These ends are seen.
 fn judge_seen<O: Audience>(
     alloc: Global,
-    at: &Search<'_>,
+    at: &Searched<'_>,
     whole: &World,
     rules: &[Rule],
     seen: &SeenEnds,
@@ -176,7 +176,7 @@ fn judge_seen<O: Audience>(
 /// The same.
 fn judge_and_tell<O: Audience>(
     alloc: Global,
-    at: &Search<'_>,
+    at: &Searched<'_>,
     whole: &World,
     rules: &[Rule],
     budget: &mut Budget<O>,
@@ -201,7 +201,7 @@ fn judge_in_either<O: Audience>(
     requires { IsReady rules.now begun.now }
     ensures { IfOk result (λ answers. AreFoundFrom waits.now rules.now (whole_place begun.now) begun.now.ends.items answers.items) }
 {
-    let whole = Search {
+    let whole = Searched {
         world: &begun.world,
         others: begun.others,
         ends: begun.ends.as_slice(),
@@ -212,7 +212,7 @@ fn judge_in_either<O: Audience>(
     match &begun.small {
         None => judge_and_tell(alloc, &whole, &begun.world, rules, budget),
         Some(small) => {
-            let at = Search {
+            let at = Searched {
                 world: small,
                 ..whole
             };

@@ -4,7 +4,7 @@ ghost use Rattle.stm_exploring.specs.Beginnings.{place_at};
 ghost use Rattle.stm_exploring.specs.Judging.{AreFoundPatiently};
 
 use crate::judging::{Answer, by_schedules};
-use crate::searching::Search;
+use crate::searching::Searched;
 use crate::seen_ends::SeenEnds;
 use std::alloc::{AllocError, Global};
 use stm_explore::{Budget, Observer, When, explore_waiting};
@@ -13,7 +13,7 @@ use stm_program::Program;
 /// Whether each of these rules, asked then, is kept after every schedule in which the runners wait, whose ends are seen.
 pub(crate) fn judge_waiting<O: Observer>(
     alloc: Global,
-    at: &Search<'_>,
+    at: &Searched<'_>,
     when: When,
     rules: &[Program],
     seen: &SeenEnds,

@@ -1,5 +1,5 @@
 -- The tables of words have the words that the readers know.
-use Rattle.std.proofs.Common.{◌≡◌, ◌||◌, ℕ, List, [], ◌∷◌, ◌++◌, map, Bool, false, is_some, is_ok, Some, arith, codes}
+use Rattle.std.proofs.Common.{rules, ◌≡◌, ◌||◌, ℕ, List, [], ◌∷◌, ◌++◌, map, Bool, false, cond, drop, is_some, is_ok, Some, arith, codes, refl}
 use Rattle.std.proofs.lemmas.Bool.Decides.{nat_tests}
 use Rattle.serde_json.specs.Data.{Data, Items}
 use Rattle.stm_json.specs.Outcome.{bad}
@@ -43,9 +43,35 @@ firsts word = grind (arith, nat_tests)
 pub tables : TablesAreTheReaders
 tables = (statements, expressions, conditions, firsts, levels, orders, compares)
 
+other : {A : Type 0} (b among : Bool) (x o e : A) → (among ≡ false → o ≡ e) → (b || among) ≡ false → cond b x o ≡ e
+other b among x o e rest none = grind (arith, rest)
+
 events : (d : Data) (word : List ℕ) (ds : Items) → is_among word event_words ≡ false → event_worded d (Some (word, ds)) ≡ bad Shape
 unfolding watcher_event
-events d word ds none = grind (arith, nat_tests)
+events d word ds = search (rules, other)
+
+watchers : (word : List ℕ) (ds : Items) → is_among word (drop 8 event_words) ≡ false → watcher_event word ds ≡ bad Shape
+unfolding watcher_event
+watchers word ds none = grind (arith, nat_tests)
+
+events2 : (d : Data) (word : List ℕ) (ds : Items) → is_among word event_words ≡ false → event_worded d (Some (word, ds)) ≡ bad Shape
+events2 d word ds none = grind (arith, nat_tests, watchers)
+
+events3 : (d : Data) (word : List ℕ) (ds : Items) → is_among word event_words ≡ false → event_worded d (Some (word, ds)) ≡ bad Shape
+unfolding watcher_event
+events3 d word ds =
+    other (same word (codes "start")) _ _ _ _
+    (other (same word (codes "step")) _ _ _ _
+    (other (same word (codes "txn")) _ _ _ _
+    (other (same word (codes "grant")) _ _ _ _
+    (other (same word (codes "keep")) _ _ _ _
+    (other (same word (codes "revoke")) _ _ _ _
+    (other (same word (codes "advance")) _ _ _ _
+    (other (same word (codes "compact")) _ _ _ _
+    (other (same word (codes "watch_key")) _ _ _ _
+    (other (same word (codes "watch_range")) _ _ _ _
+    (other (same word (codes "poll")) _ _ _ _
+    (other (same word (codes "cancel")) _ _ _ _ (λ none. refl))))))))))))
 
 operations : (word : List ℕ) (ds : Items) → is_among word operation_words ≡ false → operation_worded (Some (word, ds)) ≡ bad Shape
 operations word ds none = grind (arith, nat_tests)

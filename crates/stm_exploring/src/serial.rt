@@ -147,8 +147,9 @@ pub(crate) fn compare_scenario<O: Audience>(
     let mut begun = begin(alloc, scenario, &[], &mut budget.observer)?;
     let answer = compare_in_either(alloc, &begun, budget);
     if let Ok(found) = &answer {
+        let others = begun.others;
         let audience = &mut budget.observer;
-        tell_name(alloc, &mut begun.world, begun.others, found, audience);
+        tell_name(alloc, &mut begun.world, others, found, audience);
     }
     drop(begun);
     answer

@@ -1,6 +1,6 @@
 //! How the runs of programs ended: that a rule is always kept says little where they never did their work, or where it or they ask for keys that nobody
 //! puts.
-ghost use Rattle.stm_exploring.specs.Beginnings.{CanSearch};
+ghost use Rattle.stm_serial_search.specs.Search.{AreProgramsOf};
 
 use crate::aborting::tell_without_abort;
 use crate::asked_keys::{rule_word, tell_of_rules, tell_of_runners};
@@ -10,7 +10,6 @@ use crate::final_words::{AskedOutput, outputs_asked, wrong_ends};
 use crate::key_use::{KeyUse, VaryingRule, varying_rules};
 use crate::rules::{RuleAnswer, has_kept};
 use crate::run_texts::tell_texts;
-use crate::searching::Searched;
 use crate::seen_ends::{SeenEnds, never_words};
 use serde_json::Value as Json;
 use std::alloc::{AllocError, Global};
@@ -536,17 +535,15 @@ fn account_of<'a>(
 /// The account of no run, about rules.
 fn account_before<'a>(
     alloc: Global,
-    at: &Searched<'a>,
-    whole: &World,
+    world: &World,
+    others: &[WorldEvent],
+    programs: &'a [Program],
     answers: &'a [RuleAnswer],
     told: Told,
 ) -> Result<Account<'a>, AllocError> {
-    let mut keys = KeyUse::new(alloc, whole)?;
-    match note_keys(alloc, &mut keys, at.others, at.programs, answers) {
-        Ok(()) => {
-            let count = whole.runner_count();
-            account_of(alloc, count, keys, at.programs, answers, told)
-        }
+    let mut keys = KeyUse::new(alloc, world)?;
+    match note_keys(alloc, &mut keys, others, programs, answers) {
+        Ok(()) => account_of(alloc, world.runner_count(), keys, programs, answers, told),
         Err(_) => {
             drop(keys);
             Err(AllocError)
@@ -557,17 +554,19 @@ fn account_before<'a>(
 /// Makes an account, and says it. The orders are gone through in a world that stands for the whole one.
 fn make_account<O: Audience>(
     alloc: Global,
-    at: &Searched<'_>,
+    world: &World,
     whole: &World,
+    others: &[WorldEvent],
+    programs: &[Program],
     answers: &[RuleAnswer],
     seen: Option<&SeenEnds>,
     told: Told,
     audience: &mut O,
 ) -> Result<(), AllocError>
-    requires { CanSearch at.now }
+    requires { AreProgramsOf programs.now world.now.runners }
 {
-    let mut account = account_before(alloc, at, whole, answers, told)?;
-    go_through_orders(alloc, at.world, at.others, at.programs, &mut account)?;
+    let mut account = account_before(alloc, whole, others, programs, answers, told)?;
+    go_through_orders(alloc, world, others, programs, &mut account)?;
     if account.is_cut {
         return Err(AllocError);
     }
@@ -578,16 +577,20 @@ fn make_account<O: Audience>(
 /// were seen, and which keys the rules ask for that are not there in the whole world and that nothing puts. Or it says that an allocation failed for it.
 pub(crate) fn tell_account<O: Audience>(
     alloc: Global,
-    at: &Searched<'_>,
+    world: &World,
     whole: &World,
+    others: &[WorldEvent],
+    programs: &[Program],
     answers: &[RuleAnswer],
     seen: Option<&SeenEnds>,
     audience: &mut O,
 )
-    requires { CanSearch at.now }
+    requires { AreProgramsOf programs.now world.now.runners }
 {
     let told = told_of(audience.wants_all(), has_kept(answers));
-    if let Err(_) = make_account(alloc, at, whole, answers, seen, told, audience) {
+    if let Err(_) = make_account(
+        alloc, world, whole, others, programs, answers, seen, told, audience,
+    ) {
         audience.hear(NO_MEMORY);
     }
 }

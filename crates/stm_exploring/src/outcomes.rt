@@ -6,6 +6,7 @@ ghost use Rattle.stm_exploring.specs.Asking.{place_of, ends_of};
 ghost use Rattle.stm_exploring.specs.Beginnings.{IsReady, whole_place};
 ghost use Rattle.stm_exploring.specs.Questions.{AreGathered, AreListed, ArePrinted, Gathers, all_text, found_texts, gathered_text, printed_outcomes, verdict_of_outcomes};
 
+use crate::accounts::tell_account;
 use crate::advice::tell_if_open;
 use crate::audience::Audience;
 use crate::outcome_lines::{counted_text, each_line, each_witness};
@@ -143,6 +144,21 @@ fn gather_scenario<O: Audience>(
 {
     let begun = begin(alloc, scenario, &[], &mut budget.observer)?;
     let gathered = gather_in_either(alloc, &begun, budget);
+    if budget.observer.wants_all() {
+        let world = &begun.world;
+        let programs = begun.programs.as_slice();
+        let audience = &mut budget.observer;
+        tell_account(
+            alloc,
+            world,
+            world,
+            begun.others,
+            programs,
+            &[],
+            None,
+            audience,
+        );
+    }
     drop(begun);
     gathered
 }

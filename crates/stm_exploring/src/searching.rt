@@ -167,9 +167,16 @@ fn judge_seen<O: Audience>(
     ensures { IfOk result (λ answers. AreFoundThere at.now rules.now answers.items) }
 {
     let answers = judge_rules(alloc, at, rules, seen, budget)?;
-    let seen = seen_if_waiting(at.waits, seen);
-    let audience = &mut budget.observer;
-    tell_account(alloc, at, whole, answers.as_slice(), seen, audience);
+    tell_account(
+        alloc,
+        at.world,
+        whole,
+        at.others,
+        at.programs,
+        answers.as_slice(),
+        seen_if_waiting(at.waits, seen),
+        &mut budget.observer,
+    );
     Ok(answers)
 }
 

@@ -146,18 +146,10 @@ fn gather_scenario<O: Audience>(
     let gathered = gather_in_either(alloc, &begun, budget);
     if budget.observer.wants_all() {
         let world = &begun.world;
+        let others = begun.others;
         let programs = begun.programs.as_slice();
         let audience = &mut budget.observer;
-        tell_account(
-            alloc,
-            world,
-            world,
-            begun.others,
-            programs,
-            &[],
-            None,
-            audience,
-        );
+        tell_account(alloc, world, world, others, programs, &[], None, audience);
     }
     drop(begun);
     gathered

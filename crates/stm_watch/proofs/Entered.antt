@@ -155,10 +155,13 @@ pub quiet_more : (ws : List (Option Watcher)) (e : RangeEntry) (pages more : Lis
     → is_some x.reach.bounds ≡ false → least ≤ until → least ≤ x.reach.until → (HasEntry ws pages e → IsQuiet ws e until) → HasEntry ws more e → IsQuiet ws e least
 quiet_more ws e pages more x until least is nobody below here quiet any w at idle = elim (any-parts (StandsOn ws e) pages (x ∷ []) (subst (λ (l : List Page). HasEntry ws l e) is any)) [
   | inl before ↦ let le = quiet before w at idle in omega (arith, le, below)
-  | inr last ↦ elim last [ inl stands ↦ elim (stands.met w at idle) [
+  | inr last ↦ elim last [
+    | inl stands ↦ elim (stands.met w at idle) [
       | inl le ↦ omega (arith, le, here)
       | inr inside ↦ absurd (subst (IsInside e) (not_some x.reach.bounds nobody) inside)
-    ] | inr nothing ↦ absurd nothing ]
+    ]
+    | inr nothing ↦ absurd nothing
+  ]
 ]
 
 -- an entry of a group of which all pages are looked at for each change

@@ -107,7 +107,6 @@ module _ (h : History) (floor id most : ℕ) (old : List (Option Watcher)) (plac
 
   -- it is not lost
   module _ (not : is_lost floor w.first ≡ false) (stand : StandAll h floor old) where
-
     pub is_followed : IsFollowed h w
     is_followed = subst (Stands h floor) at (stands_at h floor old place stand) not
 

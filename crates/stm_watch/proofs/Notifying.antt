@@ -136,16 +136,11 @@ module _ (opening : Opening) (seen : ℕ) (watched : Watched) (changes : List Ch
   abbrev shown : List Event
   shown = events_above opening changes older
 
-  -- it is the newest
-  head_newest : (found : List Event) → matching watched shown ≡ found → pending_above opening seen watched older ≡ [] → nat_lt seen last ≡ true
-      → number_of_first (pending_of_revision last found) ≡ Some number → IsHead opening seen watched (changes ∷ older) number
-  head_newest found h2 none later first = grind (arith, nat_tests, same_Some, ltb-true, eq-eqb, nothing_above)
-
   head_by : (ts : List PendingRevision) → pending_above opening seen watched older ≡ ts
       → (number_of_first ts ≡ Some number → IsHead opening seen watched older number)
       → (b : Bool) → nat_lt seen last ≡ b → number_of_first (ts ++ last_part opening last watched changes older b) ≡ Some number
       → IsHead opening seen watched (changes ∷ older) number
-  head_by ts same before b later first = grind (arith, nat_tests, head_newest, lt-ltb)
+  head_by ts same before b later first = grind (arith, nat_tests, lt-ltb, same_Some, ltb-true, eq-eqb, nothing_above)
 
 pub head_is : (opening : Opening) (seen : ℕ) (watched : Watched) (revisions : List (List Change)) (number : ℕ)
     → number_of_first (pending_above opening seen watched revisions) ≡ Some number → IsHead opening seen watched revisions number

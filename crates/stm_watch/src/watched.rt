@@ -1,6 +1,6 @@
 //! What a watcher watches, and how far it has been notified.
 ghost use Rattle.std.specs.Prelude.{◌≡◌, ◌&&◌, nat_lt, Some};
-ghost use Rattle.stm_watch.specs.Keys.{is_watched, is_range};
+ghost use Rattle.stm_watch.specs.Keys.{is_watched, is_range, first_key};
 ghost use Rattle.stm_watch.specs.Places.{is_lost};
 
 use stm_keys::Text;
@@ -15,6 +15,16 @@ pub enum Watched {
 }
 
 impl Watched {
+    /// The key, or the first one of the range.
+    pub(crate) fn first_key(&self) -> &Text
+        ensures { result.now ≡ first_key self.now }
+    {
+        match self {
+            Watched::Key(key) => key,
+            Watched::Range { first, .. } => first,
+        }
+    }
+
     /// Whether a key is watched.
     pub fn has(&self, key: &Text) -> bool
         ensures { result ≡ is_watched self.now key.now }

@@ -12,11 +12,14 @@ use std::collections::VecDeque;
 use std::marker::Model;
 use stm_history::Text;
 
-/// How many short runs have a long one.
-const SHORT_RUNS: usize = 32;
+/// How many short runs have a long one, and how many long ones a longest one.
+const GROUP: usize = 16;
 
-/// Runs of revisions in the order in which they end. Behind each `SHORT_RUNS` short ones stands a long one of the same revisions, so that a search of few keys
-/// skips many revisions at once.
+/// How many places the runs of a longest one take, the long ones among them.
+const GROUP_OF_GROUPS: usize = 272;
+
+/// Runs of revisions in the order in which they end. Behind each `GROUP` short ones stands a long one of the same revisions, and behind each `GROUP` of these a
+/// longest one, so that a search of few keys skips many revisions at once.
 ///
 /// Contracts see each run by itself, and never how they lie: a search goes by what each run says of itself, and a wrong place costs time alone.
 #[derive(Debug)]
@@ -81,13 +84,13 @@ impl Runs {
         }
     }
 
-    /// Where the long run begins that is due: the short ones since the last long one are as many as one has.
-    fn long_from(&self) -> Option<u64> {
-        let count = self.runs.len();
-        if self.short_since < SHORT_RUNS || count < SHORT_RUNS {
+    /// Where the run begins that stands so many places before the end.
+    fn begin_of_last(&self, count: usize) -> Option<u64> {
+        let places = self.runs.len();
+        if count == 0 || places < count {
             return None;
         }
-        Some(self.runs[count - SHORT_RUNS].from())
+        Some(self.runs[places - count].from())
     }
 
     /// Adds the run above one revision, up to another that has come.
@@ -107,7 +110,52 @@ impl Runs {
         Ok(())
     }
 
-    /// Adds the short run above one revision, up to another that has come, and the long run that is due with it.
+    /// Adds the run of the revisions that the last runs have, up to one that has come.
+    fn add_over(
+        &mut self,
+        revisions: &Revisions,
+        below: u64,
+        upto: u64,
+        count: usize,
+    ) -> Result<(), AllocError>
+        requires { upto ≤ below + length revisions.now.items }
+        ensures { AllByRecursion (SumsUp below revisions.now.items) self.old → AllByRecursion (SumsUp below revisions.now.items) self.new }
+    {
+        match self.begin_of_last(count) {
+            Some(from) => self.push(revisions, below, from, upto),
+            None => Ok(()),
+        }
+    }
+
+    /// Adds the long run of the last short ones, where it is due.
+    fn add_long(&mut self, revisions: &Revisions, below: u64, upto: u64) -> Result<(), AllocError>
+        requires { upto ≤ below + length revisions.now.items }
+        ensures { AllByRecursion (SumsUp below revisions.now.items) self.old → AllByRecursion (SumsUp below revisions.now.items) self.new }
+    {
+        if self.short_since % GROUP != 0 {
+            return Ok(());
+        }
+        self.add_over(revisions, below, upto, GROUP)
+    }
+
+    /// Adds the longest run of the last long ones, where it is due.
+    fn add_longest(
+        &mut self,
+        revisions: &Revisions,
+        below: u64,
+        upto: u64,
+    ) -> Result<(), AllocError>
+        requires { upto ≤ below + length revisions.now.items }
+        ensures { AllByRecursion (SumsUp below revisions.now.items) self.old → AllByRecursion (SumsUp below revisions.now.items) self.new }
+    {
+        if self.short_since < GROUP * GROUP {
+            return Ok(());
+        }
+        self.short_since = 0;
+        self.add_over(revisions, below, upto, GROUP_OF_GROUPS)
+    }
+
+    /// Adds the short run above one revision, up to another that has come, and the longer ones that are due with it.
     pub(crate) fn add(
         &mut self,
         revisions: &Revisions,
@@ -120,10 +168,8 @@ impl Runs {
     {
         self.push(revisions, below, from, upto)?;
         self.short_since = self.short_since.saturating_add(1);
-        if let Some(start) = self.long_from() {
-            self.short_since = 0;
-            self.push(revisions, below, start, upto)?;
-        }
+        self.add_long(revisions, below, upto)?;
+        self.add_longest(revisions, below, upto)?;
         Ok(())
     }
 
@@ -157,8 +203,26 @@ impl Runs {
         }
     }
 
-    /// What is known of the revisions above one, of the keys of a range: by the long run that begins there, and else by the short one that has the next.
-    /// Nothing is known up to `asked`, of which it was asked already.
+    /// What a run at an index tells, and where it does not tell that none changes such a key, what a shorter one at another does.
+    fn ahead_at_either(
+        &self,
+        longer: usize,
+        shorter: usize,
+        passed: u64,
+        first: &Text,
+        end: &Text,
+    ) -> Ahead
+        ensures { (below : ℕ) (recorded : List (List Event)) → below ≤ passed → AllByRecursion (SumsUp below recorded) self.now →
+            IsAhead below recorded (is_between first.now end.now) passed result }
+    {
+        match self.ahead_at(longer, passed, first, end) {
+            Ahead::Idle(upto) => Ahead::Idle(upto),
+            _ => self.ahead_at(shorter, passed, first, end),
+        }
+    }
+
+    /// What is known of the revisions above one, of the keys of a range: by the longest run that begins there or a long one, and else by the short one that has
+    /// the next. Nothing is known up to `asked`, of which it was asked already.
     pub(crate) fn ahead(&self, passed: u64, asked: u64, first: &Text, end: &Text) -> Ahead
         ensures { (below : ℕ) (recorded : List (List Event)) → below ≤ passed → AllByRecursion (SumsUp below recorded) self.now →
             IsAhead below recorded (is_between first.now end.now) passed result }
@@ -167,9 +231,10 @@ impl Runs {
             return Ahead::Unknown(asked);
         }
         let index = self.runs.partition_point(|run| run.upto() <= passed);
-        match self.ahead_at(index.saturating_add(SHORT_RUNS), passed, first, end) {
+        let long = index.saturating_add(GROUP);
+        match self.ahead_at(index.saturating_add(GROUP_OF_GROUPS), passed, first, end) {
             Ahead::Idle(upto) => Ahead::Idle(upto),
-            _ => self.ahead_at(index, passed, first, end),
+            _ => self.ahead_at_either(long, index, passed, first, end),
         }
     }
 }

@@ -24,7 +24,7 @@ use Rattle.stm_events.specs.Replies.{store_after_call}
 use Rattle.stm_world.specs.Appended.{HasAppended}
 use Rattle.stm_world.specs.Sound.{IsSound}
 use Rattle.stm_world.specs.Task.{Task}
-use Rattle.stm_world.specs.World.{World, Runner, runner_at, start_runner, fetch, fetch_list, commit, step_live, step_runner, step_asked, make_call, step, world_after}
+use Rattle.stm_world.specs.World.{World, Runner, runner_at, start_runner, fetch, commit, step_live, step_runner, make_call, step, world_after}
 use Rattle.stm_world.proofs.Appending.{events_append}
 use Rattle.stm_world.proofs.Sound.{step_is_sound}
 use Rattle.stm_report.specs.RunHistory.{is_compaction, history_up_to, IsBehind, IsWhole}

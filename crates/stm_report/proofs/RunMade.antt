@@ -1,5 +1,5 @@
 -- Each revision of a world deletes only keys that were there: so it can be made again.
-use Rattle.std.proofs.Common.{◌≡◌, ℕ, ◌+◌, ◌≤◌, ◌<◌, Bool, true, false, cond, List, [], ◌∷◌, Ok, Err, refl, sym, ◌∙◌, ap, subst, arith}
+use Rattle.std.proofs.Common.{◌≡◌, ℕ, ◌+◌, ◌≤◌, ◌<◌, Bool, true, false, cond, List, [], ◌∷◌, Ok, Err, refl, sym, subst, arith}
 use Rattle.std.specs.Prelude.{Result}
 use Rattle.std.specs.List.{list_any}
 use Rattle.std.proofs.lemmas.Bool.Decides.{nat_tests}
@@ -24,7 +24,7 @@ use Rattle.stm_outcome.specs.declared.refusal.Refusal.TheVariants.{LeaseNotFound
 use Rattle.stm_outcome.specs.Branches.{changes_of_branch}
 use Rattle.stm_outcome.specs.Commits.{applied, effective, is_on_dead_lease}
 use Rattle.stm_outcome.specs.LookUps.{changes_copied}
-use Rattle.stm_outcome.specs.Outcome.{Done, outcome, with_changes, is_used_up, chosen}
+use Rattle.stm_outcome.specs.Outcome.{Done, outcome, with_changes, is_used_up}
 use Rattle.stm_outcome.specs.Compares.{first_failed}
 use Rattle.stm_outcome.specs.Terms.{Terms}
 use Rattle.stm_outcome.proofs.Applying.{IsDone, is_done, branch_run, chosen_apart}
@@ -36,7 +36,7 @@ use Rattle.stm_txn.proofs.Running.{deletes_present}
 use Rattle.stm_txn.proofs.Writing.{effective_distinct, effective_present}
 use Rattle.stm_entries.specs.declared.entry.Entry.{Entry}
 use Rattle.stm_entries.specs.declared.entry.Entry.TheVariants.{Program, Foreign, Grant, Renew, Revoke, Expire}
-use Rattle.stm_entries.specs.Replayed.{Replayed, replay_terms, opened_with, without_moment}
+use Rattle.stm_entries.specs.Replayed.{Replayed, replay_terms, opened_with}
 use Rattle.stm_entries.specs.Alone.{seen_at, history_left, left_by, left_by_run}
 use Rattle.stm_entries.specs.Replay.{replay, replay_entry}
 use Rattle.stm_world.specs.Sound.{IsSound}

@@ -1,8 +1,6 @@
 -- Keys from which nothing is dropped, beside a world.
-use Rattle.std.specs.Prelude.{◌≡◌, ◌≤◌, ◌+◌, ℕ, nat_eq, if◌then◌else◌, Bool, true, false, List, [], ◌∷◌}
-use Rattle.stm_history.specs.declared.change.Change.{Change}
-use Rattle.stm_history.specs.Opening.{Opening}
-use Rattle.stm_history.specs.History.{History, now, number_of_last, revisions_up_to}
+use Rattle.std.specs.Prelude.{◌≡◌, ◌≤◌, ◌+◌, ℕ, Bool, true, false}
+use Rattle.stm_history.specs.History.{History, now, revisions_up_to}
 use Rattle.stm_events.specs.declared.event.WorldEvent.{WorldEvent}
 use Rattle.stm_events.specs.declared.event.WorldEvent.TheVariants.{Compact}
 use Rattle.stm_world.specs.World.{World}

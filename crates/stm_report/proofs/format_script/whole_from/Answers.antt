@@ -10,8 +10,8 @@ use Rattle.stm_report.proofs.FormatRowLemmas.{one_reply}
 use Rattle.stm_report.proofs.RunHistories.{all_kept}
 use Rattle.stm_report.proofs.format_script.whole_from.Goals as goal
 
-pub run_with_history-replies-requires : goal.run_with_history-replies-requires
-run_with_history-replies-requires c = record {
+pub run_with_history-requires : goal.run_with_history-requires
+run_with_history-requires c = record {
   sound = c.requires.sound;
   whole = ap (λ (k : Contents). k.history) c.in_ok-keys.ensures ∙ c.keys.ensures.history ∙ ap (λ (s : Standing). s.history) c.store.ensures.standing
       ∙ all_kept c.args.world.now.standing c.requires.floor;
@@ -34,6 +34,6 @@ returns c =
     let history = c.in_ok-replies.ensures.whole.whole ∙ ap (λ (w : World). w.standing.history) world in
     subst (λ (n : ℕ). IfOk c.render_over.result (λ text. IsTextOver ended.standing.history n a.format a.labels.now ended a.events.now (replies_to a.events.now begun) text.items)) c.revision_of-since.ensures
     (subst (λ (h : History). IfOk c.render_over.result (λ text. IsTextOver h c.revision_of-since.result a.format a.labels.now ended a.events.now (replies_to a.events.now begun) text.items)) history
-    (subst (λ (w : World). IfOk c.render_over.result (λ text. IsTextOver c.run_with_history-replies.new.keys.history c.revision_of-since.result a.format a.labels.now w a.events.now (replies_to a.events.now begun) text.items)) world
-    (subst (λ (rs : List (Result Reply Denied)). IfOk c.render_over.result (λ text. IsTextOver c.run_with_history-replies.new.keys.history c.revision_of-since.result a.format a.labels.now c.run_with_history-replies.new.world a.events.now rs text.items)) replies
+    (subst (λ (w : World). IfOk c.render_over.result (λ text. IsTextOver c.run_with_history.new.whole.history c.revision_of-since.result a.format a.labels.now w a.events.now (replies_to a.events.now begun) text.items)) world
+    (subst (λ (rs : List (Result Reply Denied)). IfOk c.render_over.result (λ text. IsTextOver c.run_with_history.new.whole.history c.revision_of-since.result a.format a.labels.now c.run_with_history.new.world a.events.now rs text.items)) replies
     c.render_over.ensures)))

@@ -1,5 +1,4 @@
-use Rattle.std.proofs.Common.{◌≡◌, arith}
-use Rattle.stm_history.specs.History.{now}
+use Rattle.std.proofs.Common.{arith}
 use Rattle.stm_report.proofs.RunHistories.{kept_now, whole_at_last}
 use Rattle.stm_report.proofs.run_history.catch_up.Goals as goal
 

@@ -1,4 +1,4 @@
-use Rattle.std.proofs.Common.{◌≡◌, ◌+◌, ◌<◌, List, ◌++◌, length, drop, sym, ◌∙◌, ap, arith, Result}
+use Rattle.std.proofs.Common.{◌+◌, ◌<◌, List, ◌++◌, length, drop, sym, ◌∙◌, ap, arith, Result}
 use Rattle.stm_events.specs.declared.event.WorldEvent.{WorldEvent}
 use Rattle.stm_events.specs.declared.reply.Reply.{Reply}
 use Rattle.stm_events.specs.declared.refusal.Denied.{Denied}

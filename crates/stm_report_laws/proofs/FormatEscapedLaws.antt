@@ -1,13 +1,12 @@
 -- What stands escaped has none of the bytes that open or close an element or end an attribute.
-use Rattle.std.proofs.Common.{◌≡◌, ℕ, Bool, true, false, cond, List, [], ◌∷◌, ◌++◌, nat_eq, codes, refl, arith}
-use Rattle.std.proofs.lemmas.Bool.{or_from, or_parts, Decides.nat_tests}
+use Rattle.std.proofs.Common.{◌≡◌, ◌||◌, ℕ, Bool, true, false, cond, List, [], ◌∷◌, ◌++◌, nat_eq, codes, refl, arith}
+use Rattle.std.proofs.lemmas.Bool.{or_from, Decides.nat_tests}
 use Rattle.stm_formats.specs.FormatEscaped.{entity, escaped}
 use Rattle.stm_report_laws.specs.FormatLaws.{has, NothingUnescaped}
 
-pub has-append : (b : ℕ) (xs ys : List ℕ) → has b xs ≡ false → has b ys ≡ false → has b (xs ++ ys) ≡ false
-has-append b [] ys none more = more
-has-append b (x ∷ xs) ys none more =
-    or_from (nat_eq x b) (has b (xs ++ ys)) (or_parts (nat_eq x b) (has b xs) none).0 (has-append b xs ys (or_parts (nat_eq x b) (has b xs) none).1 more)
+pub has_both : (b : ℕ) (xs ys : List ℕ) → has b (xs ++ ys) ≡ (has b xs || has b ys)
+has_both b [] ys = refl
+has_both b (x ∷ xs) ys = grind (arith, has_both b xs ys)
 
 by_tests : (b x : ℕ) (amp less greater double single : Bool) (same : Bool)
     → has b (codes "&amp;") ≡ false → has b (codes "&lt;") ≡ false → has b (codes "&gt;") ≡ false → has b (codes "&quot;") ≡ false → has b (codes "&apos;") ≡ false
@@ -19,7 +18,7 @@ by_tests b x amp less greater double single same a l g d s other is = grind (ari
 escaped_without : (b : ℕ) → ((x : ℕ) → has b (entity x) ≡ false) → (text : List ℕ) → has b (escaped text) ≡ false
 unfolding escaped
 escaped_without b each [] = refl
-escaped_without b each (x ∷ xs) = has-append b (entity x) (escaped xs) (each x) (escaped_without b each xs)
+escaped_without b each (x ∷ xs) = grind (arith, has_both, each, escaped_without b each xs)
 
 greater_test : (greater amp less double single : Bool) → cond amp true (cond less true (cond greater true (cond double true (cond single true (cond greater false true))))) ≡ true
 greater_test greater amp less double single = grind arith

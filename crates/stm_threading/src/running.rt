@@ -301,18 +301,20 @@ fn run_scenario<R: Threads + Wait + Sync>(
     )
 }
 
-/// What is printed of the jobs of the scenario that bytes spell.
+/// What is printed of the jobs of the scenario that bytes spell, which are let go once they are read.
 fn run_bytes<R: Threads + Wait + Sync>(
     rt: &R,
     alloc: Global,
-    bytes: &[u8],
+    bytes: Vec<u8>,
     workers: usize,
     printing: Printing,
 ) -> Result<Printed, JobsFault>
     requires { (1 ≤ workers) × (workers ≤ MOST_WORKERS) }
-    ensures { Answers printing (scenario_in bytes.now) result }
+    ensures { Answers printing (scenario_in bytes.items) result }
 {
-    let scenario = read_scenario(alloc, bytes)?;
+    let read = read_scenario(alloc, bytes.as_slice());
+    drop(bytes);
+    let scenario = read?;
     run_scenario(rt, alloc, scenario, workers, printing)
 }
 
@@ -320,14 +322,14 @@ fn run_bytes<R: Threads + Wait + Sync>(
 fn run_and_write<R: Threads + Wait + Sync, W: Sink>(
     rt: &R,
     alloc: Global,
-    bytes: &[u8],
+    bytes: Vec<u8>,
     workers: usize,
     printing: Printing,
     sink: &mut W,
 ) -> Result<Sequence<JobEnd>, JobsFault>
     requires workers { (1 ≤ workers) × (workers ≤ MOST_WORKERS) }
     requires sink_works { W.failed sink.old ≡ false }
-    ensures { Writes printing bytes.now (W.held sink.old) (W.held sink.new) (W.failed sink.new) result }
+    ensures { Writes printing bytes.items (W.held sink.old) (W.held sink.new) (W.failed sink.new) result }
 {
     let printed = run_bytes(rt, alloc, bytes, workers, printing)?;
     match write_all(sink, printed.text.as_str().as_bytes()) {
@@ -365,7 +367,7 @@ pub fn run_jobs<R: Threads + Wait + Sync, S: Source, W: Sink>(
     ensures bounded { S.reads source.new ≤ S.reads source.old + MOST_READ }
 {
     match read_all(alloc, source) {
-        Ok(bytes) => run_and_write(rt, alloc, bytes.as_slice(), workers, printing, sink),
+        Ok(bytes) => run_and_write(rt, alloc, bytes, workers, printing, sink),
         Err(ReadFault::OutOfMemory) => Err(JobsFault::OutOfMemory),
         Err(ReadFault::Device) => Err(JobsFault::Read),
     }

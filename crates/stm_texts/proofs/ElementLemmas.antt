@@ -1,0 +1,78 @@
+-- Reading a scenario's elements one after the other.
+use Rattle.std.proofs.Common.{◌≡◌, ℕ, suc, ◌+◌, List, [], ◌∷◌, ◌++◌, length, Bool, true, Option, None, Some, Ok, Err, is_some, refl, sym, ap, ◌∙◌, append_assoc, append-nil, arith}
+use Rattle.json.specs.Token.{Token, begin_array}
+use Rattle.json.specs.Lex.{tokens}
+use Rattle.json.specs.Json as json
+use Rattle.json.specs.Json.{parse_map, items, value}
+use Rattle.json.proofs.Grammar.{value-begin_array}
+use Rattle.serde_json.specs.Data.{Data, array, Items, no_items, item}
+use Rattle.serde_json.specs.Read.{of_json, of_items, converted, read}
+use Rattle.serde_json.proofs.Reading.{converted-array, whole, whole_read, whole_and_more, whole_refused}
+use Rattle.stm_events.specs.declared.event.WorldEvent.{WorldEvent}
+use Rattle.stm_json.specs.declared.read_error.BadInput.{BadInput}
+use Rattle.stm_json.specs.Outcome.{Outcome, ◌>>=◌, within}
+use Rattle.stm_texts.specs.declared.elements.Listed.{Listed}
+use Rattle.stm_texts.specs.declared.elements.TheConstants.{DEPTH}
+use Rattle.stm_texts.specs.declared.scenario.Scenario.{Scenario}
+use Rattle.stm_texts.specs.Elements.{left_at, left_of, with_end}
+use Rattle.stm_texts.specs.Reading.{event_after, events_from, scenario_of, scenario_list, scenario_read}
+
+-- ---- one element
+
+-- behind a fault nothing changes what the elements come to
+stays_at : (fault : Option BadInput) (l : Listed) (ds es : Items) → is_some fault ≡ true → left_at fault l ds ≡ left_at fault l es
+stays_at None l ds es some = cc
+stays_at (Some fault) l ds es some = refl
+
+pub stays : (l : Listed) (ds es : Items) → is_some l.fault ≡ true → left_of l ds ≡ left_of l es
+unfolding left_of
+stays l ds es some = stays_at l.fault l ds es some
+
+add : Listed → List WorldEvent → List WorldEvent → Outcome Scenario
+add l front es = Ok (record { opening = l.opening; events = front ++ es })
+
+regrouped : (l : Listed) (front : List WorldEvent) (e : WorldEvent) (rest : Outcome (List WorldEvent))
+    → ((rest >>= λ es. Ok (e ∷ es)) >>= add l front) ≡ (rest >>= add l (front ++ e ∷ []))
+regrouped l front e (Ok es) = ap (λ (all : List WorldEvent). Ok (record { opening = l.opening; events = all })) (sym (append_assoc front (e ∷ []) es))
+regrouped l front e (Err fault) = refl
+
+-- one more event
+pub taken : (first : ℕ) (l : Listed) (front : List WorldEvent) (d : Data) (ds : Items) (e : WorldEvent)
+    → within (first + length front) (event_after (length front) d) ≡ Ok e
+    → (events_from first (length front) (item d ds) >>= add l front) ≡ (events_from first (suc (length front)) ds >>= add l (front ++ e ∷ []))
+unfolding events_from
+taken first l front d ds e is = rw is (regrouped l front e (events_from first (suc (length front)) ds))
+
+-- an element with a fault
+pub faulted : (first : ℕ) (l : Listed) (front : List WorldEvent) (d : Data) (ds : Items) (fault : BadInput)
+    → within (first + length front) (event_after (length front) d) ≡ Err fault
+    → (events_from first (length front) (item d ds) >>= add l front) ≡ Err fault
+unfolding events_from
+faulted first l front d ds fault is = rw is refl
+
+-- ---- the loop
+
+pub one_taken : (f g : Items → Outcome Scenario) (d : Data) → ((ds : Items) → f (item d ds) ≡ g ds)
+    → (r : Option (Items × List Token)) → parse_map f (parse_map (item d) r) ≡ parse_map g r
+one_taken f g d same None = refl
+one_taken f g d same (Some p) = ap (λ s. Some (s, p.1)) (same p.0)
+
+pub none_mapped : (f : Items → Outcome Scenario) (r : Option (Items × List Token)) → parse_map f r ≡ None → r ≡ None
+none_mapped f None h = refl
+none_mapped f (Some p) h = cc
+
+-- ---- the text
+
+list_read : (o : Option (json.Json × List Token)) (all : Option (Items × List Token)) → converted of_json o ≡ parse_map array all
+    → scenario_read (whole o) ≡ with_end (parse_map (λ ds. scenario_list (Some ds)) all)
+unfolding scenario_of
+list_read o None is = ap scenario_read (whole_refused o is)
+list_read o (Some (ds, [])) is = ap scenario_read (whole_read o (array ds) is)
+list_read o (Some (ds, t ∷ ts)) is = ap scenario_read (whole_and_more o (array ds) t ts is)
+
+-- a text that begins as a list
+pub text_of_list : (text : List ℕ) (ts : List Token) → tokens text ≡ begin_array ∷ ts
+    → scenario_read (read text) ≡ with_end (parse_map (λ ds. scenario_list (Some ds)) (converted of_items (items (value DEPTH) (length ts) ts)))
+text_of_list text ts is =
+    list_read (value 127 (tokens text)) (converted of_items (items (value DEPTH) (length ts) ts))
+    (ap (λ (us : List Token). converted of_json (value 127 us)) is ∙ ap (converted of_json) (value-begin_array 127 ts (omega arith)) ∙ converted-array (items (value DEPTH) (length ts) ts))

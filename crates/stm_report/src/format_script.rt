@@ -2,6 +2,8 @@
 ghost use Rattle.std.specs.Prelude.{◌≡◌, ◌≤◌, ◌+◌, false, length, IfOk};
 ghost use Rattle.stm_devices.specs.declared.transfer.TheConstants.{MOST_READ};
 ghost use Rattle.stm_history.specs.History.{now};
+ghost use Rattle.stm_json.specs.Returns.{Returns};
+ghost use Rattle.stm_texts.specs.Reading.{scenario_in};
 ghost use Rattle.stm_report.specs.FormatScript.{IsTextSince, IsTextFrom, IsRunText, Answers, Writes, DoesAs};
 
 use crate::format::Format;
@@ -106,7 +108,16 @@ fn run_report(
     text
 }
 
-/// The report of the scenario that bytes spell, which are let go once they are read.
+/// The scenario that bytes spell, which are let go once they are read.
+fn scenario_of(alloc: Global, bytes: Vec<u8>) -> Result<Scenario, ReadError>
+    ensures exact { Returns (λ s. s) result (scenario_in bytes.items) }
+{
+    let read = read_scenario(alloc, bytes.as_slice());
+    drop(bytes);
+    read
+}
+
+/// The report of the scenario that bytes spell.
 fn report_of(
     alloc: Global,
     format: Format,
@@ -115,9 +126,7 @@ fn report_of(
 ) -> Result<Vec<u8>, ScriptFault>
     ensures { Answers (λ v. v.items) format labels.now bytes.items result }
 {
-    let read = read_scenario(alloc, bytes.as_slice());
-    drop(bytes);
-    let scenario = match read {
+    let scenario = match scenario_of(alloc, bytes) {
         Ok(scenario) => scenario,
         Err(ReadError::OutOfMemory) => return Err(ScriptFault::OutOfMemory),
         Err(ReadError::Bad(fault)) => return Err(ScriptFault::Bad(fault)),

@@ -1,21 +1,27 @@
 -- Reading a scenario's elements one after the other.
-use Rattle.std.proofs.Common.{◌≡◌, ℕ, suc, ◌+◌, List, [], ◌∷◌, ◌++◌, length, Bool, true, Option, None, Some, Ok, Err, is_some, refl, sym, ap, ◌∙◌, append_assoc, append-nil, arith}
+use Rattle.std.proofs.Common.{◌≡◌, ℕ, suc, ◌+◌, List, [], ◌∷◌, ◌++◌, length, Bool, true, false, Option, None, Some, Ok, Err, is_some, refl, sym, ap, ◌∙◌, append_assoc, append-nil, arith}
+use Rattle.std.proofs.lemmas.List.{length_push}
 use Rattle.json.specs.Token.{Token, begin_array}
+use Rattle.json.specs.declared.token.Token.{Token as ReaderToken}
+use Rattle.json.specs.Reads.{Yields}
 use Rattle.json.specs.Lex.{tokens}
 use Rattle.json.specs.Json as json
 use Rattle.json.specs.Json.{parse_map, items, value}
 use Rattle.json.proofs.Grammar.{value-begin_array}
 use Rattle.serde_json.specs.Data.{Data, array, Items, no_items, item}
 use Rattle.serde_json.specs.Read.{of_json, of_items, converted, read}
-use Rattle.serde_json.proofs.Reading.{converted-array, whole, whole_read, whole_and_more, whole_refused}
+use Rattle.stm_texts.proofs.ValueLemmas.{converted-array, whole, whole_read, whole_and_more, whole_refused}
 use Rattle.stm_events.specs.declared.event.WorldEvent.{WorldEvent}
 use Rattle.stm_json.specs.declared.read_error.BadInput.{BadInput}
-use Rattle.stm_json.specs.Outcome.{Outcome, ◌>>=◌, within}
+use Rattle.stm_json.specs.Elements.{worded}
+use Rattle.stm_json.specs.declared.cause.Cause.TheVariants.{NotJson}
+use Rattle.stm_json.specs.Outcome.{Outcome, bad, ◌>>=◌, within}
+use Rattle.stm_txn.specs.Standing.{Setup}
 use Rattle.stm_texts.specs.declared.elements.Listed.{Listed}
 use Rattle.stm_texts.specs.declared.elements.TheConstants.{DEPTH}
 use Rattle.stm_texts.specs.declared.scenario.Scenario.{Scenario}
 use Rattle.stm_texts.specs.Elements.{left_at, left_of, with_end}
-use Rattle.stm_texts.specs.Reading.{event_after, events_from, scenario_of, scenario_list, scenario_read}
+use Rattle.stm_texts.specs.Reading.{event_after, events_from, begins, opening_of, scenario_after, scenario_of, scenario_list, scenario_read}
 
 -- ---- one element
 
@@ -28,7 +34,7 @@ pub stays : (l : Listed) (ds es : Items) → is_some l.fault ≡ true → left_o
 unfolding left_of
 stays l ds es some = stays_at l.fault l ds es some
 
-add : Listed → List WorldEvent → List WorldEvent → Outcome Scenario
+abbrev add : Listed → List WorldEvent → List WorldEvent → Outcome Scenario
 add l front es = Ok (record { opening = l.opening; events = front ++ es })
 
 regrouped : (l : Listed) (front : List WorldEvent) (e : WorldEvent) (rest : Outcome (List WorldEvent))
@@ -49,6 +55,46 @@ pub faulted : (first : ℕ) (l : Listed) (front : List WorldEvent) (d : Data) (d
     → (events_from first (length front) (item d ds) >>= add l front) ≡ Err fault
 unfolding events_from
 faulted first l front d ds fault is = rw is refl
+
+-- ---- what they leave
+
+pub one_event : (l m : Listed) (d : Data) (ds : Items) (e : WorldEvent) → l.fault ≡ None → m.fault ≡ None → m.first ≡ l.first → m.opening ≡ l.opening
+    → m.events.items ≡ l.events.items ++ e ∷ [] → within (l.first + length l.events.items) (event_after (length l.events.items) d) ≡ Ok e
+    → left_of l (item d ds) ≡ left_of m ds
+unfolding left_of
+one_event l m d ds e none still first opening events is =
+    let longer : length m.events.items ≡ suc (length l.events.items) = ap (λ (es : List WorldEvent). length es) events ∙ length_push l.events.items e ∙ omega arith in
+    rw (none, still, first, opening, longer, events) (taken l.first l l.events.items d ds e is)
+
+pub one_fault : (l m : Listed) (d : Data) (ds : Items) (fault : BadInput) → l.fault ≡ None → m.fault ≡ Some fault
+    → within (l.first + length l.events.items) (event_after (length l.events.items) d) ≡ Err fault → left_of l (item d ds) ≡ left_of m ds
+unfolding left_of
+one_fault l m d ds fault none found is = rw (none, found) (faulted l.first l l.events.items d ds fault is)
+
+pub finished : (l : Listed) → l.fault ≡ None → left_of l no_items ≡ Ok (record { opening = l.opening; events = l.events.items })
+unfolding left_of events_from
+finished l none = rw none (ap (λ (es : List WorldEvent). Ok (record { opening = l.opening; events = es })) (append-nil l.events.items))
+
+pub faulty : (l : Listed) (fault : BadInput) → l.fault ≡ Some fault → left_of l no_items ≡ Err fault
+unfolding left_of
+faulty l fault found = rw found refl
+
+-- ---- the first element
+
+pub unopened : (l : Listed) (d : Data) (ds : Items) → l.fault ≡ None → l.first ≡ 0 → l.opening ≡ None → l.events.items ≡ []
+    → begins (worded d) ≡ None → scenario_list (Some (item d ds)) ≡ left_of l (item d ds)
+unfolding left_of
+unopened l d ds none first opening events unbegun = rw (none, first, opening, events, unbegun) refl
+
+pub opened_with : (l : Listed) (named all ds : Items) (o : Setup) → l.fault ≡ None → l.first ≡ 1 → l.opening ≡ Some o → l.events.items ≡ []
+    → within 0 (opening_of named) ≡ Ok o → scenario_after (Some named) all ds ≡ left_of l ds
+unfolding left_of
+opened_with l named all ds o none first opening events is = rw (none, first, opening, events, is) refl
+
+pub opened_badly : (l : Listed) (named all ds : Items) (fault : BadInput) → l.fault ≡ Some fault → within 0 (opening_of named) ≡ Err fault
+    → scenario_after (Some named) all ds ≡ left_of l ds
+unfolding left_of
+opened_badly l named all ds fault found is = rw (found, is) refl
 
 -- ---- the loop
 
@@ -76,3 +122,15 @@ pub text_of_list : (text : List ℕ) (ts : List Token) → tokens text ≡ begin
 text_of_list text ts is =
     list_read (value 127 (tokens text)) (converted of_items (items (value DEPTH) (length ts) ts))
     (ap (λ (us : List Token). converted of_json (value 127 us)) is ∙ ap (converted of_json) (value-begin_array 127 ts (omega arith)) ∙ converted-array (items (value DEPTH) (length ts) ts))
+
+-- behind the list no token is left, or one
+
+pub none_left : (r : Option ReaderToken) (old new : List Token) (all : Option (Outcome Scenario × List Token)) (read : Outcome Scenario)
+    → Yields old r new → is_some r ≡ false → all ≡ Some (read, old) → with_end all ≡ read
+none_left None old new all read yields none is = rw (is, yields.0) refl
+none_left (Some t) old new all read yields none is = cc
+
+pub some_left : (r : Option ReaderToken) (old new : List Token) (all : Option (Outcome Scenario × List Token)) (read : Outcome Scenario)
+    → Yields old r new → is_some r ≡ true → all ≡ Some (read, old) → with_end all ≡ bad NotJson
+some_left None old new all read yields some is = cc
+some_left (Some t) old new all read yields some is = rw (is, yields) refl

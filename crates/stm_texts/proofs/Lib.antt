@@ -1,3 +1,4 @@
+pub mod ValueLemmas
 pub mod ElementLemmas
 pub mod EventLemmas
 pub mod NumberLemmas

@@ -3,13 +3,13 @@ use Rattle.std.proofs.Common.{◌≡◌, List, ℕ, [], ◌∷◌, Option, None,
 use Rattle.json.specs.Token.{Token, number as number_token}
 use Rattle.json.specs.Lex.{tokens}
 use Rattle.json.specs.Json.{value}
-use Rattle.json.specs.Print.{IsNumber, print_from}
+use Rattle.json.specs.Print.{IsNumber, ArePrintable, print_from}
 use Rattle.json.proofs.Printed.Tokens.{tokens-print}
 use Rattle.serde_json.specs.Data.{Num, number}
 use Rattle.serde_json.specs.Read.{read, number_of}
 
 number_tokens : (s : List ℕ) → IsNumber s → tokens s ≡ number_token s ∷ []
-unfolding print_from
+unfolding print_from ArePrintable
 number_tokens s is = ap tokens (sym (append-nil s)) ∙ tokens-print (number_token s ∷ []) (is, tt)
 
 pub number_read : (s : List ℕ) → IsNumber s → read s ≡ option_map number (number_of s)

@@ -5,7 +5,9 @@ ghost use Rattle.serde_json.specs.Data.{Items, no_items, item};
 ghost use Rattle.serde_json.specs.Read.{of_items, converted};
 ghost use Rattle.serde_json.specs.View.{view, items_view};
 ghost use Rattle.stm_texts.specs.Elements.{left_of};
-ghost use Rattle.stm_texts.specs.Reading.{scenario_after, scenario_list};
+ghost use Rattle.stm_json.specs.Outcome.{within as within_list};
+ghost use Rattle.stm_json.specs.Returns.{Returns};
+ghost use Rattle.stm_texts.specs.Reading.{opening_of, scenario_after, scenario_list};
 ghost use Rattle.stm_texts.specs.declared.elements.TheConstants.{DEPTH};
 ghost use Rattle.stm_texts.specs.declared.values.Unread.TheVariants.{NotJson, OutOfMemory};
 
@@ -79,13 +81,20 @@ fn take(alloc: Global, listed: &mut Listed, value: &Value) -> Result<(), Unread>
     }
 }
 
+/// What the store opens with, where the first element of a scenario names it with these elements.
+fn opening_at(alloc: Global, named: &[Value]) -> Result<Opening, ReadError>
+    ensures { Returns (λ o. o) result (within_list 0 (opening_of (items_view named.now))) }
+{
+    within(alloc, 0, opening(alloc, named))
+}
+
 /// What a first element that names an opening with these elements comes to.
 fn opened(alloc: Global, named: &[Value]) -> Result<Listed, Unread>
     ensures ok { IfOk result (λ l. (all ds : Items) → scenario_after (Some (items_view named.now)) all ds ≡ left_of l ds) }
     ensures first { IfOk result (λ l. l.first ≤ 1) }
     ensures err { IfErr result (λ e. e ≡ OutOfMemory) }
 {
-    match within(alloc, 0, opening(alloc, named)) {
+    match opening_at(alloc, named) {
         Ok(opening) => Ok(begun(alloc, Some(opening), 1, None)),
         Err(ReadError::Bad(fault)) => Ok(begun(alloc, None, 1, Some(fault))),
         Err(ReadError::OutOfMemory) => Err(Unread::OutOfMemory),

@@ -154,6 +154,7 @@ fn with_end(
 }
 
 /// The scenario that bytes spell, or their first fault.
+#[tactic(auto, unfolding(crate::specs::Reading::scenario_in))]
 fn scenario_of_bytes(alloc: Global, bytes: &[u8]) -> Result<Scenario, ReadError>
     ensures value { Returns (λ s. s) result (scenario_in bytes.now) }
 {

@@ -1,6 +1,7 @@
 //! From the bytes of a source to what is printed of its jobs in a sink.
 ghost use Rattle.std.specs.Prelude.{◌≡◌, ◌≤◌, ◌+◌, List, false, length, sum, string_bytes, Some, Ok, IfOk, IfErr, OnOk};
 ghost use Rattle.stm_devices.specs.declared.transfer.TheConstants.{MOST_READ};
+ghost use Rattle.stm_json.specs.Returns.{Returns};
 ghost use Rattle.stm_texts.specs.Reading.{scenario_in};
 ghost use Rattle.stm_txn.specs.Standing.{Setup};
 ghost use Rattle.stm_job_texts.specs.declared.store_call.StoreCall.{StoreCall};
@@ -301,7 +302,16 @@ fn run_scenario<R: Threads + Wait + Sync>(
     )
 }
 
-/// What is printed of the jobs of the scenario that bytes spell, which are let go once they are read.
+/// The scenario that bytes spell, which are let go once they are read.
+fn scenario_of(alloc: Global, bytes: Vec<u8>) -> Result<Scenario, ReadError>
+    ensures exact { Returns (λ s. s) result (scenario_in bytes.items) }
+{
+    let read = read_scenario(alloc, bytes.as_slice());
+    drop(bytes);
+    read
+}
+
+/// What is printed of the jobs of the scenario that bytes spell.
 fn run_bytes<R: Threads + Wait + Sync>(
     rt: &R,
     alloc: Global,
@@ -312,9 +322,7 @@ fn run_bytes<R: Threads + Wait + Sync>(
     requires { (1 ≤ workers) × (workers ≤ MOST_WORKERS) }
     ensures { Answers printing (scenario_in bytes.items) result }
 {
-    let read = read_scenario(alloc, bytes.as_slice());
-    drop(bytes);
-    let scenario = read?;
+    let scenario = scenario_of(alloc, bytes)?;
     run_scenario(rt, alloc, scenario, workers, printing)
 }
 

@@ -2,7 +2,7 @@ use Rattle.std.proofs.Common.{◌≡◌, ◌-◌, ◌<◌, ◌≤◌, length, No
 use Rattle.json.specs.Json.{parse_map, after_end_array, items, value}
 use Rattle.serde_json.specs.Read.{of_items, converted}
 use Rattle.serde_json.specs.View.{view}
-use Rattle.serde_json.proofs.Reading.{item_read, item_refused, items_over}
+use Rattle.stm_texts.proofs.ValueLemmas.{item_read, item_refused, items_over}
 use Rattle.stm_texts.specs.declared.elements.TheConstants.{DEPTH}
 use Rattle.stm_texts.specs.Elements.{left_of}
 use Rattle.stm_texts.proofs.ElementLemmas.{one_taken, none_mapped}

@@ -3,7 +3,7 @@ use Rattle.json.specs.Json.{items, members, value, parse_map}
 use Rattle.serde_json.specs.Data.{no_members}
 use Rattle.serde_json.specs.Read.{of_items, of_members, converted}
 use Rattle.serde_json.specs.View.{members_view}
-use Rattle.serde_json.proofs.Reading.{items_before}
+use Rattle.stm_texts.proofs.ValueLemmas.{items_before}
 use Rattle.stm_texts.proofs.values.+read.Given as goal
 
 abbrev pub decreases-read : goal.decreases-read

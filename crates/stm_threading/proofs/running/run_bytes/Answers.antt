@@ -11,7 +11,7 @@ use Rattle.stm_threading.proofs.running.run_bytes.Goals as goal
 pub returns-in_err-scenario : goal.returns-in_err-scenario
 returns-in_err-scenario g c =
     let p = err_from_is_err_and c.from_residual.result c.from_residual.ensures.1 in
-    let reading : Reading Scenario = scenario_in c.args.bytes.now in
+    let reading : Reading Scenario = scenario_in c.args.bytes.items in
     let fault = c.in_err-scenario.field-0.0 in
     answers_fault c.args.printing reading fault c.from_residual.result (judged_unread reading fault c.in_err-scenario.ensures.exact)
     (p.1 ∙ ap (λ (f : JobsFault). Err f) p.2)

@@ -3,7 +3,7 @@ use Rattle.stm_threading.proofs.running.run_jobs.Goals as goal
 
 pub returns-in-Ok-clause-done : goal.returns-in-Ok-clause-done
 returns-in-Ok-clause-done g c =
-    let did = rw c.as_slice.ensures.value at c.run_and_write.ensures in
+    let did = c.run_and_write.ensures in
     does_of c.args.printing (record {
       input = g.S.Source.left c.args.source.now;
       before = g.W.Sink.held c.args.sink.now;

@@ -1,5 +1,5 @@
 -- Reading a scenario's elements one after the other.
-use Rattle.std.proofs.Common.{◌≡◌, ℕ, suc, ◌+◌, List, [], ◌∷◌, ◌++◌, length, Bool, true, false, Option, None, Some, Ok, Err, is_some, refl, sym, ap, ◌∙◌, append_assoc, append-nil, arith}
+use Rattle.std.proofs.Common.{◌≡◌, ℕ, suc, ◌+◌, List, [], ◌∷◌, ◌++◌, length, Bool, true, false, Option, None, Some, Ok, Err, is_some, refl, sym, ap, subst, ◌∙◌, append_assoc, append-nil, arith}
 use Rattle.std.proofs.lemmas.List.{length_push}
 use Rattle.json.specs.Token.{Token, begin_array}
 use Rattle.json.specs.declared.token.Token.{Token as ReaderToken}
@@ -13,6 +13,9 @@ use Rattle.serde_json.specs.Read.{of_json, of_items, converted, read}
 use Rattle.stm_texts.proofs.ValueLemmas.{converted-array, whole, whole_read, whole_and_more, whole_refused}
 use Rattle.stm_events.specs.declared.event.WorldEvent.{WorldEvent}
 use Rattle.stm_json.specs.declared.read_error.BadInput.{BadInput}
+use Rattle.stm_json.specs.declared.read_error.ReadError.{ReadError}
+use Rattle.stm_json.specs.declared.read_error.ReadError.TheVariants.{OutOfMemory, Bad}
+use Rattle.stm_json.specs.Returns.{ReturnsFault}
 use Rattle.stm_json.specs.Elements.{worded}
 use Rattle.stm_json.specs.declared.cause.Cause.TheVariants.{NotJson}
 use Rattle.stm_json.specs.Outcome.{Outcome, bad, ◌>>=◌, within}
@@ -22,6 +25,11 @@ use Rattle.stm_texts.specs.declared.elements.TheConstants.{DEPTH}
 use Rattle.stm_texts.specs.declared.scenario.Scenario.{Scenario}
 use Rattle.stm_texts.specs.Elements.{left_at, left_of, with_end}
 use Rattle.stm_texts.specs.Reading.{event_after, events_from, begins, opening_of, scenario_after, scenario_of, scenario_list, scenario_read}
+
+-- the first fault that is reported
+pub reported : {A : Type 0} (e : ReadError) (fault : BadInput) (reading : Outcome A) → e ≡ Bad fault → ReturnsFault e reading → reading ≡ Err fault
+reported OutOfMemory fault reading is h = cc
+reported (Bad found) fault reading is h = let same : found ≡ fault = cc is in h ∙ ap (λ (f : BadInput). Err f) same
 
 -- ---- one element
 
@@ -58,18 +66,20 @@ faulted first l front d ds fault is = rw is refl
 
 -- ---- what they leave
 
-pub one_event : (l m : Listed) (d : Data) (ds : Items) (e : WorldEvent) → l.fault ≡ None → m.fault ≡ None → m.first ≡ l.first → m.opening ≡ l.opening
-    → m.events.items ≡ l.events.items ++ e ∷ [] → within (l.first + length l.events.items) (event_after (length l.events.items) d) ≡ Ok e
+pub one_event : (l m : Listed) (n : ℕ) (d : Data) (ds : Items) (e : WorldEvent) → n ≡ length l.events.items → l.fault ≡ None → m.fault ≡ None → m.first ≡ l.first → m.opening ≡ l.opening
+    → m.events.items ≡ l.events.items ++ e ∷ [] → within (l.first + n) (event_after n d) ≡ Ok e
     → left_of l (item d ds) ≡ left_of m ds
 unfolding left_of
-one_event l m d ds e none still first opening events is =
+one_event l m n d ds e count none still first opening events is =
     let longer : length m.events.items ≡ suc (length l.events.items) = ap (λ (es : List WorldEvent). length es) events ∙ length_push l.events.items e ∙ omega arith in
-    rw (none, still, first, opening, longer, events) (taken l.first l l.events.items d ds e is)
+    rw (none, still, first, opening, longer, events)
+    (taken l.first l l.events.items d ds e (subst (λ (k : ℕ). within (l.first + k) (event_after k d) ≡ Ok e) count is))
 
-pub one_fault : (l m : Listed) (d : Data) (ds : Items) (fault : BadInput) → l.fault ≡ None → m.fault ≡ Some fault
-    → within (l.first + length l.events.items) (event_after (length l.events.items) d) ≡ Err fault → left_of l (item d ds) ≡ left_of m ds
+pub one_fault : (l m : Listed) (n : ℕ) (d : Data) (ds : Items) (fault : BadInput) → n ≡ length l.events.items → l.fault ≡ None → m.fault ≡ Some fault
+    → within (l.first + n) (event_after n d) ≡ Err fault → left_of l (item d ds) ≡ left_of m ds
 unfolding left_of
-one_fault l m d ds fault none found is = rw (none, found) (faulted l.first l l.events.items d ds fault is)
+one_fault l m n d ds fault count none found is =
+    rw (none, found) (faulted l.first l l.events.items d ds fault (subst (λ (k : ℕ). within (l.first + k) (event_after k d) ≡ Err fault) count is))
 
 pub finished : (l : Listed) → l.fault ≡ None → left_of l no_items ≡ Ok (record { opening = l.opening; events = l.events.items })
 unfolding left_of events_from

@@ -193,8 +193,8 @@ unfolding scenario_in
 scenario_sound bytes s h = grind (arith, nat_tests, read_sound)
 
 opening_in_range : (d : Data) (opening : Setup) → SpellsOpening d opening → IsSetup opening
-opening_in_range d opening (inl (a, is, revision, limit)) = (revision.1, rw limit (omega arith, omega arith))
-opening_in_range d opening (inr (a, b, is, revision, limit)) = (revision.1, limit.1)
+opening_in_range d opening (inl (a, is, revision, limit)) = ((revision.1, revision.2), (omega (arith, limit), omega (arith, limit)))
+opening_in_range d opening (inr (a, b, is, revision, limit)) = ((revision.1, revision.2), (limit.1, limit.2))
 
 elements_open : (o : Option Setup) (ds : Items) (es : List WorldEvent) → SpellsElements ds o es → IsOpening o
 elements_open None ds es spells = tt
@@ -202,4 +202,4 @@ elements_open (Some opening) ds es (a, rest, is, spells, more) = opening_in_rang
 
 -- what a scenario opens with is in its ranges
 pub scenario_opens : (bytes : List ℕ) (s : Scenario) → SpellsScenario bytes s → IsOpening s.opening
-scenario_opens bytes s (short, d, is, ds, array, spells, few) = elements_open s.opening ds s.events spells
+scenario_opens bytes s (short, d, is, (ds, listed, spells, few)) = elements_open s.opening ds s.events spells

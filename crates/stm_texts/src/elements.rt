@@ -39,12 +39,7 @@ struct Listed {
 }
 
 /// Nothing but an opening, or the fault of one.
-fn begun(
-    alloc: Global,
-    opening: Option<Opening>,
-    first: usize,
-    fault: Option<BadInput>,
-) -> Listed
+fn begun(alloc: Global, opening: Option<Opening>, first: usize, fault: Option<BadInput>) -> Listed
     ensures opening { result.opening ≡ opening }
     ensures first { result.first ≡ first }
     ensures events { result.events.items ≡ [] }
@@ -128,6 +123,7 @@ fn take_rest(alloc: Global, listed: &mut Listed, reader: &mut Reader<'_>) -> Res
     'elements: while !reader.take_end_array() {
         let value = read(alloc, reader, DEPTH)?;
         take(alloc, listed, &value)?;
+        drop(value);
     }
     Ok(())
 }

@@ -1,5 +1,5 @@
 //! Reading scenarios.
-ghost use Rattle.std.specs.Prelude.{◌≡◌, ◌≤◌, Ok as OkOf, Err, List, Option, None, Some, length, option_map, IfOk, MatchResult};
+ghost use Rattle.std.specs.Prelude.{◌≡◌, ◌≤◌, Ok as OkOf, Err, List, Option, None, Some, length, option_map, IfOk, IsUtf8, MatchResult};
 ghost use Rattle.serde_json.specs.View.{view, items_view};
 ghost use Rattle.stm_json.specs.Elements.{worded, number_in};
 ghost use Rattle.json.specs.Token.{Token as TextToken};
@@ -115,7 +115,7 @@ fn scenario(alloc: Global, value: &Value) -> Result<Scenario, ReadError>
 #[tactic(auto, unfolding(crate::specs::Reading::scenario_in))]
 fn scenario_of_whole(alloc: Global, bytes: &[u8]) -> Result<Scenario, ReadError>
     requires { length bytes.now ≤ MOST_BYTES }
-    ensures value { Returns (λ s. s) result (scenario_in bytes.now) }
+    ensures { Returns (λ s. s) result (scenario_in bytes.now) }
 {
     match Value::from_slice(alloc, bytes) {
         Ok(value) => scenario(alloc, &value),
@@ -126,6 +126,16 @@ fn scenario_of_whole(alloc: Global, bytes: &[u8]) -> Result<Scenario, ReadError>
                 Err(fault(alloc, Cause::NotJson))
             }
         }
+    }
+}
+
+/// A scenario or the first fault of its elements, as what reading it answers.
+fn answered(read: Result<Scenario, BadInput>) -> Result<Scenario, ReadError>
+    ensures { Returns (λ s. s) result read }
+{
+    match read {
+        Ok(scenario) => Ok(scenario),
+        Err(fault) => Err(ReadError::Bad(fault)),
     }
 }
 
@@ -143,27 +153,20 @@ fn with_end(
             if reader.next().is_some() {
                 return Err(fault(alloc, Cause::NotJson));
             }
-            match read {
-                Ok(scenario) => Ok(scenario),
-                Err(fault) => Err(ReadError::Bad(fault)),
-            }
+            answered(read)
         }
         Err(Unread::NotJson) => Err(fault(alloc, Cause::NotJson)),
         Err(Unread::OutOfMemory) => Err(ReadError::OutOfMemory),
     }
 }
 
-/// The scenario that bytes spell, or their first fault.
-#[tactic(auto, unfolding(crate::specs::Reading::scenario_in))]
-fn scenario_of_bytes(alloc: Global, bytes: &[u8]) -> Result<Scenario, ReadError>
-    ensures value { Returns (λ s. s) result (scenario_in bytes.now) }
+/// The scenario that bytes spell, which are this text, or their first fault.
+fn scenario_of_text(alloc: Global, bytes: &[u8], text: &str) -> Result<Scenario, ReadError>
+    requires same { text.now ≡ bytes.now }
+    requires utf8 { IsUtf8 bytes.now }
+    requires short { length bytes.now ≤ MOST_BYTES }
+    ensures { Returns (λ s. s) result (scenario_in bytes.now) }
 {
-    if bytes.len() > MOST_BYTES {
-        return Err(fault(alloc, Cause::TooLong));
-    }
-    let Ok(text) = std::str::from_utf8(bytes) else {
-        return Err(fault(alloc, Cause::NotJson));
-    };
     let mut scratch = Scratch::new(alloc);
     let mut reader = Reader::new(text, &mut scratch)?;
     match reader.next() {
@@ -172,6 +175,20 @@ fn scenario_of_bytes(alloc: Global, bytes: &[u8]) -> Result<Scenario, ReadError>
             with_end(alloc, read, &mut reader)
         }
         _ => scenario_of_whole(alloc, bytes),
+    }
+}
+
+/// The scenario that bytes spell, or their first fault.
+#[tactic(auto, unfolding(crate::specs::Reading::scenario_in))]
+fn scenario_of_bytes(alloc: Global, bytes: &[u8]) -> Result<Scenario, ReadError>
+    ensures { Returns (λ s. s) result (scenario_in bytes.now) }
+{
+    if bytes.len() > MOST_BYTES {
+        return Err(fault(alloc, Cause::TooLong));
+    }
+    match std::str::from_utf8(bytes) {
+        Ok(text) => scenario_of_text(alloc, bytes, text),
+        Err(_) => Err(fault(alloc, Cause::NotJson)),
     }
 }
 

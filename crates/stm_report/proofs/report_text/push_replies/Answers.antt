@@ -16,7 +16,7 @@ events-preserved c =
     let number : l.number + 1 ≡ suc l.number = omega arith in
     record {
       text = rw (c.give_back.ensures, c.in_ok-take_event.ensures.text, c.in_ok-take_event.ensures.world, number)
-        (one_more c.args.form (string_bytes l.text) _ l.number (reverse l.left.items) (reverse after) e w all l.invariant.text);
+          (one_more c.args.form (string_bytes l.text) _ l.number (reverse l.left.items) (reverse after) e w all l.invariant.text);
       world = rw (c.give_back.ensures, c.in_ok-take_event.ensures.world) (ap (λ (events : List WorldEvent). world_after events w) (sym all) ∙ l.invariant.world);
       count = omega (arith, l.invariant.count);
     }

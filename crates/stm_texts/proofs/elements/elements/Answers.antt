@@ -1,5 +1,4 @@
 use Rattle.std.proofs.Common.{◌≡◌, ◌-◌, ◌<◌, ◌≤◌, length, None, Some, refl, sym, ap, ◌∙◌, arith}
-use Rattle.std.proofs.lemmas.Result.{IfOk-weaker}
 use Rattle.json.specs.Json.{parse_map, after_end_array, items, value}
 use Rattle.serde_json.specs.Data.{item}
 use Rattle.serde_json.specs.Read.{of_items, converted}
@@ -8,8 +7,16 @@ use Rattle.stm_texts.proofs.ValueLemmas.{item_read, item_refused, items_over}
 use Rattle.stm_texts.specs.declared.elements.TheConstants.{DEPTH}
 use Rattle.stm_texts.specs.Elements.{left_of}
 use Rattle.stm_texts.specs.Reading.{scenario_list}
-use Rattle.stm_texts.proofs.ElementLemmas.{one_taken}
+use Rattle.stm_texts.proofs.ElementLemmas.{one_taken, finished}
 use Rattle.stm_texts.proofs.elements.elements.Goals as goal
+
+pub returns-then-take_end_array-clause-ok : goal.returns-then-take_end_array-clause-ok
+returns-then-take_end_array-clause-ok c =
+    let ts = c.args.reader.now in
+    let r = c.take_end_array.new.self in
+    let begun = c.begun.ensures in
+    ap (parse_map (λ ds. scenario_list (Some ds))) (items_over (value DEPTH) (length ts) ts r (omega arith) (grind arith))
+    ∙ ap (λ s. Some (s, r)) (sym (c.finish.ensures ∙ finished c.begun.result begun.fault ∙ rw (begun.opening, begun.events) refl))
 
 pub returns-in_err-value-clause-err : goal.returns-in_err-value-clause-err
 returns-in_err-value-clause-err c refused =

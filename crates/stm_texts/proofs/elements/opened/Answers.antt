@@ -1,5 +1,6 @@
+use Rattle.std.proofs.Common.{arith}
 use Rattle.serde_json.specs.View.{items_view}
-use Rattle.stm_texts.proofs.ElementLemmas.{opened_with, opened_badly}
+use Rattle.stm_texts.proofs.ElementLemmas.{opened_with, opened_badly, reported}
 use Rattle.stm_texts.proofs.elements.opened.Goals as goal
 
 pub returns-in-Ok-clause-ok : goal.returns-in-Ok-clause-ok
@@ -9,4 +10,6 @@ returns-in-Ok-clause-ok c all ds =
 
 pub returns-in-Err-Bad-clause-ok : goal.returns-in-Err-Bad-clause-ok
 returns-in-Err-Bad-clause-ok c all ds =
-    opened_badly c.begun-in-Err-Bad.result (items_view c.args.named.now) all ds c.in-Err-Bad.fault c.begun-in-Err-Bad.ensures.fault c.in-Err-Bad.ensures
+    let bad = c.in-Err-Bad in
+    opened_badly c.begun-in-Err-Bad.result (items_view c.args.named.now) all ds bad.fault c.begun-in-Err-Bad.ensures.fault
+    (reported bad.field-0 bad.fault _ (grind arith) bad.ensures)

@@ -21,14 +21,14 @@ elements-preserved c =
     let r = c.read.new.reader in
     let less : length r < length l.reader = rw (← going.1) done.shorter in (
       (λ n enough.
-        let at = l.invariant.0 n enough in
-        let m = at.0 in
-        let turn = item_read p m l.reader r (view v) (omega (arith, at.1)) going.0 (rw (← going.1) done.ok) in (
-          m - 1,
-          omega (arith, at.1),
-          at.2 ∙ ap (parse_map (left_of l.listed)) turn
-              ∙ one_taken (left_of l.listed) (left_of c.take.new.listed) (view v) c.in_ok-take.ensures.ok (converted of_items (items p (m - 1) r)),
-        )),
+          let at = l.invariant.0 n enough in
+          let m = at.0 in
+          let turn = item_read p m l.reader r (view v) (omega (arith, at.1)) going.0 (rw (← going.1) done.ok) in (
+            m - 1,
+            omega (arith, at.1),
+            at.2 ∙ ap (parse_map (left_of l.listed)) turn
+                ∙ one_taken (left_of l.listed) (left_of c.take.new.listed) (view v) c.in_ok-take.ensures.ok (converted of_items (items p (m - 1) r)),
+          )),
       omega (arith, c.in_ok-take.ensures.first, l.invariant.1),
     )
 

@@ -15,22 +15,22 @@ pub returns-clause-spelled : goal.returns-clause-spelled
 returns-clause-spelled c =
     let bytes = c.args.bytes.now in
     reported_means (λ (s : Scenario). s) (SpellsScenario bytes) c.scenario_of_bytes.result (scenario_in bytes) (scenario_sound bytes)
-    c.scenario_of_bytes.ensures.value
+    c.scenario_of_bytes.ensures
 
 pub returns-clause-accepts : goal.returns-clause-accepts
 returns-clause-accepts c s spelled =
     let bytes = c.args.bytes.now in
     reported_reads (λ (x : Scenario). x) c.scenario_of_bytes.result (scenario_in bytes) (Ok s) (scenario_reads bytes s spelled)
-    c.scenario_of_bytes.ensures.value
+    c.scenario_of_bytes.ensures
 
 pub returns-clause-faults : goal.returns-clause-faults
 returns-clause-faults c =
     let bytes = c.args.bytes.now in
     reported_faults (λ (s : Scenario). s) (first_fault bytes) c.scenario_of_bytes.result (scenario_in bytes) (first_fault-is bytes)
-    c.scenario_of_bytes.ensures.value
+    c.scenario_of_bytes.ensures
 
 pub returns-clause-opening : goal.returns-clause-opening
 returns-clause-opening c =
     let bytes = c.args.bytes.now in
     reported_means (λ (s : Scenario). s) (λ s. IsOpening s.opening) c.scenario_of_bytes.result (scenario_in bytes)
-    (λ s is. scenario_opens bytes s (scenario_sound bytes s is)) c.scenario_of_bytes.ensures.value
+    (λ s is. scenario_opens bytes s (scenario_sound bytes s is)) c.scenario_of_bytes.ensures

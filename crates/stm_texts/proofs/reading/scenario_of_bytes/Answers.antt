@@ -1,15 +1,10 @@
-use Rattle.std.proofs.Common.{◌≡◌, ◌≤◌, ◌∷◌, List, Some, length, ap, sym, subst, ◌∙◌, arith}
-use Rattle.json.specs.Token.{begin_array}
-use Rattle.json.specs.Lex.{tokens}
-use Rattle.json.specs.Json.{parse_map, items, value}
-use Rattle.serde_json.specs.Read.{of_items, converted}
-use Rattle.stm_json.specs.Outcome.{Outcome}
-use Rattle.stm_json.specs.Returns.{Returns}
+use Rattle.std.proofs.Common.{◌≤◌, length, arith}
 use Rattle.stm_json.specs.declared.limits.TheConstants.{MOST_BYTES}
-use Rattle.stm_texts.specs.declared.elements.TheConstants.{DEPTH}
-use Rattle.stm_texts.specs.declared.scenario.Scenario.{Scenario}
-use Rattle.stm_texts.specs.Reading.{scenario_list, scenario_in}
-use Rattle.stm_texts.proofs.ElementLemmas.{text_of_list}
-use Rattle.stm_texts.proofs.ScenarioLemmas.{scenario_in-text, scenario_in-other}
+use Rattle.stm_texts.proofs.ScenarioLemmas.{scenario_in-other}
 use Rattle.stm_texts.proofs.reading.scenario_of_bytes.Goals as goal
 
+pub returns-in-Err : goal.returns-in-Err
+returns-in-Err c =
+    let short : length c.args.bytes.now ≤ MOST_BYTES = omega arith in
+    let other = scenario_in-other c.args.bytes.now short (λ utf8. absurd (c.in-Err.ensures.cases.0 utf8)) in
+    rw c.fault-in-Err.ensures other

@@ -1,11 +1,13 @@
 -- What a scenario's elements come to, read one after the other.
-use Rattle.std.specs.Prelude.{ℕ, List, [], ◌∷◌, ◌++◌, length, Option, Some, None, Ok, Err}
+use Rattle.std.specs.Prelude.{ℕ, List, [], ◌∷◌, ◌++◌, length, Bool, true, false, Option, Some, None, Ok, Err}
 use Rattle.serde_json.specs.Data.{Items}
 use Rattle.stm_events.specs.declared.event.WorldEvent.{WorldEvent}
 use Rattle.stm_json.specs.declared.read_error.BadInput.{BadInput}
 use Rattle.stm_json.specs.Outcome.{Outcome, bad, ◌>>=◌}
 use Rattle.stm_json.specs.declared.cause.Cause.TheVariants.{NotJson}
 use Rattle.json.specs.Token.{Token}
+use Rattle.json.specs.declared.token.Token.{Token as ReaderToken}
+use Rattle.json.specs.declared.token.Token.TheVariants.{BeginArray}
 use Rattle.stm_texts.specs.declared.elements.Listed.{Listed}
 use Rattle.stm_texts.specs.declared.scenario.Scenario.{Scenario}
 use Rattle.stm_texts.specs.Reading.{events_from}
@@ -23,3 +25,8 @@ abbrev pub with_end : Option (Outcome Scenario × List Token) → Outcome Scenar
 with_end None = bad NotJson
 with_end (Some (read, [])) = read
 with_end (Some (read, t ∷ ts)) = bad NotJson
+
+-- the token that begins a list comes next
+abbrev pub begins_list : Option ReaderToken → Bool
+begins_list (Some BeginArray) = true
+begins_list other = false

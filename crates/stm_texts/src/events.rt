@@ -1,8 +1,8 @@
 //! Reading events.
-ghost use Rattle.std.specs.Prelude.{◌<◌, ◌+◌, ◌^◌, length};
+ghost use Rattle.std.specs.Prelude.{◌<◌, ◌+◌, ◌^◌};
 ghost use Rattle.serde_json.specs.View.{view, items_view};
 ghost use Rattle.stm_texts.specs.Reading.{level_named, level_of, start_of, grant_of, number_alone, step_of, keep_of, revoke_of, advance_of, compact_of};
-ghost use Rattle.stm_texts.specs.Reading.{txn_event, event_of, event_after, events_from};
+ghost use Rattle.stm_texts.specs.Reading.{txn_event, event_of, event_after};
 ghost use Rattle.stm_json.specs.Elements.{number_up_to, one_of, two_of, three_of};
 ghost use Rattle.stm_json.specs.Outcome.{within as within_list};
 ghost use Rattle.stm_json.specs.Returns.{Returns};
@@ -190,21 +190,4 @@ pub(crate) fn event_at(
     ensures { Returns (λ e. e) result (within_list (first + before) (event_after before (view value.now))) }
 {
     within(alloc, first + before, next_event(alloc, before, value))
-}
-
-/// The events of a list whose first element has this index.
-pub(crate) fn events(
-    alloc: Global,
-    first: usize,
-    values: &[Value],
-) -> Result<Vec<WorldEvent>, ReadError>
-    requires { first + length values.now < 2 ^ 64 }
-    ensures { Returns (λ v. v.items) result (events_from first 0 (items_view values.now)) }
-{
-    let mut events = Vec::new(alloc);
-    for (before, value) in values.iter().enumerate() {
-        let event = event_at(alloc, first, before, value)?;
-        events.push(event)?;
-    }
-    Ok(events)
 }

@@ -1,10 +1,11 @@
 //! Reading scenarios.
-ghost use Rattle.std.specs.Prelude.{◌≡◌, ◌≤◌, Ok as OkOf, Err, List, Option, None, Some, length, option_map, IfOk, IsUtf8, MatchResult};
+ghost use Rattle.std.specs.Prelude.{◌≡◌, ◌≤◌, ◌∷◌, Ok as OkOf, Err, List, Option, None, Some, length, option_map, IfOk, IsUtf8, MatchResult};
 ghost use Rattle.serde_json.specs.View.{view, items_view};
 ghost use Rattle.stm_json.specs.Elements.{worded, number_in};
-ghost use Rattle.json.specs.Token.{Token as TextToken};
+ghost use Rattle.json.specs.Lex.{tokens};
+ghost use Rattle.json.specs.Token.{Token as TextToken, begin_array};
 ghost use Rattle.stm_json.specs.Outcome.{Outcome, within as within_outcome};
-ghost use Rattle.stm_texts.specs.Elements.{with_end};
+ghost use Rattle.stm_texts.specs.Elements.{begins_list, with_end};
 ghost use Rattle.stm_texts.specs.declared.scenario.Scenario.{Scenario};
 ghost use Rattle.stm_texts.specs.declared.values.Unread.TheVariants.{NotJson as UnreadText};
 ghost use Rattle.stm_outcome.specs.Terms.{most_operations};
@@ -14,16 +15,15 @@ ghost use Rattle.stm_json.specs.declared.limits.TheConstants.{MOST_BYTES};
 ghost use Rattle.stm_texts.specs.FirstFault.{first_fault};
 ghost use Rattle.stm_json.specs.Faults.{IsFirstFault};
 ghost use Rattle.stm_texts.specs.Grammar.{SpellsScenario};
-ghost use Rattle.stm_texts.specs.Reading.{begins, opening_of, scenario_of, scenario_in};
+ghost use Rattle.stm_texts.specs.Reading.{begins, opening_of, scenario_in};
 
 use crate::elements::elements;
-use crate::events::events;
 use crate::scenario::{Opening, Scenario};
 use crate::values::Unread;
 use json::{Reader, Scratch, Token};
 use serde_json::Value;
 use std::alloc::Global;
-use stm_history::{HIGHEST_REVISION, Sequence};
+use stm_history::HIGHEST_REVISION;
 use stm_json::{
     BadInput, Cause, MOST_BYTES, ReadError, fault, number_between, one, two, within, worded_array,
 };
@@ -78,47 +78,17 @@ pub(crate) fn opening(alloc: Global, elements: &[Value]) -> Result<Opening, Read
     Ok(Opening::new(revision, operations))
 }
 
-/// The scenario that a value spells.
-#[tactic(auto, unfolding(crate::specs::Reading::scenario_of))]
-fn scenario(alloc: Global, value: &Value) -> Result<Scenario, ReadError>
-    ensures value { Returns (λ s. s) result (scenario_of (view value.now)) }
-{
-    let Some(elements) = value.as_array() else {
-        return Err(fault(alloc, Cause::Shape));
-    };
-    let Some((first, rest)) = elements.split_first() else {
-        return Ok(Scenario {
-            opening: None,
-            events: Sequence::new(alloc),
-        });
-    };
-    match beginning(first) {
-        Some(named) => {
-            let opening = within(alloc, 0, opening(alloc, named))?;
-            let events = events(alloc, 1, rest)?;
-            Ok(Scenario {
-                opening: Some(opening),
-                events: Sequence::of(events),
-            })
-        }
-        None => {
-            let events = events(alloc, 0, elements)?;
-            Ok(Scenario {
-                opening: None,
-                events: Sequence::of(events),
-            })
-        }
-    }
-}
-
-/// The scenario of a text that is read whole, as one that is no list is.
-#[tactic(auto, unfolding(crate::specs::Reading::scenario_in))]
-fn scenario_of_whole(alloc: Global, bytes: &[u8]) -> Result<Scenario, ReadError>
-    requires { length bytes.now ≤ MOST_BYTES }
+/// The fault of bytes that do not begin as a list: they are not JSON, or another value.
+fn scenario_of_other(alloc: Global, bytes: &[u8]) -> Result<Scenario, ReadError>
+    requires short { length bytes.now ≤ MOST_BYTES }
+    requires other { (ts : List TextToken) → tokens bytes.now ≡ begin_array ∷ ts → ⊥ }
     ensures { Returns (λ s. s) result (scenario_in bytes.now) }
 {
     match Value::from_slice(alloc, bytes) {
-        Ok(value) => scenario(alloc, &value),
+        Ok(value) => {
+            drop(value);
+            Err(fault(alloc, Cause::Shape))
+        }
         Err(error) => {
             if error.is_memory() {
                 Err(ReadError::OutOfMemory)
@@ -127,6 +97,13 @@ fn scenario_of_whole(alloc: Global, bytes: &[u8]) -> Result<Scenario, ReadError>
             }
         }
     }
+}
+
+/// Whether a token begins a list.
+fn begins_list(token: &Option<Token<'_>>) -> bool
+    ensures { result ≡ begins_list token.now }
+{
+    matches!(token, Some(Token::BeginArray))
 }
 
 /// A scenario or the first fault of its elements, as what reading it answers.
@@ -169,13 +146,12 @@ fn scenario_of_text(alloc: Global, bytes: &[u8], text: &str) -> Result<Scenario,
 {
     let mut scratch = Scratch::new(alloc);
     let mut reader = Reader::new(text, &mut scratch)?;
-    match reader.next() {
-        Some(Token::BeginArray) => {
-            let read = elements(alloc, &mut reader);
-            with_end(alloc, read, &mut reader)
-        }
-        _ => scenario_of_whole(alloc, bytes),
+    let token = reader.next();
+    if !begins_list(&token) {
+        return scenario_of_other(alloc, bytes);
     }
+    let read = elements(alloc, &mut reader);
+    with_end(alloc, read, &mut reader)
 }
 
 /// The scenario that bytes spell, or their first fault.

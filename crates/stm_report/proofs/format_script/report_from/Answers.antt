@@ -23,5 +23,5 @@ returns-in_ok-lines_of_run-in-Json c =
     let events = c.args.events in
     let w : World = c.args.world.now in
     let lines = c.in_ok-lines_of_run-in-Json in
-    subst (λ (format : Format). IsTextFrom format c.args.labels.now w events c.into_bytes-2.result.items) (sym c.in-Json.is)
-    (ap (λ v. v.items) c.into_bytes-2.ensures.value ∙ lines.ensures)
+    subst (λ (format : Format). IsTextFrom format c.args.labels.now w events c.into_bytes-in-Json.result.items) (sym c.in-Json.is)
+    (ap (λ v. v.items) c.into_bytes-in-Json.ensures.value ∙ lines.ensures)

@@ -1,6 +1,6 @@
 -- What is read of a scenario is spelled by the bytes.
 use Rattle.std.proofs.Common.{◌≡◌, ℕ, suc, ◌+◌, ◌<◌, ◌≤◌, List, [], ◌∷◌, length, Bool, true, false, cond, ltb-true, Option}
-use Rattle.std.proofs.Common.{Some, None, Ok, refl, subst, arith, codes}
+use Rattle.std.proofs.Common.{Some, None, Ok, inl, inr, refl, subst, arith, codes}
 use Rattle.std.proofs.lemmas.Bool.Decides.{nat_tests}
 use Rattle.std.proofs.lemmas.Slice.Eq.{bytes_eq-Decides}
 use Rattle.serde_json.specs.Data.{Data, string, array, Items, no_items, item}
@@ -28,6 +28,7 @@ use Rattle.stm_texts.specs.Grammar.{level_text, SpellsNumbered, SpellsEvent, Spe
 use Rattle.stm_texts.specs.Reading.{level_named, level_of, start_of, grant_of, number_alone, step_of, keep_of, revoke_of, advance_of, compact_of, txn_event}
 use Rattle.stm_texts.specs.Reading.{watcher_event, event_worded, event_of, event_after, events_from, begins, opening_by, opening_of, scenario_after}
 use Rattle.stm_texts.specs.Reading.{scenario_list, scenario_of, scenario_read, scenario_in}
+use Rattle.stm_texts.specs.Opens.{IsSetup, IsOpening}
 use Rattle.stm_texts.proofs.WatcherSound.{watcher_sound}
 
 -- ---- levels
@@ -190,3 +191,15 @@ read_sound bytes s o short e h = grind (arith, nat_tests, list_sound)
 pub scenario_sound : (bytes : List ℕ) (s : Scenario) → scenario_in bytes ≡ Ok s → SpellsScenario bytes s
 unfolding scenario_in
 scenario_sound bytes s h = grind (arith, nat_tests, read_sound)
+
+opening_in_range : (d : Data) (opening : Setup) → SpellsOpening d opening → IsSetup opening
+opening_in_range d opening (inl (a, is, revision, limit)) = ((revision.1, revision.2), (omega (arith, limit), omega (arith, limit)))
+opening_in_range d opening (inr (a, b, is, revision, limit)) = ((revision.1, revision.2), (limit.1, limit.2))
+
+elements_open : (o : Option Setup) (ds : Items) (es : List WorldEvent) → SpellsElements ds o es → IsOpening o
+elements_open None ds es spells = tt
+elements_open (Some opening) ds es (a, rest, is, spells, more) = opening_in_range a opening spells
+
+-- what a scenario opens with is in its ranges
+pub scenario_opens : (bytes : List ℕ) (s : Scenario) → SpellsScenario bytes s → IsOpening s.opening
+scenario_opens bytes s (short, d, is, (ds, listed, spells, few)) = elements_open s.opening ds s.events spells

@@ -1,4 +1,7 @@
+pub mod ValueLemmas
+pub mod ElementLemmas
 pub mod EventLemmas
+pub mod NumberLemmas
 pub mod Fronts
 pub mod ScenarioLemmas
 pub mod WatcherFaults

@@ -21,3 +21,7 @@ scenario_in-json bytes d short utf8 is = scenario_in-short bytes short ∙ rw (i
 -- anything else
 pub scenario_in-other : (bytes : List ℕ) → length bytes ≤ MOST_BYTES → (IsUtf8 bytes → read bytes ≡ None) → scenario_in bytes ≡ bad NotJson
 scenario_in-other bytes short none = grind (arith, nat_tests, scenario_in-short, IsUtf8-from_is_utf8)
+
+-- text, JSON or not
+pub scenario_in-text : (bytes : List ℕ) → length bytes ≤ MOST_BYTES → IsUtf8 bytes → scenario_in bytes ≡ scenario_read (read bytes)
+scenario_in-text bytes short utf8 = scenario_in-short bytes short ∙ rw (is_utf8-from_IsUtf8 bytes utf8) refl

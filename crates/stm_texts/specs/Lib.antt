@@ -1,3 +1,4 @@
+pub mod Elements
 pub mod FirstFault
 pub mod Grammar
 pub mod Opens

@@ -180,7 +180,7 @@ fn next_event(alloc: Global, before: usize, value: &Value) -> Result<WorldEvent,
 }
 
 /// The same, with its faults placed in the list, where the event stands at the index `first + before`.
-fn event_at(
+pub(crate) fn event_at(
     alloc: Global,
     first: usize,
     before: usize,

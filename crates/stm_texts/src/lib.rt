@@ -3,10 +3,12 @@
 //! `specs/Reading.antt` has what is read of JSON data, and `specs/Writing.antt` the data that are written. No line has a number that is not whole.
 #![tactic(auto)]
 
+mod elements;
 mod events;
 mod laws;
 mod reading;
 mod scenario;
+mod values;
 mod watchers;
 mod written_events;
 mod written_lists;

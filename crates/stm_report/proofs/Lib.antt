@@ -7,3 +7,4 @@ pub mod FormatScriptLemmas
 pub mod FormatMembers
 pub mod WholeLineLemmas
 pub mod WholeJudgingLemmas
+pub mod RunLines

@@ -2,14 +2,18 @@
 ghost use Rattle.std.specs.Prelude.{◌≡◌, ◌≤◌, ◌+◌, false, length, IfOk};
 ghost use Rattle.stm_devices.specs.declared.transfer.TheConstants.{MOST_READ};
 ghost use Rattle.stm_history.specs.History.{now};
+ghost use Rattle.stm_json.specs.Returns.{Returns};
+ghost use Rattle.stm_texts.specs.Reading.{scenario_in};
 ghost use Rattle.stm_report.specs.FormatScript.{IsTextSince, IsTextFrom, IsRunText, Answers, Writes, DoesAs};
 
 use crate::format::Format;
-use crate::report_text::{report, report_objects};
+use crate::line_form::LineForm;
+use crate::report_text::{lines_of_run, report, report_objects};
 use crate::run_script::ScriptFault;
 use std::alloc::{AllocError, Global};
 use stm_devices::{ReadFault, Sink, Source, read_all, write_all};
 use stm_formats::{RunnerLabel, html_from, svg_from, text_from};
+use stm_history::Sequence;
 use stm_retry::{Denied, Reply, World, WorldEvent};
 use stm_texts::{ReadError, Scenario, opens_with, read_scenario};
 
@@ -45,8 +49,8 @@ pub fn revision_of(world: &World) -> u64
     world.store().keys().revision()
 }
 
-/// The report of what a world replies to these events.
-fn report_from(
+/// The report of what a world replies to these events, for which all of these are at hand.
+fn drawn_from(
     alloc: Global,
     format: Format,
     labels: &[RunnerLabel],
@@ -70,26 +74,47 @@ fn report_from(
     }
 }
 
+/// The report of what a world replies to these events. One of lines is written as they are taken.
+fn report_from(
+    alloc: Global,
+    format: Format,
+    labels: &[RunnerLabel],
+    world: &mut World,
+    events: Sequence<WorldEvent>,
+) -> Result<Vec<u8>, AllocError>
+    ensures { IfOk result (λ text. IsTextFrom format labels.now world.old events text.items) }
+{
+    match format {
+        Format::Lines => Ok(lines_of_run(alloc, LineForm::Array, world, events)?.into_bytes()),
+        Format::Json => Ok(lines_of_run(alloc, LineForm::Object, world, events)?.into_bytes()),
+        _ => drawn_from(alloc, format, labels, world, events.as_slice()),
+    }
+}
+
 /// The report of a scenario's run.
 fn run_report(
     alloc: Global,
     format: Format,
     labels: &[RunnerLabel],
-    scenario: &Scenario,
+    scenario: Scenario,
 ) -> Result<Vec<u8>, AllocError>
-    ensures { IfOk result (λ text. IsRunText format labels.now scenario.now text.items) }
+    ensures { IfOk result (λ text. IsRunText format labels.now scenario text.items) }
 {
-    let opening = opens_with(scenario.opening);
+    let Scenario { opening, events } = scenario;
+    let opening = opens_with(opening);
     let mut world = World::with_limits(alloc, opening.revision(), opening.operations())?;
-    let text = report_from(
-        alloc,
-        format,
-        labels,
-        &mut world,
-        scenario.events.as_slice(),
-    );
+    let text = report_from(alloc, format, labels, &mut world, events);
     drop(world);
     text
+}
+
+/// The scenario that bytes spell, which are let go once they are read.
+fn scenario_of(alloc: Global, bytes: Vec<u8>) -> Result<Scenario, ReadError>
+    ensures exact { Returns (λ s. s) result (scenario_in bytes.items) }
+{
+    let read = read_scenario(alloc, bytes.as_slice());
+    drop(bytes);
+    read
 }
 
 /// The report of the scenario that bytes spell.
@@ -97,16 +122,16 @@ fn report_of(
     alloc: Global,
     format: Format,
     labels: &[RunnerLabel],
-    bytes: &[u8],
+    bytes: Vec<u8>,
 ) -> Result<Vec<u8>, ScriptFault>
-    ensures { Answers (λ v. v.items) format labels.now bytes.now result }
+    ensures { Answers (λ v. v.items) format labels.now bytes.items result }
 {
-    let scenario = match read_scenario(alloc, bytes) {
+    let scenario = match scenario_of(alloc, bytes) {
         Ok(scenario) => scenario,
         Err(ReadError::OutOfMemory) => return Err(ScriptFault::OutOfMemory),
         Err(ReadError::Bad(fault)) => return Err(ScriptFault::Bad(fault)),
     };
-    match run_report(alloc, format, labels, &scenario) {
+    match run_report(alloc, format, labels, scenario) {
         Ok(text) => Ok(text),
         Err(_) => Err(ScriptFault::OutOfMemory),
     }
@@ -117,11 +142,11 @@ fn write_report<W: Sink>(
     alloc: Global,
     format: Format,
     labels: &[RunnerLabel],
-    bytes: &[u8],
+    bytes: Vec<u8>,
     sink: &mut W,
 ) -> Result<(), ScriptFault>
     requires { W.failed sink.old ≡ false }
-    ensures { Writes format labels.now bytes.now (W.held sink.old) (W.held sink.new) (W.failed sink.new) result }
+    ensures { Writes format labels.now bytes.items (W.held sink.old) (W.held sink.new) (W.failed sink.new) result }
 {
     let text = report_of(alloc, format, labels, bytes)?;
     match write_all(sink, text.as_slice()) {
@@ -156,7 +181,7 @@ pub fn script_as<S: Source, W: Sink>(
     ensures bounded { S.reads source.new ≤ S.reads source.old + MOST_READ }
 {
     match read_all(alloc, source) {
-        Ok(bytes) => write_report(alloc, format, labels, bytes.as_slice(), sink),
+        Ok(bytes) => write_report(alloc, format, labels, bytes, sink),
         Err(ReadFault::OutOfMemory) => Err(ScriptFault::OutOfMemory),
         Err(ReadFault::Device) => Err(ScriptFault::Read),
     }

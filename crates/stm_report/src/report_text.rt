@@ -1,11 +1,13 @@
 //! Reports, in the forms that are lines of JSON.
-ghost use Rattle.std.specs.Prelude.{◌≡◌, ◌++◌, false, map, IfOk, OnOk, string_bytes};
+ghost use Rattle.std.specs.Prelude.{◌≡◌, ◌++◌, List, length, reverse, false, map, IfOk, OnOk, string_bytes};
 ghost use Rattle.serde_json.specs.View.{view};
 ghost use Rattle.serde_json.specs.Written.{has_float};
 ghost use Rattle.stm_history.specs.History.{key_now};
 ghost use Rattle.stm_leases.specs.Live.{Live};
 ghost use Rattle.stm_entries.specs.LiveLeases.{HasLeases};
-ghost use Rattle.stm_check.specs.StoreLines.{key_lines_of, key_lines, lease_lines};
+ghost use Rattle.stm_check.specs.StoreLines.{key_lines_of, key_lines, lease_lines, end_lines};
+ghost use Rattle.stm_world.specs.World.{step, world_after, replies_to};
+ghost use Rattle.stm_events.specs.declared.line.ReportLine.{ReportLine};
 ghost use Rattle.stm_events.specs.declared.line.ReportLine.TheVariants as lines;
 ghost use Rattle.stm_report.specs.Forms.{formed, formed_data, formed_text, json_text};
 ghost use Rattle.stm_report.specs.Report.{event_lines, report_of, IsReport};
@@ -17,10 +19,10 @@ use serde_json::Value as Json;
 use std::alloc::{AllocError, Global};
 use std::collections::BTreeMap;
 use stm_entries::LiveLease;
-use stm_history::KeyState;
+use stm_history::{KeyState, Sequence};
 use stm_journal::present_keys;
 use stm_report_lines::{end_json, event_json, key_json, lease_json, push_line};
-use stm_retry::{Denied, Reply, Store, World};
+use stm_retry::{Denied, Reply, Store, World, WorldEvent, is_out_of_memory};
 
 /// Adds a line in a form, as an object with its elements under these names.
 fn push_formed(
@@ -162,6 +164,26 @@ fn push_leases(
     Ok(())
 }
 
+/// Adds the lines of what a world has, behind those of its events.
+fn push_standing(
+    alloc: Global,
+    text: &mut String,
+    form: LineForm,
+    world: &World,
+) -> Result<(), AllocError>
+    ensures { OnOk result ((events : List ReportLine) → string_bytes text.old ≡ formed_text form events
+        → string_bytes text.new ≡ formed_text form (events ++ end_lines world.now.standing (length world.now.entries))) }
+{
+    let present = present_keys(alloc, world.store().keys())?;
+    let leases = live_leases(alloc, world.history())?;
+    push_keys(alloc, text, form, world.store(), present.as_slice())?;
+    push_leases(alloc, text, form, &leases)?;
+    let revision = world.store().keys().revision();
+    let entries = world.history().len() as u64;
+    push_end(alloc, text, form, revision, entries)?;
+    Ok(())
+}
+
 /// The lines of the report of a world and its replies in a form.
 fn written(
     alloc: Global,
@@ -171,20 +193,79 @@ fn written(
 ) -> Result<String, AllocError>
     ensures { IfOk result (λ text. string_bytes text ≡ formed_text form (report_of world.now replies.now).lines) }
 {
-    let present = present_keys(alloc, world.store().keys())?;
-    let leases = live_leases(alloc, world.history())?;
     let mut text = String::new(alloc);
     push_events(alloc, &mut text, form, replies)?;
-    push_keys(alloc, &mut text, form, world.store(), present.as_slice())?;
-    push_leases(alloc, &mut text, form, &leases)?;
-    let revision = world.store().keys().revision();
-    push_end(
-        alloc,
-        &mut text,
-        form,
-        revision,
-        world.history().len() as u64,
-    )?;
+    push_standing(alloc, &mut text, form, world)?;
+    Ok(text)
+}
+
+/// Makes the step of an event, and adds the line of the reply. The event and the reply are let go.
+fn take_event(
+    alloc: Global,
+    text: &mut String,
+    form: LineForm,
+    world: &mut World,
+    number: u64,
+    event: WorldEvent,
+) -> Result<(), AllocError>
+    ensures text { OnOk result (string_bytes text.new
+        ≡ string_bytes text.old ++ formed form (lines.Event number (step event world.old).reply)) }
+    ensures world { OnOk result (world.new ≡ (step event world.old).next) }
+{
+    let reply = world.step(&event);
+    if is_out_of_memory(&reply) {
+        return Err(AllocError);
+    }
+    push_event(alloc, text, form, number, &reply)?;
+    Ok(())
+}
+
+/// Gives back the memory of events that were taken out of a list, each time that so many were.
+fn give_back(events: &mut Vec<WorldEvent>, taken: u64)
+    ensures { events.new.items ≡ events.old.items }
+{
+    if taken % 1024 == 0 {
+        events.shrink_to_fit();
+    }
+}
+
+/// Takes these events, of which the last one comes first, and adds the line of each reply.
+fn push_replies(
+    alloc: Global,
+    text: &mut String,
+    form: LineForm,
+    world: &mut World,
+    events: Vec<WorldEvent>,
+) -> Result<(), AllocError>
+    ensures text { OnOk result (string_bytes text.new
+        ≡ string_bytes text.old ++ formed_text form (event_lines 1 (replies_to (reverse events.items) world.old))) }
+    ensures world { OnOk result (world.new ≡ world_after (reverse events.items) world.old) }
+{
+    let mut left = events;
+    let mut number = 0;
+    'events: while let Some(event) = left.pop() {
+        number += 1;
+        take_event(alloc, text, form, world, number, event)?;
+        give_back(&mut left, number);
+    }
+    Ok(())
+}
+
+/// The lines of the report of what a world replies to these events, in a form.
+pub(crate) fn lines_of_run(
+    alloc: Global,
+    form: LineForm,
+    world: &mut World,
+    events: Sequence<WorldEvent>,
+) -> Result<String, AllocError>
+    ensures { IfOk result (λ text. string_bytes text
+        ≡ formed_text form (report_of (world_after events world.old) (replies_to events world.old)).lines) }
+{
+    let mut left = events.into_vec();
+    left.reverse();
+    let mut text = String::new(alloc);
+    push_replies(alloc, &mut text, form, world, left)?;
+    push_standing(alloc, &mut text, form, world)?;
     Ok(text)
 }
 

@@ -1,27 +1,27 @@
-use Rattle.std.proofs.Common.{◌≡◌, ℕ, List, Result, IfOk, length, ap, sym, subst, ◌∙◌}
-use Rattle.stm_events.specs.declared.reply.Reply.{Reply}
-use Rattle.stm_events.specs.declared.refusal.Denied.{Denied}
+use Rattle.std.proofs.Common.{◌≡◌, List, ℕ, IfOk, IsUtf8, sym, ap, ◌∙◌, subst, string_bytes}
+use Rattle.std.proofs.lemmas.Str.{IsUtf8-string_bytes}
+use Rattle.stm_events.specs.declared.event.WorldEvent.{WorldEvent}
 use Rattle.stm_world.specs.World.{World, world_after, replies_to}
-use Rattle.stm_report.specs.FormatScript.{IsTextSince}
-use Rattle.stm_report.proofs.FormatRowLemmas.{one_reply}
+use Rattle.stm_report.specs.declared.format.Format.{Format}
+use Rattle.stm_report.specs.FormatScript.{IsTextFrom}
+use Rattle.stm_report.specs.Report.{IsReport, report_of}
+use Rattle.stm_report.proofs.LineLoops.{array_text}
 use Rattle.stm_report.proofs.format_script.report_from.Goals as goal
 
-pub render-requires : goal.render-requires
-render-requires c =
-    let events = c.args.events.now in
-    let begun : World = c.args.world.now in
-    let replies : c.as_slice.result.now ≡ replies_to events begun = c.as_slice.ensures.value ∙ c.in-Ok.ensures.replies in
-    sym (ap (λ (rs : List (Result Reply Denied)). length rs) replies ∙ one_reply events begun)
+pub returns-in_ok-lines_of_run-in-Lines : goal.returns-in_ok-lines_of_run-in-Lines
+returns-in_ok-lines_of_run-in-Lines c =
+    let events = c.args.events in
+    let w : World = c.args.world.now in
+    let lines = c.in_ok-lines_of_run-in-Lines in
+    let bytes : c.into_bytes.result.items ≡ string_bytes lines.field-0 = ap (λ v. v.items) c.into_bytes.ensures.value in
+    subst (λ (format : Format). IsTextFrom format c.args.labels.now w events c.into_bytes.result.items) (sym c.in-Lines.is)
+    (subst (λ (text : List ℕ). IsReport (world_after events w) (replies_to events w) text × IsUtf8 text) (sym bytes)
+    (lines.ensures ∙ array_text (report_of (world_after events w) (replies_to events w)).lines, IsUtf8-string_bytes lines.field-0))
 
-pub returns-in-Ok : goal.returns-in-Ok
-returns-in-Ok c =
-    let events = c.args.events.now in
-    let begun : World = c.args.world.now in
-    let format = c.args.format in
-    let labels = c.args.labels.now in
-    let world : c.run.new.self ≡ world_after events begun = c.in-Ok.ensures.ok in
-    let replies : c.as_slice.result.now ≡ replies_to events begun = c.as_slice.ensures.value ∙ c.in-Ok.ensures.replies in
-    subst (λ (n : ℕ). IfOk c.render.result (λ text. IsTextSince n format labels (world_after events begun) events (replies_to events begun) text.items)) c.revision_of-since.ensures
-    (subst (λ (w : World). IfOk c.render.result (λ text. IsTextSince c.revision_of-since.result format labels w events (replies_to events begun) text.items)) world
-    (subst (λ (rs : List (Result Reply Denied)). IfOk c.render.result (λ text. IsTextSince c.revision_of-since.result format labels c.run.new.self events rs text.items)) replies
-    c.render.ensures))
+pub returns-in_ok-lines_of_run-in-Json : goal.returns-in_ok-lines_of_run-in-Json
+returns-in_ok-lines_of_run-in-Json c =
+    let events = c.args.events in
+    let w : World = c.args.world.now in
+    let lines = c.in_ok-lines_of_run-in-Json in
+    subst (λ (format : Format). IsTextFrom format c.args.labels.now w events c.into_bytes-in-Json.result.items) (sym c.in-Json.is)
+    (ap (λ v. v.items) c.into_bytes-in-Json.ensures.value ∙ lines.ensures)

@@ -1,5 +1,4 @@
-use Rattle.std.proofs.Common.{◌≡◌, List, IfOk, ap, subst, ◌∙◌}
-use Rattle.stm_events.specs.declared.event.WorldEvent.{WorldEvent}
+use Rattle.std.proofs.Common.{◌≡◌, IfOk, ap, subst, ◌∙◌}
 use Rattle.stm_world.specs.World.{World, opened}
 use Rattle.stm_report.specs.FormatScript.{IsTextFrom, IsRunText}
 use Rattle.stm_report.proofs.format_script.run_report.Goals as goal
@@ -8,12 +7,10 @@ use Rattle.stm_texts.specs.Opens.{setup_at, setup_of}
 pub returns : goal.returns
 unfolding IsRunText
 returns c =
-    let s = c.args.scenario.now in
+    let s = c.args.scenario in
     let format = c.args.format in
     let labels = c.args.labels.now in
     let begun : World = opened (setup_of s.opening) in
     let opens : c.in_ok-world.world ≡ begun = c.in_ok-world.ensures
     ∙ ap opened (ap (λ r. setup_at r c.operations.result) c.revision.ensures.same ∙ c.operations.ensures.whole ∙ c.opens_with-opening.ensures.setup) in
-    subst (λ (w : World). IfOk c.report_from-text.result (λ text. IsTextFrom format labels w s.events text.items)) opens
-    (subst (λ (events : List WorldEvent). IfOk c.report_from-text.result (λ text. IsTextFrom format labels c.in_ok-world.world events text.items))
-    c.as_slice.ensures c.report_from-text.ensures)
+    subst (λ (w : World). IfOk c.report_from-text.result (λ text. IsTextFrom format labels w s.events text.items)) opens c.report_from-text.ensures

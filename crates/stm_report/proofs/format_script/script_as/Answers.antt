@@ -3,7 +3,7 @@ use Rattle.stm_report.proofs.format_script.script_as.Goals as goal
 
 pub returns-in-Ok-clause-done : goal.returns-in-Ok-clause-done
 returns-in-Ok-clause-done g c =
-    let did = rw c.as_slice.ensures.value at c.write_report.ensures in
+    let did = c.write_report.ensures in
     DoesAs-from_Writes c.args.format c.args.labels.now (record {
       input = g.S.Source.left c.args.source.now;
       before = g.W.Sink.held c.args.sink.now;

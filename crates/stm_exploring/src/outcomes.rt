@@ -9,6 +9,7 @@ ghost use Rattle.stm_exploring.specs.Asking.{place_of, ends_of};
 ghost use Rattle.stm_exploring.specs.Narrowing.{StandsFor};
 ghost use Rattle.stm_exploring.specs.Questions.{AreGathered, AreListed, ArePrinted, Gathers, all_text, found_texts, gathered_text, printed_outcomes, verdict_of_outcomes};
 
+use crate::accounts::tell_account;
 use crate::advice::tell_if_open;
 use crate::audience::{Audience, tell_parts};
 use crate::narrowing::narrowed;
@@ -159,6 +160,10 @@ fn gather_from<O: Audience>(
     let small = narrowed(alloc, world, setup, others, programs, &[])?;
     let gathered = gather_in_either(alloc, &small, world, others, ends.as_slice(), budget);
     drop(small);
+    if budget.observer.wants_all() {
+        let audience = &mut budget.observer;
+        tell_account(alloc, world, world, others, programs, &[], None, audience);
+    }
     gathered
 }
 

@@ -55,9 +55,6 @@ place_on s list node i h =
       number = refl;
     }
 
-pub holds_at : (s : Lists ℕ) (node : ℕ) (place : Place ℕ) → StandsAt s node place → Holds (entries_at s place.list) node place.value
-holds_at s node place stands = grind (arith, nat_tests, holds-right)
-
 pub node_on : (s : Lists ℕ) (list node i : ℕ) → Holds (entries_at s list) node i → HasNode s node
 node_on s list node i h = let on = place_on s list node i h in (on.place, on.stands)
 

@@ -1,19 +1,21 @@
 -- Keys in the order of their bytes, and the bounds of ranges.
-use Rattle.std.proofs.Common.{◌≡◌, ◌⊎◌, ◌<◌, ℕ, Bool, true, false, ◌&&◌, ◌||◌, List, ap, ◌∙◌, arith}
+use Rattle.std.proofs.Common.{◌≡◌, ◌⊎◌, ◌<◌, ℕ, Bool, true, false, ◌&&◌, ◌||◌, List, [], ◌∷◌, ◌++◌, Option, None, Some, refl, ap, subst, ◌∙◌, arith}
 use Rattle.std.specs.Prelude.{nat_lt}
 use Rattle.std.proofs.Math.Bool.{or-true}
 use Rattle.std.proofs.lemmas.Bool.{lt-ltb, Decides.nat_tests}
-use Rattle.std.proofs.lemmas.Cmp.{nat_list_cmp_total}
+use Rattle.std.proofs.lemmas.Cmp.{nat_list_cmp_total, nat_cmp_total}
+use Rattle.std.proofs.lemmas.Slice.Eq.{bytes_eq-Decides}
 use Rattle.std.specs.Cmp.{tied_itself}
 use Rattle.std.specs.Cmp.Lexicographic.{slice_cmp}
 use Rattle.std.specs.declared.cmp.Ordering.{Ordering}
-use Rattle.std.specs.Ordering.{nat_cmp, is_lt, is_le, is_gt, ordering_reverse}
+use Rattle.std.specs.Ordering.{nat_cmp, is_lt, is_le, is_gt, ordering_reverse, ordering_then}
 use Rattle.stm_watch.specs.declared.page.Bounds.{Bounds}
 use Rattle.stm_watch.specs.declared.page.RangeEntry.{RangeEntry}
 use Rattle.stm_watch.specs.declared.page.Reach.{Reach}
-use Rattle.stm_watch.specs.declared.watched.Watched.TheVariants.{Range}
-use Rattle.stm_watch.specs.Keys.{is_watched}
-use Rattle.stm_watch.specs.Pages.{IsWithin}
+use Rattle.stm_watch.specs.declared.watched.Watched.{Watched}
+use Rattle.stm_watch.specs.declared.watched.Watched.TheVariants.{Key, Range}
+use Rattle.stm_watch.specs.Keys.{is_watched, first_key}
+use Rattle.stm_watch.specs.Pages.{IsInside, IsWithin, HasAll, end_of, may_have}
 
 -- ---- one comparison
 
@@ -58,8 +60,29 @@ pub within_wider : (e : RangeEntry) (old new : Bounds) → is_le (slice_cmp nat_
     → IsWithin e old → IsWithin e new
 within_wider e old new lower higher within = grind (arith, nat_tests, le_chain)
 
+inside_has : (e : RangeEntry) (bounds : Option Bounds) (key : List ℕ) → IsInside e bounds → is_watched (Range e.first e.end) key ≡ true
+    → may_have bounds key ≡ true
+inside_has e None key inside has = absurd inside
+inside_has e (Some bounds) key inside has = in_bounds e bounds key inside has
+
 -- a page is looked at for a range within its bounds, and where the revision is past those of the bounds
 pub is_concerned : (e : RangeEntry) (reach : Reach) (revision : ℕ) (key : List ℕ) → is_watched (Range e.first e.end) key ≡ true
-    → (reach.until < revision) ⊎ IsWithin e reach.bounds
-    → (nat_lt reach.until revision || is_watched (Range reach.bounds.low reach.bounds.high) key) ≡ true
-is_concerned e reach revision key has looked = grind (arith, nat_tests, lt-ltb, in_bounds, or-true)
+    → (reach.until < revision) ⊎ IsInside e reach.bounds → (nat_lt reach.until revision || may_have reach.bounds key) ≡ true
+is_concerned e reach revision key has looked = grind (arith, nat_tests, lt-ltb, inside_has, or-true)
+
+-- ---- a range of one key
+
+then_less : (x : ℕ) (r : Ordering) → is_lt r ≡ true → is_lt (ordering_then (nat_cmp x x) r) ≡ true
+then_less x r lt = ap (λ o. is_lt (ordering_then o r)) (tied_itself nat_cmp_total x) ∙ lt
+
+below_longer : (key : List ℕ) (last : ℕ) → is_lt (slice_cmp nat_cmp key (key ++ last ∷ [])) ≡ true
+below_longer [] last = refl
+below_longer (x ∷ key) last = then_less x (slice_cmp nat_cmp key (key ++ last ∷ [])) (below_longer key last)
+
+-- a range has all keys that it is made for
+pub has_its_own : (watched : Watched) (place : ℕ)
+    → HasAll (let e : RangeEntry = record { first = first_key watched; end = end_of watched; place = place } in e) watched
+has_its_own (Range first end) place key is = is
+has_its_own (Key k) place key is =
+    subst (λ (l : List ℕ). is_watched (Range k (k ++ 0 ∷ [])) l ≡ true) ((bytes_eq-Decides k key).0 is)
+    (ap (λ b. b && is_lt (slice_cmp nat_cmp k (k ++ 0 ∷ []))) (le_itself k) ∙ below_longer k 0)

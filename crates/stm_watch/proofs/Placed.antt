@@ -113,9 +113,6 @@ module _ (h : History) (floor id most : ℕ) (old : List (Option Watcher)) (plac
     pub is_followed : IsFollowed h w
     is_followed = subst (Stands h floor) at (stands_at h floor old place stand) not
 
-    pub can_be_polled : IsOk (poll h id most (seen_at floor old))
-    can_be_polled = subst IsOk (sym polled_is) refl
-
     lost_same : is_lost floor (first_pending h (after_poll most h (followed w))) ≡ is_lost floor w.first
     lost_same = polled_not_lost floor most h (followed w) (ap (is_lost floor) (sym is_followed) ∙ not) ∙ sym not
 

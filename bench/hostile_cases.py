@@ -187,6 +187,20 @@ def late_ranges_from_the_past(part):
 
 
 @case()
+def ranges_before_a_large_revision(part):
+    """A lease with 588,800 keys that is revoked, and 90,000 watchers, from that revision on, of the range that has the last of them."""
+    scenario = Scenario()
+    count = int(4600 * part)
+    scenario.add(["grant", 1, 5])
+    for number in range(0, count * 128, 128):
+        scenario.add(txn(*(put(f"{place:05x}", "", 1) for place in range(number, number + 128))))
+    scenario.add(["revoke", 1])
+    last = f"{count * 128 - 1:05x}"
+    scenario.add(*[["watch_range", last, last + "0", count + 2]] * int(90000 * part))
+    return scenario.text()
+
+
+@case()
 def leases_before_ranges(part):
     """33,000 leases with a key each that expire at once, before as many watchers of ranges of one key each, all polled."""
     scenario = Scenario()

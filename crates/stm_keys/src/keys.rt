@@ -10,7 +10,7 @@ ghost use Rattle.stm_history.specs.History.{History, opened_at, now, add_revisio
 ghost use Rattle.stm_keys.specs.CanOpen.{can_open};
 ghost use Rattle.stm_keys.specs.Events.{event_of, events_of, event_about, key_of_event, after_event, AreApart};
 ghost use Rattle.stm_keys.specs.Chains.{versions_in, with_version, no_versions, StandFirst, KeepsPresent, is_left, names_of};
-ghost use Rattle.stm_keys.specs.NextChange.{first_change, changes_any, is_between, next_change, next_change_between};
+ghost use Rattle.stm_keys.specs.NextChange.{is_between, next_change, next_change_between};
 ghost use Rattle.stm_keys.specs.Runs.{IsPassed};
 ghost use Rattle.stm_keys.specs.Keys.{key_read, DeletePresent, HasSmallNumbers, ListsPresent, with_floor, without_up_to, compacted_at};
 

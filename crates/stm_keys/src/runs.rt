@@ -1,11 +1,11 @@
 //! The runs that searches of ranges skip.
 ghost use Rattle.std.specs.Prelude.{◌≡◌, ◌<◌, ◌≤◌, ◌+◌, [], List, ℕ, length, IfOk, IsTrue};
 ghost use Rattle.std.specs.List.{AllByRecursion};
+ghost use Rattle.stm_keys.specs.declared.event.Event.{Event};
 ghost use Rattle.stm_keys.specs.NextChange.{is_between};
 ghost use Rattle.stm_keys.specs.Runs.{SumsUp, IsAhead};
 
 use crate::chains::Revisions;
-use crate::event::Event;
 use crate::run::{Ahead, Run, sum_of};
 use std::alloc::{AllocError, Global};
 use std::collections::VecDeque;

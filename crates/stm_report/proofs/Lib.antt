@@ -5,6 +5,9 @@ pub mod LiveLeases
 pub mod FormatRowLemmas
 pub mod FormatScriptLemmas
 pub mod FormatMembers
+pub mod RunRevisions
+pub mod RunMade
+pub mod RunHistories
 pub mod WholeLineLemmas
 pub mod WholeJudgingLemmas
 pub mod RunLines

@@ -133,6 +133,19 @@ impl Store {
         reported_poll(polled)
     }
 
+    /// A poll, without a preparation of its search.
+    fn poll_prepared(&mut self, id: u64, most: u64) -> Result<Batch, Refusal>
+        ensures step { Returns (polled self.old.standing id most) result self.new.standing }
+        ensures present { self.new.present ≡ self.old.present }
+        ensures numbers { IfOk result (λ batch. EventsFit batch.events) }
+        ensures refused { OnErr result (self.new.standing ≡ poll_refused self.old.standing id) }
+        ensures opened { self.new.opened ≡ self.old.opened }
+    {
+        let _counter = self.keys.revision();
+        let batch = self.take_batch(id, most)?;
+        Ok(batch)
+    }
+
     /// Gives a watcher the pending events of at most `most` revisions, and whole revisions only, and notes how far it
     /// has been notified. The numbers of the events are at most `HIGHEST_NUMBER`.
     ///
@@ -149,8 +162,6 @@ impl Store {
     {
         let is_of_range = self.watchers.watches_range(id);
         self.prepare_search(is_of_range);
-        let _counter = self.keys.revision();
-        let batch = self.take_batch(id, most)?;
-        Ok(batch)
+        self.poll_prepared(id, most)
     }
 }

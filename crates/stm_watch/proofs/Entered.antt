@@ -11,7 +11,7 @@ use Rattle.indexmap.specs.IndexMap.{get_by_text}
 use Rattle.stm_watch.specs.declared.page.RangeEntry.{RangeEntry}
 use Rattle.stm_watch.specs.declared.page.Page.{Page}
 use Rattle.stm_watch.specs.declared.watched.Watched.{Watched}
-use Rattle.stm_watch.specs.declared.watched.Watched.TheVariants.{Key, Range}
+use Rattle.stm_watch.specs.declared.watched.Watched.TheVariants.{Key}
 use Rattle.stm_watch.specs.declared.watched.Watcher.{Watcher}
 use Rattle.stm_watch.specs.Keys.{is_watched, first_key}
 use Rattle.stm_watch.specs.Touch.{first_with, touch_key}
@@ -132,29 +132,17 @@ at-map is so to (x ∷ xs) (suc i) at = at-map is so to xs i at
 
 -- ---- groups
 
-group_kept : (old new : Groups) → ((key : List ℕ) (g : ℕ) → get_by_text old.keys key ≡ Some g → get_by_text new.keys key ≡ Some g)
-    → (w : Watched) (g : ℕ) → group_of (get_by_text old.keys) w ≡ Some g → group_of (get_by_text new.keys) w ≡ Some g
-group_kept old new keys (Key key) g is = keys key g is
-group_kept old new keys (Range first end) g is = is
-
 pub kept_twice : (old mid new : Groups) → GroupsKeep old mid → GroupsKeep mid new → GroupsKeep old new
-kept_twice old mid new one other = record {
-  keys = λ key g is. other.keys key g (one.keys key g is);
-  entries = λ ws g e has. other.entries ws g e (one.entries ws g e has);
-}
+kept_twice old mid new one other = grind (arith, nat_tests)
 
 -- what has no group is a key
 pub watched_key : (of_key : List ℕ → Option ℕ) (w : Watched) → group_of of_key w ≡ None → (of_key (first_key w) ≡ None) × (w ≡ Key (first_key w))
-watched_key of_key (Key key) none = (none, refl)
-watched_key of_key (Range first end) none = absurd (cc)
+watched_key of_key w none = grind (arith, nat_tests)
 
 -- a key got a group that had none
 pub keys_more : (of_key new_of_key : List ℕ → Option ℕ) (group : ℕ) (key : List ℕ) → of_key key ≡ None
     → ((q : List ℕ) → new_of_key q ≡ cond (bytes_eq key q) (Some group) (of_key q)) → (k : List ℕ) (g : ℕ) → of_key k ≡ Some g → new_of_key k ≡ Some g
-keys_more of_key new_of_key group key none keys k g is = elim (cases_Bool (bytes_eq key k)) [
-  | inl same ↦ let never = ap of_key (sym ((bytes_eq-Decides key k).0 same)) ∙ none in absurd (cc)
-  | inr differs ↦ keys k ∙ ap (λ b. cond b (Some group) (of_key k)) differs ∙ is
-]
+keys_more of_key new_of_key group key none keys k g is = grind (arith, nat_tests, cases_Bool, bytes_eq-Decides)
 
 -- ---- all watchers
 
@@ -182,15 +170,7 @@ pub grouped_same : (old new : Groups) (ws after : List (Option Watcher)) (w : Wa
     → ((key : List ℕ) (g : ℕ) → get_by_text old.keys key ≡ Some g → get_by_text new.keys key ≡ Some g)
     → ((g : ℕ) (e : RangeEntry) → e.place ≡ i → HasIn ws old.groups.items g e → HasIn after new.groups.items g e)
     → IsGrouped old w i ws → IsGrouped new w i after
-grouped_same old new ws after w i keys entries had = record {
-  group = had.group;
-  its = group_kept old new keys w had.group had.its;
-  entered = record {
-    entry = had.entered.entry;
-    its = had.entered.its;
-    there = entries had.group had.entered.entry had.entered.its.stands had.entered.there;
-  };
-}
+grouped_same old new ws after w i keys entries had = grind (arith, nat_tests)
 
 pub entered_same : (old new : Groups) (ws : List (Option Watcher)) → ((key : List ℕ) (g : ℕ) → get_by_text old.keys key ≡ Some g → get_by_text new.keys key ≡ Some g)
     → ((g : ℕ) (e : RangeEntry) → HasIn ws old.groups.items g e → HasIn ws new.groups.items g e) → AreEntered old ws → AreEntered new ws

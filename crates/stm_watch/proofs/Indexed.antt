@@ -1,6 +1,6 @@
 -- The index of watchers after each change.
-use Rattle.std.proofs.Common.{◌≡◌, ◌⊎◌, ℕ, ◌<◌, ◌+◌, arith, Bool, false, cond, List, [], ◌∷◌, ◌++◌, length, Option, Some}
-use Rattle.std.proofs.Common.{None, IsSome, is_some, slice_index_or, slice_set, refl, sym, ap, subst, ◌∙◌, inl, inr, length-append}
+use Rattle.std.proofs.Common.{◌≡◌, ℕ, ◌<◌, ◌+◌, arith, List, [], ◌∷◌, ◌++◌, length, Option, Some}
+use Rattle.std.proofs.Common.{None, IsSome, slice_index_or, slice_set, refl, sym, ap, subst, ◌∙◌, inl, inr, length-append}
 use Rattle.std.proofs.lemmas.Bool.{cases_Bool, cases_eq, Decides.nat_tests}
 use Rattle.std.proofs.lemmas.List.{get_or-set_same, get_or-set_other, get_or_append_left, length-set}
 use Rattle.std.proofs.lemmas.Option.{same_Some}
@@ -17,11 +17,6 @@ pub some_is : {A : Type 0} (o : Option A) → IsSome o → (x : A) × (o ≡ Som
 some_is o some = grind (arith, nat_tests)
 
 -- ---- the lists of watchers
-
--- nothing but room changed
-listed_same : (old new : Lists ℕ) (lists_of : Watcher → Option ℕ) (nodes new_nodes : List (Option ℕ)) (ws : List (Option Watcher))
-    → new.lists ≡ old.lists → new_nodes ≡ nodes → AreListed old lists_of nodes ws → AreListed new lists_of new_nodes ws
-listed_same old new lists_of nodes new_nodes ws same_lists same_nodes listed = grind (arith, nat_tests)
 
 -- one watcher more
 listed_more : (old new : Lists ℕ) (lists_of : Watcher → Option ℕ) (nodes : List (Option ℕ)) (ws : List (Option Watcher)) (list node : ℕ) (w : Watcher)
@@ -192,10 +187,7 @@ module _ (idle ready : ℕ) where
 
   pub covered_same : (old new : Lists ℕ) (nodes new_nodes : List (Option ℕ)) (ws : List (Option Watcher)) → new.lists ≡ old.lists → new_nodes ≡ nodes
       → AreCovered old idle ready nodes ws → AreCovered new idle ready new_nodes ws
-  covered_same old new nodes new_nodes ws same_lists same_nodes covered = record {
-    listed = listed_same old new (list_among idle ready) nodes new_nodes ws same_lists same_nodes covered.listed;
-    apart = covered.apart;
-  }
+  covered_same old new nodes new_nodes ws same_lists same_nodes covered = grind (arith, nat_tests)
 
   -- one watcher more
   pub covered_more : (old new : Lists ℕ) (nodes : List (Option ℕ)) (ws : List (Option Watcher)) (list node : ℕ) (w : Watcher)

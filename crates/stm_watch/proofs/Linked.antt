@@ -95,11 +95,8 @@ module _ (old new : Lists ℕ) (node : ℕ) (place : Place ℕ) (stands : Stands
   pub less_kept : (l n i : ℕ) → i ≢ place.value → Holds (entries_at old l) n i → Holds (entries_at new l) n i
   less_kept l n i other h = grind (arith, nat_tests, cases_eq, less_here, less_before, less_else, holds-parts, holds-left, holds-right)
 
-  less_was : (l n i : ℕ) → Holds (entries_at new l) n i → Holds (entries_at old l) n i
-  less_was l n i h = grind (arith, nat_tests, cases_eq, less_before, less_here, less_else, holds-parts, holds-left, holds-right)
-
   pub less_from : (l n i : ℕ) → Holds (entries_at new l) n i → Holds (entries_at old l) n i × (n ≢ node)
-  less_from l n i h = (less_was l n i h, λ same. gone (subst (HasNode new) same (node_on new l n i h)))
+  less_from l n i h = grind (arith, nat_tests, node_on, cases_eq, less_before, less_here, less_else, holds-parts, holds-left, holds-right)
 
   pub less_there : (l : ℕ) → HasList old l → HasList new l
   less_there l has = grind (arith, nat_tests, cases_eq)

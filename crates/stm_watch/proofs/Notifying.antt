@@ -1,10 +1,10 @@
 -- The revisions that a watcher is notified of, one after the other.
-use Rattle.std.proofs.Common.{◌≡◌, ℕ, ◌+◌, ◌≤◌, ◌<◌, max, Bool, true, false, cond, ◌&&◌, List, [], ◌∷◌, ◌++◌, length, map, suc, Option, Some, None}
-use Rattle.std.proofs.Common.{is_some, refl, sym, ◌∙◌, ap, arith, append-nil, append_assoc, eqb-true, eq-eqb}
-use Rattle.std.specs.Prelude.{nat_lt, nat_eq, bytes_eq}
+use Rattle.std.proofs.Common.{◌≡◌, ℕ, ◌+◌, ◌≤◌, ◌<◌, max, Bool, true, cond, ◌&&◌, List, [], ◌∷◌, ◌++◌, map, Option, Some, None}
+use Rattle.std.proofs.Common.{is_some, refl, sym, ◌∙◌, ap, arith, eq-eqb}
+use Rattle.std.specs.Prelude.{nat_lt, bytes_eq}
 use Rattle.std.specs.Option.{option_or}
 use Rattle.std.specs.List.{list_any}
-use Rattle.std.proofs.lemmas.Bool.{cases_Bool, cases_lt, eqb-false, lt-ltb, le-ltb, ltb-true, Decides.nat_tests}
+use Rattle.std.proofs.lemmas.Bool.{cases_Bool, cases_lt, lt-ltb, le-ltb, ltb-true, Decides.nat_tests}
 use Rattle.std.proofs.lemmas.Option.{same_Some}
 use Rattle.std.proofs.lemmas.Slice.Eq.{bytes_eq-Decides}
 use Rattle.stm_history.specs.declared.change.Change.{Change}
@@ -12,7 +12,7 @@ use Rattle.stm_history.specs.declared.key_state.KeyState.{KeyState}
 use Rattle.stm_history.specs.Opening.{Opening}
 use Rattle.stm_history.specs.History.{History, number_of_last, now, add_revision, key_of, change_of, key_after}
 use Rattle.stm_keys.specs.declared.event.Event.{Event}
-use Rattle.stm_keys.specs.Events.{event_of, events_above, events_numbered, events_of, key_of_event, change_of_event}
+use Rattle.stm_keys.specs.Events.{event_of, events_above, events_numbered, key_of_event, change_of_event}
 use Rattle.stm_keys.specs.NextChange.{changed_above, first_change, changes_key, changes_any, is_between}
 use Rattle.stm_watch.specs.declared.pending_revision.PendingRevision.{PendingRevision}
 use Rattle.stm_watch.specs.declared.watched.Watched.{Watched}
@@ -136,16 +136,11 @@ module _ (opening : Opening) (seen : ℕ) (watched : Watched) (changes : List Ch
   abbrev shown : List Event
   shown = events_above opening changes older
 
-  -- it is the newest
-  head_newest : (found : List Event) → matching watched shown ≡ found → pending_above opening seen watched older ≡ [] → nat_lt seen last ≡ true
-      → number_of_first (pending_of_revision last found) ≡ Some number → IsHead opening seen watched (changes ∷ older) number
-  head_newest found h2 none later first = grind (arith, nat_tests, same_Some, ltb-true, eq-eqb, nothing_above)
-
   head_by : (ts : List PendingRevision) → pending_above opening seen watched older ≡ ts
       → (number_of_first ts ≡ Some number → IsHead opening seen watched older number)
       → (b : Bool) → nat_lt seen last ≡ b → number_of_first (ts ++ last_part opening last watched changes older b) ≡ Some number
       → IsHead opening seen watched (changes ∷ older) number
-  head_by ts same before b later first = grind (arith, nat_tests, head_newest, lt-ltb)
+  head_by ts same before b later first = grind (arith, nat_tests, lt-ltb, same_Some, ltb-true, eq-eqb, nothing_above)
 
 pub head_is : (opening : Opening) (seen : ℕ) (watched : Watched) (revisions : List (List Change)) (number : ℕ)
     → number_of_first (pending_above opening seen watched revisions) ≡ Some number → IsHead opening seen watched revisions number

@@ -1,5 +1,5 @@
 -- What a new revision makes of the watchers, key by key.
-use Rattle.std.proofs.Common.{◌≡◌, ◌⊎◌, ℕ, zero, suc, ◌<◌, ◌≤◌, Bool, true, false, ◌&&◌}
+use Rattle.std.proofs.Common.{◌≡◌, ◌⊎◌, ℕ, zero, suc, ◌≤◌, Bool, true, false, ◌&&◌}
 use Rattle.std.proofs.Common.{List, [], ◌∷◌, ◌++◌, length, map, Option, Some, None, is_some, option_map, slice_index_or, slice_set}
 use Rattle.std.proofs.Common.{refl, sym, ap, subst, ◌∙◌, inl, inr, arith}
 use Rattle.std.specs.Prelude.{nat_lt}
@@ -15,11 +15,10 @@ use Rattle.stm_watch.specs.declared.watched.Watched.{Watched}
 use Rattle.stm_watch.specs.declared.watched.Watched.TheVariants.{Key, Range}
 use Rattle.stm_watch.specs.declared.watched.Watcher.{Watcher}
 use Rattle.stm_watch.specs.Keys.{is_watched}
-use Rattle.stm_watch.specs.declared.page.Page.{Page}
 use Rattle.stm_watch.specs.declared.ranges.Ranges.{Ranges}
 use Rattle.stm_watch.specs.declared.groups.Groups.{Groups}
 use Rattle.stm_watch.specs.declared.page.RangeEntry.{RangeEntry}
-use Rattle.stm_watch.specs.Pages.{IsAny, IsOneOf, IsIn, StandsOn, At, HasIn, ReachesOn, ReachesIn, ReachesAt, IsTouched, IsEntryOf, IsGrouped, AreEntered}
+use Rattle.stm_watch.specs.Pages.{IsAny, IsOneOf, At, HasIn, ReachesIn, ReachesAt, IsTouched, IsEntryOf, IsGrouped, AreEntered}
 use Rattle.stm_watch.specs.Touch.{touch, touch_key, touch_at, touch_each, first_with, wants}
 use Rattle.stm_watch.proofs.Entered.{any-left, any-right, any-parts, any-map, at-map}
 use Rattle.stm_watch.proofs.At.{not_some, read_at, slot_of_map}
@@ -135,23 +134,7 @@ module _ (revision : ℕ) (key : List ℕ) where
   in_group : (ws : List (Option Watcher)) (w : Watcher) (j : ℕ) (watched : Watched) (groups : List Ranges) (g : ℕ) (e : RangeEntry)
       → slice_index_or ws j None ≡ Some w → is_some w.first ≡ false → nat_lt w.seen revision ≡ true → is_watched watched key ≡ true
       → IsEntryOf watched j e → HasIn ws groups g e → At (ReachesIn revision key j) groups g
-  in_group ws w j watched groups g e is idle begun matches its =
-      let past = ltb-true w.seen revision begun in
-      let none = not_some w.first idle in
-      let at = subst (λ (k : ℕ). slice_index_or ws k None ≡ Some w) (sym its.stands) is in
-      at-map (IsIn ws e) (ReachesIn revision key j)
-      (λ group had. (
-        let le = had.quiet w at none in omega (arith, le, past),
-        any-map (StandsOn ws e) (ReachesOn revision key j)
-            (λ page stands. (
-              e,
-              stands.there,
-              (its.stands, its.all key matches),
-              elim (stands.met w at none) [ inl le ↦ inl (omega (arith, le, past)) | inr inside ↦ inr inside ],
-            ))
-            group.pages.items had.there,
-      ))
-      groups g
+  in_group ws w j watched groups g e is idle begun matches its = grind (arith, nat_tests, ltb-true, not_some, at-map, any-map)
 
   -- The watchers of the key are in a group of their own, and those of ranges in another. Once those of both groups that are due were touched, all are.
   module _ (groups : Groups) (rest : List Ranges) (ws mid new : List (Option Watcher)) (entered : AreEntered groups ws)
@@ -179,19 +162,11 @@ module _ (revision : ℕ) (key : List ℕ) where
         each_among ranges.places j (touch_each revision key own.places ws) (ranges.all j on)
         ∙ again (slice_index_or (touch_each revision key own.places ws) j None) (slice_index_or ws j None) (each_either own.places j ws)
 
-    -- where touching makes no difference
-    either_same : (j : ℕ) → option_map (touch_key revision key) (slice_index_or ws j None) ≡ slice_index_or ws j None
-        → slice_index_or after j None ≡ option_map (touch_key revision key) (slice_index_or ws j None)
-    either_same j same = grind (arith, nat_tests, each_after, each_either)
-
     slot_touched : (j : ℕ) → slice_index_or after j None ≡ option_map (touch_key revision key) (slice_index_or ws j None)
-    slot_touched j = grind (arith, nat_tests, either_same, cases_Bool, stays, both, reached, never)
-
-    after_is : after ≡ map (option_map (touch_key revision key)) ws
-    after_is = grind (arith, nat_tests, same_lists, length-map, read_at, slot_touched, slot_of_map, length_each)
+    slot_touched j = grind (arith, nat_tests, cases_Bool, stays, both, reached, never, each_after, each_either)
 
     pub all_touched : new ≡ map (option_map (touch_key revision key)) ws
-    all_touched = ranges.done ∙ ap (touch_each revision key ranges.places) own.done ∙ after_is
+    all_touched = grind (arith, nat_tests, same_lists, length-map, read_at, slot_touched, slot_of_map, length_each)
 
 -- ---- one event after the other
 

@@ -58,8 +58,13 @@ const STRONGEST: &str = ",\"SerializableSnapshot\"]";
 /// What stands in the words of such a line behind the rule and its level.
 const IS_BROKEN: &str = ": broken";
 
-/// What a run of a scenario prints in a format. It fails only when out of memory.
-fn run_of(alloc: Global, source: Option<&SourceText>, format: Format, line: &str) -> Said {
+/// What a run of a scenario prints in a format. It fails where that is none, or when out of memory.
+pub(crate) fn run_of(
+    alloc: Global,
+    source: Option<&SourceText>,
+    format: Format,
+    line: &str,
+) -> Said {
     let labels = match source {
         Some(source) => source.labels.as_slice(),
         None => &[],

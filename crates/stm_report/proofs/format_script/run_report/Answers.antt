@@ -1,8 +1,17 @@
-use Rattle.std.proofs.Common.{◌≡◌, IfOk, ap, subst, ◌∙◌}
+use Rattle.std.proofs.Common.{◌≡◌, IfOk, refl, sym, ap, subst, ◌∙◌}
 use Rattle.stm_world.specs.World.{World, opened}
-use Rattle.stm_report.specs.FormatScript.{IsTextFrom, IsRunText}
+use Rattle.stm_world.proofs.Sound.{opened_is_sound}
+use Rattle.stm_report.specs.RunHistory.{IsNew}
+use Rattle.stm_report.specs.FormatScript.{IsWholeTextFrom, IsRunText}
 use Rattle.stm_report.proofs.format_script.run_report.Goals as goal
 use Rattle.stm_texts.specs.Opens.{setup_at, setup_of}
+
+pub report_from-text-requires : goal.report_from-text-requires
+report_from-text-requires c =
+    let begun : World = opened (setup_of c.args.scenario.opening) in
+    let opens : c.in_ok-world.world ≡ begun = c.in_ok-world.ensures
+    ∙ ap opened (ap (λ r. setup_at r c.operations.result) c.revision.ensures.same ∙ c.operations.ensures.whole ∙ c.opens_with-opening.ensures.setup) in
+    subst (λ (w : World). IsNew w) (sym opens) (record { sound = opened_is_sound (setup_of c.args.scenario.opening); floor = refl })
 
 pub returns : goal.returns
 unfolding IsRunText
@@ -13,4 +22,4 @@ returns c =
     let begun : World = opened (setup_of s.opening) in
     let opens : c.in_ok-world.world ≡ begun = c.in_ok-world.ensures
     ∙ ap opened (ap (λ r. setup_at r c.operations.result) c.revision.ensures.same ∙ c.operations.ensures.whole ∙ c.opens_with-opening.ensures.setup) in
-    subst (λ (w : World). IfOk c.report_from-text.result (λ text. IsTextFrom format labels w s.events text.items)) opens c.report_from-text.ensures
+    subst (λ (w : World). IfOk c.report_from-text.result (λ text. IsWholeTextFrom format labels w s.events text.items)) opens c.report_from-text.ensures

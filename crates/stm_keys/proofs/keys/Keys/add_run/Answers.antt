@@ -1,4 +1,4 @@
-use Rattle.std.proofs.Common.{◌+◌, ◌≤◌, reverse, sym, ap, subst, arith, map}
+use Rattle.std.proofs.Common.{◌≤◌, reverse, sym, subst, arith, map}
 use Rattle.std.proofs.lemmas.List.{length-map, length-reverse}
 use Rattle.stm_history.specs.History.{now}
 use Rattle.stm_keys.specs.Events.{change_of_event}

@@ -1,4 +1,4 @@
-use Rattle.std.proofs.Common.{◌≡◌, ◌≤◌, ◌-◌}
+use Rattle.std.proofs.Common.{◌≡◌, ◌-◌}
 use Rattle.stm_history.specs.History.{now}
 use Rattle.stm_keys.proofs.keys.Keys.add_runs.Given as goal
 

@@ -1,4 +1,4 @@
-use Rattle.std.proofs.Common.{ℕ, List, ap, true, ◌∙◌}
+use Rattle.std.proofs.Common.{ℕ, List, ap, ◌∙◌}
 use Rattle.std.specs.Cmp.Lexicographic.{slice_cmp}
 use Rattle.std.specs.Ordering.{nat_cmp, is_le}
 use Rattle.stm_watch.proofs.Ordered.{le_itself}

@@ -5,7 +5,7 @@ use Rattle.stm_leases.specs.Leases.{lease_of}
 use Rattle.stm_outcome.specs.Numbers.{LeasesFit}
 use Rattle.stm_watch.specs.Calls.{StandFor}
 use Rattle.stm_txn.specs.Leasing.{AttachedAsStored}
-use Rattle.stm_txn.proofs.watch_calls.Store.prepare_search.Goals as goal
+use Rattle.stm_txn.proofs.store.Store.prepare_search.Goals as goal
 
 pub invariant_of-self : goal.invariant_of-self
 invariant_of-self c =

@@ -2,7 +2,7 @@ use Rattle.std.proofs.Common.{◌≡◌, ◌≤◌}
 use Rattle.stm_workers.specs.Attempts.{state_of}
 use Rattle.stm_workers.specs.Calls.{IsOfJob}
 use Rattle.stm_workers.proofs.AttemptLemmas.{HasLost}
-use Rattle.stm_workers.proofs.access.HallAccess.attempt.Given as goal
+use Rattle.stm_workers.proofs.access.HallAccess.attempt_from.Given as goal
 
 -- nothing is committed yet, the attempt is one of the job, what was seen does not fall, and each commit before has failed
 abbrev pub invariant-loop : goal.invariant-loop

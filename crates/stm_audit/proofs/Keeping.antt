@@ -1,10 +1,10 @@
--- A commit of which nothing broken is found.
-use Rattle.std.proofs.Common.{◌≡◌, ◌≤◌, ◌∙◌, ℕ, Bool, true, false, not, cond, nat_eq, List, [], ◌∷◌, Option, Some, None, IfSome, All, option_map, refl, sym, arith}
+-- A commit of which nothing broken is found, and one that is what its level promises.
+use Rattle.std.proofs.Common.{◌≡◌, ◌≤◌, ◌∙◌, ℕ, Bool, true, false, not, cond, nat_eq, List, [], ◌∷◌, Option, Some, None, IfSome, All, option_map, refl, sym, ap, arith}
 use Rattle.std.specs.Prelude.{find, if◌then◌else◌}
 use Rattle.std.specs.List.{AllByRecursion}
 use Rattle.std.specs.Option.{option_or}
 use Rattle.std.proofs.lemmas.Bool.Decides.{nat_tests}
-use Rattle.std.proofs.lemmas.List.Elements.{All-from_recursion}
+use Rattle.std.proofs.lemmas.List.Elements.{All-from_recursion, recursion_from_All}
 use Rattle.std.proofs.lemmas.Bool.{not-false, ltb-false}
 use Rattle.stm_history.specs.History.{History, key_now, mod_of, key_of}
 use Rattle.stm_program.specs.declared.level.Level.{Level}
@@ -15,7 +15,7 @@ use Rattle.stm_events.specs.declared.reply.CommittedRead.{CommittedRead}
 use Rattle.stm_audit.specs.declared.anomaly.Anomaly.TheVariants.{DirtyRead}
 use Rattle.stm_audit.specs.declared.finding.Finding.{Finding}
 use Rattle.stm_audit.specs.Anomalies.{compares_writes, first_read, of_read, of_stale, of_write, is_put_above, stale_in, overwritten_in}
-use Rattle.stm_audit.specs.Laws.{KeptWhereNothingIsBroken}
+use Rattle.stm_audit.specs.Laws.{KeptWhereNothingIsBroken, NothingIsBrokenWhereKept}
 use Rattle.stm_audit.specs.Reads.{is_so, is_untrue, is_stale}
 
 -- ---- where none is found, none is so
@@ -83,3 +83,46 @@ kept_where_nothing_is_broken h known made number t kept =
           (none_last h number (first_read t.reads) (find (is_put_above h (first_read t.reads)) t.writes) (compares_writes t.level) is
           (past (of_stale h made number t) stale (overwritten_in h number t) (none_stale (compares_both t.level is)) next));
     }
+
+-- ---- where each is so, none is found that is not
+
+found_none : {X : Type 0} (p : X → Bool) (Q : X → Type 0) (xs : List X) → ((x : X) → Q x → p x ≡ false) → AllByRecursion Q xs → find p xs ≡ None
+found_none p Q [] turn all = refl
+found_none p Q (x ∷ xs) turn all = rw (turn x all.0) (found_none p Q xs turn all.1)
+
+is_none : {X : Type 0} (p : X → Bool) (Q : X → Type 0) (xs : List X) → ((x : X) → Q x → p x ≡ false) → All Q xs → find p xs ≡ None
+is_none p Q xs turn all = found_none p Q xs turn (recursion_from_All Q xs all)
+
+-- nothing comes first, or what does is not broken
+then_rest : {A : Type 0} (f : A → Finding) (o : Option A) (rest : Option Finding) → o ≡ None → NotBroken rest → NotBroken (option_or (option_map f o) rest)
+then_rest f None rest none kept = kept
+then_rest f (Some a) rest none kept = absurd (cc)
+
+else_rest : {A : Type 0} (f : A → Finding) (o : Option A) (rest : Option Finding) → ((a : A) → (f a).is_broken ≡ false) → NotBroken rest
+    → NotBroken (option_or (option_map f o) rest)
+else_rest f None rest all kept = kept
+else_rest f (Some a) rest all kept = all a
+
+at_last : (h : History) (number first : ℕ) (o : Option Change) (b : Bool) → (b ≡ true → o ≡ None)
+    → NotBroken (if b then option_map (of_write h number first) o else None)
+at_last h number first None true none = tt
+at_last h number first o false none = tt
+at_last h number first (Some w) true none = absurd (let no : Some w ≡ None = none refl in cc)
+
+pub nothing_is_broken_where_kept : NothingIsBrokenWhereKept
+nothing_is_broken_where_kept h known made number t kept =
+    then_rest (of_read h number DirtyRead true) (find (is_untrue h known) t.reads) (option_or (stale_in h made number t) (overwritten_in h number t))
+    (is_none (is_untrue h known) (λ (a : CommittedRead). is_so h known a ≡ true) t.reads (λ a so. ap not so) kept.so) (by_level (is_comparing t.level) refl)
+  where
+    -- no key that is compared was put above the first read
+    last : NotBroken (overwritten_in h number t)
+    last =
+        at_last h number (first_read t.reads) (find (is_put_above h (first_read t.reads)) t.writes) (compares_writes t.level)
+        (λ is. is_none (is_put_above h (first_read t.reads)) (λ (w : Change). mod_of (key_now h (key_of w)) ≤ first_read t.reads) t.writes
+        (λ w below. grind (arith, nat_tests, below)) (kept.unwritten is))
+
+    by_level : (b : Bool) → is_comparing t.level ≡ b → NotBroken (option_or (stale_in h made number t) (overwritten_in h number t))
+    by_level true e =
+        then_rest (of_stale h made number t) (find (is_stale h) t.reads) (overwritten_in h number t)
+        (is_none (is_stale h) (λ (a : CommittedRead). a.mod_rev ≡ mod_of (key_now h a.key)) t.reads (λ a same. grind (arith, nat_tests, same)) (kept.unchanged e)) last
+    by_level false e = else_rest (of_stale h made number t) (find (is_stale h) t.reads) (overwritten_in h number t) (λ a. e) last

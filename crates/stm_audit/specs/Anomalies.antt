@@ -2,7 +2,7 @@
 --
 -- The levels are those of the Go package `clientv3/concurrency`, "STM": all but ReadCommitted compare the keys read, and SerializableSnapshot the keys
 -- written too. The names are those of Berenson and others, "A Critique of ANSI SQL Isolation Levels", 1995.
-use Rattle.std.specs.Prelude.{ℕ, ◌-◌, Bool, true, false, nat_lt, if◌then◌else◌, List, [], ◌∷◌, find, fold, min, Option, Some, None, option_map, slice_get}
+use Rattle.std.specs.Prelude.{ℕ, ◌-◌, Bool, true, false, ◌&&◌, nat_lt, if◌then◌else◌, List, [], ◌∷◌, find, fold, min, Option, Some, None, option_map, slice_get}
 use Rattle.std.specs.Option.{option_or}
 use Rattle.std.specs.List.{list_any}
 use Rattle.stm_history.specs.declared.revisions.TheConstants.{HIGHEST_REVISION}
@@ -20,7 +20,7 @@ use Rattle.stm_audit.specs.Reads.{is_untrue, is_stale, changed_at, shows_from, i
 
 -- ---- what came of a stale read
 
--- one of these reads shows a change that was made with or after that of the stale one's key: no single state has both
+-- one of these reads shows a change that was made with or after that of the stale one's key
 abbrev pub is_fractured : History → Option ℕ → List CommittedRead → Bool
 is_fractured h None reads = false
 is_fractured h (Some changed) reads = list_any (shows_from h changed) reads
@@ -39,12 +39,30 @@ abbrev pub is_skewed : ℕ → List Commit → Option ℕ → List Change → Bo
 is_skewed opened made None writes = false
 is_skewed opened made (Some changed) writes = has_read writes (maker opened made changed)
 
-abbrev pub anomaly_of : History → List Commit → Commit → CommittedRead → Anomaly
-anomaly_of h made t a =
-    if is_among t.writes a.key then LostUpdate
-    else (if is_fractured h (changed_at h a) t.reads then FracturedRead
-    else (if is_skewed h.opening.number made (changed_at h a) t.writes then WriteSkew
-    else StaleRead))
+-- the commit writes the key of a stale read,
+abbrev pub is_lost_update : History → Commit → CommittedRead → Bool
+is_lost_update h t a = is_stale h a && is_among t.writes a.key
+
+-- or another of its reads does not go with that one,
+abbrev pub is_fractured_read : History → Commit → CommittedRead → Bool
+is_fractured_read h t a = is_stale h a && is_fractured h (changed_at h a) t.reads
+
+-- or what made that one stale had read what the commit writes
+abbrev pub is_write_skew : History → List Commit → Commit → CommittedRead → Bool
+is_write_skew h made t a = is_stale h a && is_skewed h.opening.number made (changed_at h a) t.writes
+
+-- an anomaly with a read that shows it, where there is one
+abbrev pub shown_by : Anomaly → Option CommittedRead → Anomaly × CommittedRead → Anomaly × CommittedRead
+shown_by anomaly None next = next
+shown_by anomaly (Some a) next = (anomaly, a)
+
+-- what came of the stale reads of a commit, of which this is the first: the first of the anomalies that one of them shows, with the first of these
+abbrev pub came_of : History → List Commit → Commit → CommittedRead → Anomaly × CommittedRead
+came_of h made t a =
+    shown_by LostUpdate (find (is_lost_update h t) t.reads)
+    (shown_by FracturedRead (find (is_fractured_read h t) t.reads)
+    (shown_by WriteSkew (find (is_write_skew h made t) t.reads)
+    (StaleRead, a)))
 
 -- ---- what is found
 
@@ -56,11 +74,11 @@ of_read h number anomaly is_broken a =
 abbrev pub untrue_in : History → ℕ → ℕ → Commit → Option Finding
 untrue_in h known number t = option_map (of_read h number DirtyRead true) (find (is_untrue h known) t.reads)
 
--- a read whose key has been changed since: a level that compares the keys read promises that there is none
+-- what came of them: a level that compares the keys read promises that there is none
 abbrev pub of_stale : History → List Commit → ℕ → Commit → CommittedRead → Finding
-of_stale h made number t a = of_read h number (anomaly_of h made t a) (is_comparing t.level) a
+of_stale h made number t a = of_read h number (came_of h made t a).0 (is_comparing t.level) (came_of h made t a).1
 
--- the first such read
+-- the same, where there is one
 abbrev pub stale_in : History → List Commit → ℕ → Commit → Option Finding
 stale_in h made number t = option_map (of_stale h made number t) (find (is_stale h) t.reads)
 

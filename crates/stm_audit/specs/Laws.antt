@@ -1,4 +1,4 @@
--- What it means that an audit finds nothing broken.
+-- What it means that an audit finds something broken, or nothing.
 use Rattle.std.specs.Prelude.{◌≡◌, ◌≤◌, ℕ, true, false, List, IfSome, All}
 use Rattle.stm_history.specs.History.{History, key_now, mod_of, key_of}
 use Rattle.stm_program.specs.Levels.{is_comparing}
@@ -22,3 +22,9 @@ abbrev pub KeptWhereNothingIsBroken : Type 0
 KeptWhereNothingIsBroken =
     (h : History) (known : ℕ) (made : List Commit) (number : ℕ) (t : Commit)
     → IfSome (found_in h known made number t) (λ (f : Finding). f.is_broken ≡ false) → IsKept h known t
+
+-- and of a commit that is what its level promises, nothing broken is found
+abbrev pub NothingIsBrokenWhereKept : Type 0
+NothingIsBrokenWhereKept =
+    (h : History) (known : ℕ) (made : List Commit) (number : ℕ) (t : Commit)
+    → IsKept h known t → IfSome (found_in h known made number t) (λ (f : Finding). f.is_broken ≡ false)

@@ -212,9 +212,11 @@ fn known_from(opening: &Option<Checkpoint>) -> u64
 ///
 /// A read has to say what its key was at the revision that it is of. At a level that compares the keys read, each of
 /// these has to be at the commit as it was read; at `SerializableSnapshot` no key that is written may have been put above the least revision that a read is of. What
-/// breaks one of these is a broken promise; a read whose key has been changed is a finding at ReadCommitted, too. Of a commit the first of these is found.
+/// breaks one of these is a broken promise; a read whose key has been changed is a finding at ReadCommitted, too. Of a commit the first of these is found: of
+/// several reads whose keys have been changed, the first anomaly in the order of `Anomaly` that one of them shows.
 ///
-/// It takes a step for each read and each write, and for each of these a search by halves in its key's revisions. It fails only where an allocation does.
+/// It takes a step for each read and each write, and for each of these a search by halves in its key's revisions. Of a read whose key has been changed it also
+/// looks at the commit's other reads and its writes. It fails only where an allocation does.
 pub fn audit(alloc: Global, trace: &Trace) -> Result<Option<Audited>, AllocError>
     ensures { IfOk result (λ a. a ≡ audited trace.now) }
 {

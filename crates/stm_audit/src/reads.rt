@@ -83,7 +83,7 @@ pub(crate) fn mod_rev_now(keys: &Keys, key: &str) -> u64
 }
 
 /// Whether a read's key is not as it was read.
-fn is_stale(keys: &Keys, read: &CommittedRead) -> bool
+pub(crate) fn is_stale(keys: &Keys, read: &CommittedRead) -> bool
     ensures { result ≡ is_stale keys.now.history read.now }
 {
     read.mod_rev != mod_rev_now(keys, read.key.as_str())

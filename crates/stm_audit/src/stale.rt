@@ -1,13 +1,15 @@
 //! What is wrong with a commit.
 ghost use Rattle.std.specs.Prelude.{◌≡◌, ◌-◌, map, find, slice_get, option_copied, option_map, IfOk};
-ghost use Rattle.stm_audit.specs.Anomalies.{is_fractured, maker, has_read, is_skewed, anomaly_of, of_read, untrue_in, stale_in, compares_writes, first_read};
+ghost use Rattle.stm_audit.specs.Anomalies.{is_fractured, maker, has_read, is_skewed, is_lost_update, is_fractured_read, is_write_skew, came_of};
+ghost use Rattle.stm_audit.specs.Anomalies.{of_read, untrue_in, stale_in, compares_writes, first_read};
 ghost use Rattle.stm_audit.specs.Anomalies.{is_put_above, of_write, overwritten_in, found_in};
 
 use crate::anomaly::Anomaly;
 use crate::commit::Commit;
 use crate::finding::Finding;
 use crate::reads::{
-    any_is_among, any_shows_from, changed_at, find_stale, find_untrue, is_among, mod_rev_now,
+    any_is_among, any_shows_from, changed_at, find_stale, find_untrue, is_among, is_stale,
+    mod_rev_now,
 };
 use std::alloc::{AllocError, Global};
 use stm_events::{CommittedRead, Level, Text};
@@ -64,20 +66,86 @@ fn is_skewed(opened: u64, made: &[&Commit], changed: Option<u64>, writes: &[Writ
     }
 }
 
-/// What came of a stale read.
-fn anomaly_of(keys: &Keys, made: &[&Commit], commit: &Commit, read: &CommittedRead) -> Anomaly
-    ensures { result ≡ anomaly_of keys.now.history (map (λ c. c.now) made.now) commit.now read.now }
+/// Whether a read is stale, and the commit writes its key.
+fn is_lost_update(keys: &Keys, commit: &Commit, read: &CommittedRead) -> bool
+    ensures { result ≡ is_lost_update keys.now.history commit.now read.now }
 {
-    let writes = commit.writes.as_slice();
-    let changed = changed_at(keys, read);
-    if is_among(writes, read.key.as_str()) {
-        Anomaly::LostUpdate
-    } else if is_fractured(keys, changed, commit.reads.as_slice()) {
-        Anomaly::FracturedRead
-    } else if is_skewed(keys.below(), made, changed, writes) {
-        Anomaly::WriteSkew
+    is_stale(keys, read) && is_among(commit.writes.as_slice(), read.key.as_str())
+}
+
+/// Whether a read is stale, and another of the commit's reads does not go with it.
+fn is_fractured_read(keys: &Keys, commit: &Commit, read: &CommittedRead) -> bool
+    ensures { result ≡ is_fractured_read keys.now.history commit.now read.now }
+{
+    is_stale(keys, read) && is_fractured(keys, changed_at(keys, read), commit.reads.as_slice())
+}
+
+/// Whether a read is stale, and what made it so had read what the commit writes.
+fn is_write_skew(keys: &Keys, made: &[&Commit], commit: &Commit, read: &CommittedRead) -> bool
+    ensures { result ≡ is_write_skew keys.now.history (map (λ c. c.now) made.now) commit.now read.now }
+{
+    is_stale(keys, read)
+        && is_skewed(
+            keys.below(),
+            made,
+            changed_at(keys, read),
+            commit.writes.as_slice(),
+        )
+}
+
+// The first read of a commit of which each of these is so.
+
+fn find_lost_update<'a>(keys: &Keys, commit: &'a Commit) -> Option<&'a CommittedRead>
+    ensures { option_copied result ≡ find (is_lost_update keys.now.history commit.now) commit.now.reads }
+{
+    commit
+        .reads
+        .as_slice()
+        .iter()
+        .find(|read| is_lost_update(keys, commit, read))
+}
+
+fn find_fractured_read<'a>(keys: &Keys, commit: &'a Commit) -> Option<&'a CommittedRead>
+    ensures { option_copied result ≡ find (is_fractured_read keys.now.history commit.now) commit.now.reads }
+{
+    commit
+        .reads
+        .as_slice()
+        .iter()
+        .find(|read| is_fractured_read(keys, commit, read))
+}
+
+fn find_write_skew<'a>(
+    keys: &Keys,
+    made: &[&Commit],
+    commit: &'a Commit,
+) -> Option<&'a CommittedRead>
+    ensures { option_copied result ≡ find (is_write_skew keys.now.history (map (λ c. c.now) made.now) commit.now) commit.now.reads }
+{
+    commit
+        .reads
+        .as_slice()
+        .iter()
+        .find(|read| is_write_skew(keys, made, commit, read))
+}
+
+/// What came of the stale reads of a commit, and the first read that shows it. This is the first of them.
+fn came_of<'a>(
+    keys: &Keys,
+    made: &[&Commit],
+    commit: &'a Commit,
+    first: &'a CommittedRead,
+) -> (Anomaly, &'a CommittedRead)
+    ensures { (result.0, result.1.now) ≡ came_of keys.now.history (map (λ c. c.now) made.now) commit.now first.now }
+{
+    if let Some(read) = find_lost_update(keys, commit) {
+        (Anomaly::LostUpdate, read)
+    } else if let Some(read) = find_fractured_read(keys, commit) {
+        (Anomaly::FracturedRead, read)
+    } else if let Some(read) = find_write_skew(keys, made, commit) {
+        (Anomaly::WriteSkew, read)
     } else {
-        Anomaly::StaleRead
+        (Anomaly::StaleRead, first)
     }
 }
 
@@ -121,7 +189,7 @@ fn untrue_in(
     }
 }
 
-/// The first read of a commit whose key has been changed since.
+/// What came of the stale reads of a commit.
 fn stale_in(
     keys: &Keys,
     made: &[&Commit],
@@ -132,8 +200,8 @@ fn stale_in(
 {
     match find_stale(keys, commit.reads.as_slice()) {
         None => Ok(None),
-        Some(read) => {
-            let anomaly = anomaly_of(keys, made, commit, read);
+        Some(first) => {
+            let (anomaly, read) = came_of(keys, made, commit, first);
             let found = of_read(keys, number, anomaly, commit.level.is_comparing(), read)?;
             Ok(Some(found))
         }

@@ -11,4 +11,4 @@ returns-in_ok-there-in-Some g c =
     subst (λ (o : Option World). IfSome o (λ s. StandsFor [] (record { world = s; others = c.args.others.now })
     (record { world = c.args.world.now; others = c.args.others.now }))) c.in-Some.is c.requires in
     subst (IsSerialAnswer (record { world = c.args.world.now; others = c.args.others.now }) c.args.ends.now) (sym c.in_ok-there-in-Some.ensures)
-    (stands.serial c.args.ends.now c.in_ok-answer-in-Some.answer c.in_ok-answer-in-Some.ensures)
+    (stands.serial c.args.ends.now c.in_ok-answer-in-Some.answer c.in_ok-answer-in-Some.ensures.answer)

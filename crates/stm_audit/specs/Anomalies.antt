@@ -2,7 +2,7 @@
 --
 -- The levels are those of the Go package `clientv3/concurrency`, "STM": all but ReadCommitted compare the keys read, and SerializableSnapshot the keys
 -- written too. The names are those of Berenson and others, "A Critique of ANSI SQL Isolation Levels", 1995.
-use Rattle.std.specs.Prelude.{ℕ, ◌-◌, Bool, true, false, ◌&&◌, nat_lt, if◌then◌else◌, List, [], ◌∷◌, find, fold, min, Option, Some, None, option_map, slice_get}
+use Rattle.std.specs.Prelude.{ℕ, ◌-◌, Bool, true, false, ◌&&◌, nat_lt, if◌then◌else◌, List, find, fold, min, Option, Some, None, option_map, slice_get}
 use Rattle.std.specs.Option.{option_or}
 use Rattle.std.specs.List.{list_any}
 use Rattle.stm_history.specs.declared.revisions.TheConstants.{HIGHEST_REVISION}

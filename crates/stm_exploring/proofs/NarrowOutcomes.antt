@@ -1,5 +1,5 @@
 -- What is found of outcomes from one of two places that agree is so from the other, once its schedules are made there.
-use Rattle.std.proofs.Common.{◌≡◌, ◌≢◌, ◌↔◌, ◌<◌, ◌≤◌, ℕ, zero, suc, Bool, List, [], ◌∷◌, length, map, filter, get_or, All, Option, None, refl, sym, ap, ◌∙◌, subst, arith}
+use Rattle.std.proofs.Common.{◌≡◌, ◌≢◌, ◌<◌, ℕ, zero, suc, Bool, List, [], ◌∷◌, length, filter, get_or, All, Option, None, refl, sym, ap, ◌∙◌, subst, arith}
 use Rattle.std.specs.Prelude.{Contains}
 use Rattle.std.specs.List.{AllByRecursion}
 use Rattle.std.proofs.lemmas.List.{length-map}
@@ -17,7 +17,7 @@ use Rattle.stm_explore.specs.declared.orders.SerialAnswer.TheVariants as serial
 use Rattle.stm_explore.specs.Explored.{AreAllOutcomes, AreOutcomesUpTo}
 use Rattle.stm_explore.specs.Gathering.{AreDistinct}
 use Rattle.stm_explore.specs.Orders.{IsSerialAnswer, NoneIsSooner}
-use Rattle.stm_explore.specs.Turns.{AreInTurn, IsOrderFor, IsSerial, counted, counts, is_in_turn, last_turn, moves_in_turn, turn_of}
+use Rattle.stm_explore.specs.Turns.{AreInTurn, IsOrderFor, IsSerial, counts, is_in_turn, last_turn, moves_in_turn, turn_of}
 use Rattle.stm_explore.specs.Witnesses.{AreWitnesses, IsWitness}
 use Rattle.stm_narrow.specs.AgreeingPlaces.{AreSearchedAlike, PlacesAgree}
 use Rattle.stm_narrow.proofs.Searching.{agreeing_places_are_same}

@@ -9,7 +9,6 @@ use Rattle.stm_world.specs.World.{World}
 use Rattle.stm_reasons.specs.Counters.{counters}
 use Rattle.stm_reasons.specs.Reasons.{reasons_of}
 use Rattle.stm_formats.specs.declared.format_label.RunnerLabel.{RunnerLabel}
-use Rattle.stm_formats.specs.declared.format_keys.Cuts.{Cuts}
 use Rattle.stm_formats.specs.declared.format_row.Row.{Row}
 use Rattle.stm_formats.specs.declared.format_pieces.TheConstants.{MOST_SHOWN}
 use Rattle.stm_formats.specs.declared.format_runs.TheConstants.{LEAST_SHOWN, MOST_OF_KEY}

@@ -1,4 +1,4 @@
-use Rattle.std.proofs.Common.{◌≡◌, subst}
+use Rattle.std.proofs.Common.{subst}
 use Rattle.std.specs.Prelude.{Option, Result, Ok, Err, IfOk, IfSome}
 use Rattle.stm_world.specs.World.{World}
 use Rattle.stm_exploring.specs.Narrowing.{StandsFor}

@@ -1,4 +1,4 @@
-use Rattle.std.proofs.Common.{◌≡◌, [], sym, subst}
+use Rattle.std.proofs.Common.{[], sym, subst}
 use Rattle.std.specs.Prelude.{Option, IfSome}
 use Rattle.stm_world.specs.World.{World}
 use Rattle.stm_explore.specs.Orders.{IsSerialAnswer}

@@ -1,4 +1,4 @@
-use Rattle.std.proofs.Common.{◌≡◌, List, IfOk, refl, sym, ap, subst}
+use Rattle.std.proofs.Common.{List, IfOk, refl, sym, ap, subst}
 use Rattle.stm_events.specs.declared.event.WorldEvent.{WorldEvent}
 use Rattle.stm_program.specs.Syntax.{ProgramTree}
 use Rattle.stm_serial_search.specs.Search.{AreProgramsOf}

@@ -333,8 +333,9 @@ fn look<O: Observer>(
 /// bring.
 ///
 /// First all outcomes are found, as by `find_outcomes`, and then for each in turn a serial order that comes to it. At most as many moves are made in all as
-/// `budget` has left: it keeps those that are not, and the answer is `Open` or `Undecided` only where none is left, `Open` as far as that of `find_outcomes`. Its observer is notified of how far the first search is. `ends` has what is known of the runners' ends
-/// before, by the runners' numbers, as `ends_reported` returns it.
+/// `budget` has left: it keeps those that are not, and the answer is `Open` or `Undecided` only where none is left, `Open` as far as that of `find_outcomes`.
+/// Its observer is notified of how far the first search is. `ends` has what is known of the runners' ends before, by the runners' numbers, as `ends_reported`
+/// returns it.
 ///
 /// It fails only when out of memory. The world is left as it was.
 pub fn find_anomaly<O: Observer>(

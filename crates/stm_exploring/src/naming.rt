@@ -7,9 +7,13 @@ use crate::audience::Audience;
 use std::alloc::{AllocError, Global};
 use stm_events::{CommittedRead, Denied, Reply};
 use stm_explore::{Move, Sequence, SerialAnswer};
+use stm_history::found_mod_rev;
 use stm_keys::Keys;
 use stm_retry::World;
 use stm_texts::WorldEvent;
+
+/// The names, in the order of an audit's: of several that fit, the first is said.
+const NAMES: [&str; 4] = ["LostUpdate", "FracturedRead", "WriteSkew", "StaleRead"];
 
 /// A commit of a runner: the store's revisions before and after it, and what it had read.
 #[derive(Drop)]
@@ -87,13 +91,18 @@ fn make_moves(
     Ok(commits)
 }
 
-/// The revision before a commit at which a key that it had read was changed, where one was.
+/// Whether the key of a commit's read was not as it was read any more, before the commit.
+fn is_stale(keys: &Keys, commit: &Commit, read: &CommittedRead) -> bool {
+    let before = commit.before.min(keys.revision());
+    found_mod_rev(keys.look_back(read.key.as_str(), before)) != read.mod_rev
+}
+
+/// The revision before a commit at which a key that it had read was changed first, where it was.
 fn changed_at(keys: &Keys, commit: &Commit, read: &CommittedRead) -> Option<u64> {
-    let changed = keys.next_change(read.key.as_str(), read.of_rev)?;
-    if changed <= commit.before {
-        return Some(changed);
+    if !is_stale(keys, commit, read) {
+        return None;
     }
-    None
+    keys.next_change(read.key.as_str(), read.of_rev)
 }
 
 /// Whether a commit wrote a key.
@@ -123,10 +132,14 @@ fn maker_of(commits: &[Commit], revision: u64) -> Option<&Commit> {
     None
 }
 
-/// Whether a read shows a change that was made at a revision or later.
-fn shows_later(commit: &Commit, changed: u64) -> bool {
+/// Whether a read of a commit shows a change of its key that was made at a revision or later.
+fn shows_later(keys: &Keys, commit: &Commit, changed: u64) -> bool {
     let reads = commit.reads.as_slice();
-    reads.iter().any(|read| read.mod_rev >= changed)
+    let above = changed.saturating_sub(1);
+    reads.iter().any(|read| match keys.next_change(read.key.as_str(), above) {
+        Some(shown) => shown <= read.of_rev,
+        None => false,
+    })
 }
 
 /// Whether what changed a key that a commit had read was another runner's, which had read what this one wrote.
@@ -137,23 +150,43 @@ fn is_skewed(keys: &Keys, commits: &[Commit], commit: &Commit, changed: u64) -> 
     }
 }
 
-/// What came of it that a key was changed which a commit had read.
-fn name_of(
+/// What came of it that a key was changed which a commit had read: its place among the names.
+fn place_of(
     keys: &Keys,
     commits: &[Commit],
     commit: &Commit,
     read: &CommittedRead,
     changed: u64,
-) -> &'static str {
+) -> usize {
     if has_written(keys, commit, read.key.as_str()) {
-        "LostUpdate"
-    } else if shows_later(commit, changed) {
-        "FracturedRead"
+        0
+    } else if shows_later(keys, commit, changed) {
+        1
     } else if is_skewed(keys, commits, commit, changed) {
-        "WriteSkew"
+        2
     } else {
-        "StaleRead"
+        3
     }
+}
+
+/// The read of a commit whose key was changed, of several the first of those of the first name, with the place of that.
+fn first_stale<'a>(
+    keys: &Keys,
+    commits: &[Commit],
+    commit: &'a Commit,
+) -> Option<(usize, &'a CommittedRead, u64)> {
+    let mut first = None;
+    let mut least = NAMES.len();
+    for read in commit.reads.as_slice() {
+        if let Some(changed) = changed_at(keys, commit, read) {
+            let place = place_of(keys, commits, commit, read, changed);
+            if place < least {
+                least = place;
+                first = Some((place, read, changed));
+            }
+        }
+    }
+    first
 }
 
 /// What is said of a commit, where a key that it had read was changed before it.
@@ -163,19 +196,17 @@ fn commit_line(
     commits: &[Commit],
     commit: &Commit,
 ) -> Result<Option<String>, AllocError> {
-    for read in commit.reads.as_slice() {
-        if let Some(changed) = changed_at(keys, commit, read) {
-            let name = name_of(keys, commits, commit, read, changed);
-            let key = shown_text(alloc, read.key.as_str())?;
-            let runner = commit.runner;
-            let seen = read.of_rev;
-            let line = format!(in alloc;
-                "{name}: runner {runner} committed on {key} as it was at revision {seen}; revision {changed} changed it"
-            )?;
-            return Ok(Some(line));
-        }
-    }
-    Ok(None)
+    let Some((place, read, changed)) = first_stale(keys, commits, commit) else {
+        return Ok(None);
+    };
+    let name = NAMES.get(place).copied().unwrap_or("");
+    let key = shown_text(alloc, read.key.as_str())?;
+    let runner = commit.runner;
+    let seen = read.of_rev;
+    let line = format!(in alloc;
+        "{name}: runner {runner} committed on {key} as it was at revision {seen}; revision {changed} changed it"
+    )?;
+    Ok(Some(line))
 }
 
 /// What is said of the first commit of which that is so.

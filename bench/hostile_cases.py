@@ -172,6 +172,35 @@ def ranges_from_the_past(part):
 
 
 @case()
+def late_ranges_from_the_past(part):
+    """93,000 watchers of ranges of one key each, all put late among 600,000 keys in no order, from the first revision on."""
+    scenario = Scenario()
+    count = int(4600 * part) * 128
+    keys = [f"{number * 2654435761 % 2**20:05x}" for number in range(count)]
+    for number in range(0, count, 128):
+        scenario.add(txn(*(put(key) for key in keys[number : number + 128])))
+    late = keys[-count // 30 :]
+    for number in range(int(93000 * part)):
+        key = late[number % len(late)]
+        scenario.add(["watch_range", key, key + "0", 1])
+    return scenario.text()
+
+
+@case()
+def ranges_before_a_large_revision(part):
+    """A lease with 588,800 keys that is revoked, and 90,000 watchers, from that revision on, of the range that has the last of them."""
+    scenario = Scenario()
+    count = int(4600 * part)
+    scenario.add(["grant", 1, 5])
+    for number in range(0, count * 128, 128):
+        scenario.add(txn(*(put(f"{place:05x}", "", 1) for place in range(number, number + 128))))
+    scenario.add(["revoke", 1])
+    last = f"{count * 128 - 1:05x}"
+    scenario.add(*[["watch_range", last, last + "0", count + 2]] * int(90000 * part))
+    return scenario.text()
+
+
+@case()
 def leases_before_ranges(part):
     """33,000 leases with a key each that expire at once, before as many watchers of ranges of one key each, all polled."""
     scenario = Scenario()

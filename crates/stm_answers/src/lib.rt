@@ -5,6 +5,7 @@
 
 mod audited;
 mod jobs;
+mod late_steps;
 mod outcomes;
 mod parts;
 mod races;
@@ -14,6 +15,7 @@ mod words;
 
 pub use audited::audit_line_in_words;
 pub use jobs::job_line_in_words;
+pub use late_steps::late_steps_in_words;
 pub use races::schedule_in_words;
 pub use stm_compiling::NamedRunner;
 pub use stored::store_line_in_words;

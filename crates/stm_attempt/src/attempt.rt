@@ -33,6 +33,7 @@ pub struct Attempt {
 }
 
 impl Drop for Attempt {
+    #[inline(always)]
     fn drop(self) {
         let Attempt {
             program: _,

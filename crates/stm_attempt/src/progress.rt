@@ -42,6 +42,7 @@ pub(crate) enum Progress {
 }
 
 /// Puts this in the place of what was there, which is dropped.
+#[inline(always)]
 pub(crate) fn put(progress: &mut Progress, next: Progress)
     ensures { progress.new ≡ next }
 {

@@ -1,4 +1,6 @@
 //! What an attempt has read.
+//!
+//! What each read of a run goes through is inlined, so that its values are not copied from call to call.
 ghost use Rattle.std.specs.Prelude.{◌≡◌, ℕ, List, ◌<◌, ◌≤◌, bytes_eq, fold, min, [], ◌∷◌, ◌++◌, length, map, slice_get, option_copied, OnOk, OnErr, IfOk, IfSome, Some};
 ghost use Rattle.std.specs.Prelude.{drop};
 ghost use Rattle.std.specs.List.{find, IsDistinct};
@@ -32,6 +34,7 @@ pub struct ReadSet {
 }
 
 impl Drop for ReadSet {
+    #[inline(always)]
     fn drop(self) {
         let ReadSet {
             answers: _,
@@ -97,6 +100,7 @@ impl ReadSet {
     }
 
     /// Adds an answer to those that are searched.
+    #[inline(always)]
     fn add_searched(&mut self, answer: ReadAnswer) -> Result<(), AllocError>
         requires place { length self.old < MOST_SEARCHED }
         requires new_key { answer_in answer.key self.old ≡ None }
@@ -111,6 +115,7 @@ impl ReadSet {
     /// Adds an answer at the end, of a key that has none yet. Its revisions are at most `HIGHEST_NUMBER`.
     ///
     /// Out of memory is its only refusal, and leaves the answers as they were.
+    #[inline(always)]
     pub fn add(&mut self, answer: ReadAnswer) -> Result<(), AllocError>
         requires new_key { answer_in answer.key self.old ≡ None }
         requires in_range { ReadFits answer }
@@ -163,6 +168,7 @@ impl ReadSet {
     }
 
     /// The answer for a key, where all are searched.
+    #[inline(always)]
     fn get_of_few(&self, key: &str) -> Option<&ReadAnswer>
         ensures { option_copied result ≡ answer_in key.now self.now }
     {
@@ -170,6 +176,7 @@ impl ReadSet {
     }
 
     /// The answer for a key, `None` where there is none.
+    #[inline(always)]
     pub fn get(&self, key: &str) -> Option<&ReadAnswer>
         ensures answer { option_copied result ≡ answer_in key.now self.now }
         ensures in_range { IfSome (option_copied result) ReadFits }
@@ -252,6 +259,7 @@ impl Clone for ReadSet {
 impl Lookup for ReadSet {
     ghost answers = { look_up };
 
+    #[inline(always)]
     fn value(&self, key: &str) -> Option<&str> {
         match self.get(key) {
             None => None,

@@ -8,12 +8,14 @@ use crate::compares::is_set_in_condition;
 use crate::elses::said_of_else;
 use crate::fault::position_in;
 use crate::habits::{
-    said_of_digits, said_of_ending, said_of_event, said_of_lease, said_of_no_event,
+    closes_all, said_of_digits, said_of_ending, said_of_event, said_of_lease, said_of_no_event,
     said_of_operation, said_of_outer, said_of_word,
 };
+use crate::kept::end_of;
 use crate::misfits::said_of_start;
 use crate::more_faults::{MOST_MORE, Rest};
 use crate::naming::{ANY_FUNCTION, is_called, said_of_call, said_of_function, said_of_place};
+use crate::open_braces::said_of_open;
 use crate::other_kinds::{is_number, said_of_value};
 use crate::signs::{
     CHOICE, CONDITION, OTHER_TEXT, said_anywhere, said_in_program, said_of_colon, said_of_setting,
@@ -28,7 +30,7 @@ use serde_json::Value as Json;
 use std::alloc::{AllocError, Global};
 use stm_explain::{Said, shown};
 use stm_source::{BadSource, SourceCause};
-use stm_tokens::{Position, Symbol, TokenKind, Word, tokens_of};
+use stm_tokens::{Position, Symbol, Token, TokenKind, Word, tokens_of};
 
 /// At most this many bytes of a token are shown.
 const MOST_SHOWN: usize = 60;
@@ -286,16 +288,25 @@ fn no_such_word(
     format!(in alloc; "{found} is no {noun}: {list}")
 }
 
-/// Which line ends before a token that begins the next one, in parentheses that are still open; nothing elsewhere.
+/// Where a part of an event is missing that ends with its line, by its last token: behind that.
+fn missing_behind(alloc: Global, source: &[u8], last: &Token) -> Said {
+    let end = end_of(str::from_utf8(source).unwrap_or(""), last);
+    let Position { line, column } = position_in(source, end);
+    format!(in alloc; "; it is missing at {line}:{column}")
+}
+
+/// Which line ends before a token that begins the next one, in parentheses that are still open or in an event; nothing elsewhere.
 fn line_without(alloc: Global, source: &[u8], spot: Spot<'_>) -> Said {
-    if let (Place::Parentheses, Some(before), Some(token)) = (
-        spot.place(),
-        spot.before.last(),
-        spot.from.first(),
-    ) {
+    if let (Some(before), Some(token)) = (spot.before.last(), spot.from.first()) {
         let line = position_in(source, before.at).line;
         if line < position_in(source, token.at).line {
-            return format!(in alloc; "; line {line} ends without it");
+            return match (spot.place(), &before.kind) {
+                (Place::Parentheses, _) => format!(in alloc; "; line {line} ends without it"),
+                (Place::Events, TokenKind::Name(_) | TokenKind::Number(_)) => {
+                    missing_behind(alloc, source, before)
+                }
+                _ => Ok(String::new(alloc)),
+            };
         }
     }
     Ok(String::new(alloc))
@@ -343,12 +354,29 @@ fn syntax_words(alloc: Global, source: &[u8], found: &str, spot: Spot<'_>) -> Sa
         Wanted::Words(noun, words, beside) => {
             no_such_word(alloc, found, spot, noun, words, beside)
         }
-        Wanted::Said(wanted) => format!(in alloc; "found {found}, where {wanted} is wanted"),
+        Wanted::Said(wanted) => {
+            let line = match spot.place() {
+                Place::Events => line_without(alloc, source, spot)?,
+                _ => String::new(alloc),
+            };
+            format!(in alloc; "found {found}, where {wanted} is wanted{line}")
+        }
         Wanted::OperatorOr(wanted) => {
             let line = line_without(alloc, source, spot)?;
             format!(in alloc; "found {found}, where an operator, or {wanted} is wanted{line}")
         }
     }
+}
+
+/// The same, and behind it which brace is open, where a `}` is missing before the token.
+fn syntax_words_with_open(alloc: Global, source: &[u8], found: &str, spot: Spot<'_>) -> Said {
+    let mut words = syntax_words(alloc, source, found, spot)?;
+    let is_end = matches!(spot.kind(), Some(TokenKind::End) | None);
+    if (is_end || begins_at_the_top(spot)) && !closes_all(spot) {
+        let open = said_of_open(alloc, source, spot)?;
+        words.push_str(open.as_str())?;
+    }
+    Ok(words)
 }
 
 /// What is said of a name behind which a dot and another name stand; nothing of others.
@@ -555,7 +583,7 @@ pub(crate) fn words_at(alloc: Global, source: &[u8], spot: Spot<'_>, bad: BadSou
             let character = first_character(word_from(source, spot, bad.at));
             token_words(alloc, source, spot, bad.at, character)
         }
-        SourceCause::Syntax => syntax_words(alloc, source, found, spot),
+        SourceCause::Syntax => syntax_words_with_open(alloc, source, found, spot),
         SourceCause::Return => String::from_str(
             alloc,
             "a counted loop, for .. in 0.., has no return and no break: for .. in 0, 1, 2 has both; or let found = 0 before it, and if found == 0 && .. in it",

@@ -153,7 +153,7 @@ pub(crate) fn said_of_digits(spot: Spot<'_>) -> &'static str {
 }
 
 /// Whether all brackets of a source are closed.
-fn closes_all(spot: Spot<'_>) -> bool {
+pub(crate) fn closes_all(spot: Spot<'_>) -> bool {
     let mut open = 0;
     for token in spot.before {
         open = open_behind(open, &token.kind);

@@ -21,6 +21,7 @@ mod misfits;
 mod more_faults;
 mod naming;
 mod notes;
+mod open_braces;
 mod other_kinds;
 mod part;
 mod placing;

@@ -117,7 +117,7 @@ fn last_open(tokens: &[Token]) -> Option<(usize, usize)> {
 }
 
 /// The place of the first bracket among these tokens that is open behind them.
-fn first_open(tokens: &[Token]) -> Option<usize> {
+pub(crate) fn first_open(tokens: &[Token]) -> Option<usize> {
     let mut found = None;
     let mut depth = 0usize;
     for (index, token) in tokens.iter().enumerate() {
@@ -260,6 +260,17 @@ impl<'a> Spot<'a> {
             before,
             values,
         })
+    }
+
+    /// The byte at which a brace stands that is open there, unless parentheses are open in it.
+    pub(crate) fn open_brace(self) -> Option<usize> {
+        let (open, _) = last_open(self.before)?;
+        let token = self.before.get(open)?;
+        if token.kind.is_symbol(Symbol::LeftBrace) {
+            Some(token.at)
+        } else {
+            None
+        }
     }
 
     /// The event that it stands in, of those that have several parts, or behind.

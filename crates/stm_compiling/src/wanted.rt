@@ -166,7 +166,7 @@ fn in_event(spot: Spot<'_>) -> Wanted {
         return Wanted::Said("a number of steps, as in step ana*2,");
     }
     if spot.is_behind(1, "grant") {
-        return Wanted::Said("ttl NUMBER");
+        return Wanted::Said("ttl SECONDS");
     }
     if spot.is_behind(1, "poll") {
         return Wanted::Said("max NUMBER");

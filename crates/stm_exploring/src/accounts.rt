@@ -8,6 +8,7 @@ use crate::audience::Audience;
 use crate::counted_ends::{Came, count_end, push_ends};
 use crate::final_words::{AskedOutput, outputs_asked, wrong_ends};
 use crate::key_use::{KeyUse, VaryingRule, varying_rules};
+use crate::lost_leases::tell_lost_leases;
 use crate::rules::{RuleAnswer, has_kept};
 use crate::run_texts::tell_texts;
 use crate::seen_ends::{SeenEnds, never_words};
@@ -62,6 +63,8 @@ pub(crate) const NO_MEMORY: &str = "out of memory: what the answer covers is not
 pub(crate) struct Runs {
     pub(crate) has_committed: bool,
     pub(crate) has_faulted: bool,
+    /// Whether the store refused one since a lease was not live.
+    pub(crate) has_lost_lease: bool,
     ends: Vec<Came>,
     /// How many outputs a run of it had at most.
     outputs: usize,
@@ -76,7 +79,7 @@ pub(crate) struct Account<'a> {
     /// The rules that make keys of variables, and so may ask for another one at each place.
     varying: Vec<VaryingRule<'a>>,
     /// The runners' programs.
-    programs: &'a [Program],
+    pub(crate) programs: &'a [Program],
     /// By the runners' numbers.
     pub(crate) runners: Vec<Runs>,
     /// Which keys are asked for, and which are put.
@@ -120,6 +123,9 @@ impl Follower for Account<'_> {
     }
 
     fn refused(&mut self, runner: u64, cause: EventRefusal) {
+        if cause == EventRefusal::LeaseNotFound {
+            self.mark_lost_lease(runner);
+        }
         if self.note_word(runner, "ended", cause.name()).is_err() {
             self.is_cut = true;
         }
@@ -146,6 +152,7 @@ fn no_runs(alloc: Global) -> Runs {
     Runs {
         has_committed: false,
         has_faulted: false,
+        has_lost_lease: false,
         ends: Vec::new(alloc),
         outputs: 0,
         fault: None,
@@ -247,6 +254,14 @@ impl<'a> Account<'a> {
         let index = runner.saturating_sub(1);
         if index < self.runners.len() as u64 {
             self.runners[index as usize].has_faulted = true;
+        }
+    }
+
+    /// Marks a runner of which the store refused a run since a lease was not live.
+    fn mark_lost_lease(&mut self, runner: u64) {
+        let index = runner.saturating_sub(1);
+        if index < self.runners.len() as u64 {
+            self.runners[index as usize].has_lost_lease = true;
         }
     }
 
@@ -473,14 +488,17 @@ fn tell_ended<O: Audience>(
     }
 }
 
-/// Says what an account of serial orders has.
+/// Says what an account of serial orders has, which begin in this world, with these events of the others.
 fn tell_orders<O: Audience>(
     account: &Account<'_>,
+    world: &World,
+    others: &[WorldEvent],
     answers: &[RuleAnswer],
     seen: Option<&SeenEnds>,
     audience: &mut O,
 ) -> Result<(), AllocError> {
     tell_ended(account, answers, seen, audience)?;
+    tell_lost_leases(account, world, others, audience)?;
     tell_of_runners(account, audience)?;
     tell_without_abort(account.alloc, answers, audience)?;
     tell_of_rules(account, answers, audience)?;
@@ -570,7 +588,7 @@ fn make_account<O: Audience>(
     if account.is_cut {
         return Err(AllocError);
     }
-    tell_orders(&account, answers, seen, audience)
+    tell_orders(&account, whole, others, answers, seen, audience)
 }
 
 /// Says how the runs ended of the runners of which it is told, each program run alone in every serial order, or at the ends of schedules, where these

@@ -27,6 +27,7 @@ mod level_lines;
 mod leveled;
 mod lines;
 mod lists;
+mod lost_leases;
 mod messages;
 mod naming;
 mod narrowing;

@@ -85,23 +85,65 @@ pub(crate) fn nearest<'a>(
     Ok(near.key)
 }
 
-/// The text that is nearest to one, among those that the spelling of programs says whole: an empty text, where each is further than half of it.
+/// The nearer one of what was found so far and a text of which the beginning alone is known, by as many bytes as this and the other one have.
+fn nearer_front<'a>(
+    alloc: Global,
+    near: Near<'a>,
+    text: &str,
+    front: &'a Text,
+) -> Result<Near<'a>, AllocError> {
+    let front = front.as_str();
+    let length = front.len().min(text.len());
+    if front.len() > MOST_NEAR {
+        return Ok(near);
+    }
+    let (Some(one), Some(other)) = (text.get(..length), front.get(..length)) else {
+        return Ok(near);
+    };
+    let edits = levenshtein(alloc, one, other)?;
+    if edits < near.edits && edits <= length / 2 {
+        Ok(Near { key: front, edits })
+    } else {
+        Ok(near)
+    }
+}
+
+/// A text that is near to another one.
+#[derive(Clone, Copy)]
+pub(crate) struct NearText<'a> {
+    /// The text, or its beginning; an empty text, where none is near.
+    pub(crate) text: &'a str,
+    /// Whether it is whole.
+    pub(crate) is_whole: bool,
+}
+
+/// The text that is nearest to one, among those that the spelling of programs says, of a computed one by its beginning: none, where each is further than half
+/// of it.
 pub(crate) fn nearest_name<'a>(
     alloc: Global,
     names: &'a [Name],
     text: &str,
-) -> Result<&'a str, AllocError> {
-    if text.len() > MOST_NEAR {
-        return Ok("");
-    }
+) -> Result<NearText<'a>, AllocError> {
+    let mut is_whole = true;
     let edits = text.chars().count() / 2 + 1;
     let mut near = Near { key: "", edits };
-    for name in names {
-        if name.is_whole {
-            near = nearer(alloc, near, text, &name.text)?;
+    if text.len() <= MOST_NEAR {
+        for name in names {
+            let next = if name.is_whole {
+                nearer(alloc, near, text, &name.text)?
+            } else {
+                nearer_front(alloc, near, text, &name.text)?
+            };
+            if next.edits < near.edits {
+                is_whole = name.is_whole;
+            }
+            near = next;
         }
     }
-    Ok(near.key)
+    Ok(NearText {
+        text: near.key,
+        is_whole,
+    })
 }
 
 /// A text without its digits.

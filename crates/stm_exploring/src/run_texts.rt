@@ -4,7 +4,7 @@
 use crate::accounts::shown_text;
 use crate::asked_keys::{near_words, rule_word};
 use crate::audience::Audience;
-use crate::near_keys::nearest_name;
+use crate::near_keys::{NearText, nearest_name};
 use crate::rules::RuleAnswer;
 use std::alloc::{AllocError, Global};
 use stm_explain::Said;
@@ -259,11 +259,20 @@ fn asked_by(key: &Name) -> Option<(Asked, &str)> {
     Some((Asked::Output, digits))
 }
 
+/// What is said of the nearest text to which runs come: of a computed one how it begins.
+fn nearest_words(alloc: Global, near: NearText<'_>) -> Said {
+    if near.is_whole {
+        return near_words(alloc, near.text);
+    }
+    let front = shown_text(alloc, near.text)?;
+    format!(in alloc; "; the nearest is computed, and begins with {front}")
+}
+
 /// The line of a final that compares a key with a text to which no run comes, and which one is nearest.
-fn text_line(alloc: Global, who: &str, compared: &Compared, near: &str) -> Said {
+fn text_line(alloc: Global, who: &str, compared: &Compared, near: NearText<'_>) -> Said {
     let key = shown_text(alloc, compared.key.text.as_str())?;
     let text = shown_text(alloc, compared.text.as_str())?;
-    let near = near_words(alloc, near)?;
+    let near = nearest_words(alloc, near)?;
     format!(in alloc; "{who} asks whether the key {key} is {text}, which no run comes to{near}")
 }
 

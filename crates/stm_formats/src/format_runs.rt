@@ -15,6 +15,7 @@ use crate::format_svg::svg_of;
 use crate::format_text::text_of;
 use std::alloc::{AllocError, Global};
 use stm_history::Sequence;
+use stm_keys::Keys;
 use stm_reasons::{counters, reasons_of};
 use stm_retry::{Denied, Reply, World, WorldEvent};
 
@@ -44,20 +45,19 @@ fn most_of_key(width: Option<u32>) -> u32
     }
 }
 
-/// The rows for a width of events that led to a world from a revision of its store.
+/// The rows for a width of events that led to these keys from a revision.
 fn rows_from(
     alloc: Global,
     width: Option<u32>,
     labels: &[RunnerLabel],
-    world: &World,
+    keys: &Keys,
     since: u64,
     events: &[WorldEvent],
     replies: &[Result<Reply, Denied>],
 ) -> Result<Vec<Row>, AllocError>
     requires { length events.now ≡ length replies.now }
-    ensures { IfOk result (λ rows. rows.items ≡ rows_from width labels.now world.now since events.now replies.now) }
+    ensures { IfOk result (λ rows. rows.items ≡ rows_from width labels.now keys.now.history since events.now replies.now) }
 {
-    let keys = world.store().keys();
     let cuts = cuts_of(
         alloc,
         most_shown(width),
@@ -69,27 +69,21 @@ fn rows_from(
     rows_of(alloc, &cuts, labels, keys, since, events, replies)
 }
 
-/// What is left after events that led to a world, and on what values runs aborted or came to faults.
+/// What is left after events that led to a world, and on what values, as keys show them, runs aborted or came to faults.
 fn left_from(
     alloc: Global,
     most: u32,
     labels: &[RunnerLabel],
+    keys: &Keys,
     world: &World,
     since: u64,
     replies: &[Result<Reply, Denied>],
 ) -> Result<Vec<Sequence<u8>>, AllocError>
-    ensures { IfOk result (λ notes. notes.items ≡ left_from most labels.now world.now since replies.now) }
+    ensures { IfOk result (λ notes. notes.items ≡ left_from most labels.now keys.now.history world.now since replies.now) }
 {
     let mut notes = notes_of(alloc, most, labels, world, since, replies)?;
     let cuts = whole_keys(alloc, most);
-    push_ends(
-        alloc,
-        &cuts,
-        labels,
-        &mut notes,
-        world.store().keys(),
-        replies,
-    )?;
+    push_ends(alloc, &cuts, labels, &mut notes, keys, replies)?;
     Ok(notes)
 }
 
@@ -98,75 +92,88 @@ fn notes_from(
     alloc: Global,
     most: u32,
     labels: &[RunnerLabel],
+    keys: &Keys,
     world: &World,
     since: u64,
     replies: &[Result<Reply, Denied>],
 ) -> Result<Vec<Sequence<u8>>, AllocError>
-    ensures { IfOk result (λ notes. notes.items ≡ notes_from most labels.now world.now since replies.now) }
+    ensures { IfOk result (λ notes. notes.items ≡ notes_from most labels.now keys.now.history world.now since replies.now) }
 {
-    let mut notes = left_from(alloc, most, labels, world, since, replies)?;
-    let reasons = reasons_of(alloc, world.store().keys(), since, replies)?;
+    let mut notes = left_from(alloc, most, labels, keys, world, since, replies)?;
+    let reasons = reasons_of(alloc, keys, since, replies)?;
     push_reasons(alloc, labels, &mut notes, reasons.as_slice())?;
     Ok(notes)
 }
 
 /// The text of the events that led to a world from one whose store was at this revision, and of their replies, with runners of these labels; for a
-/// terminal of this width, if one is given.
+/// terminal of this width, if one is given. What revisions changed is what these keys show, which may have some that the world's store has dropped.
 ///
 /// There is a reply to each event. It fails where a growth was refused.
 pub fn text_from(
     alloc: Global,
     width: Option<u32>,
     labels: &[RunnerLabel],
+    keys: &Keys,
     world: &World,
     since: u64,
     events: &[WorldEvent],
     replies: &[Result<Reply, Denied>],
 ) -> Result<Vec<u8>, AllocError>
     requires { length events.now ≡ length replies.now }
-    ensures { IfOk result (λ text. text.items ≡ text_from width labels.now world.now since events.now replies.now) }
+    ensures { IfOk result (λ text. text.items ≡ text_from width labels.now keys.now.history world.now since events.now replies.now) }
 {
-    let rows = rows_from(alloc, width, labels, world, since, events, replies)?;
-    let notes = notes_from(alloc, most_shown(width), labels, world, since, replies)?;
+    let rows = rows_from(alloc, width, labels, keys, since, events, replies)?;
+    let notes = notes_from(
+        alloc,
+        most_shown(width),
+        labels,
+        keys,
+        world,
+        since,
+        replies,
+    )?;
     text_of(alloc, width, labels, rows.as_slice(), notes.as_slice())
 }
 
-/// The picture of the events that led to a world from one whose store was at this revision, and of their replies, with runners of these labels.
+/// The picture of the events that led to a world from one whose store was at this revision, and of their replies, with runners of these labels. What
+/// revisions changed is what these keys show, as for `text_from`.
 ///
 /// There is a reply to each event. It fails where a growth was refused.
 pub fn svg_from(
     alloc: Global,
     labels: &[RunnerLabel],
+    keys: &Keys,
     world: &World,
     since: u64,
     events: &[WorldEvent],
     replies: &[Result<Reply, Denied>],
 ) -> Result<Vec<u8>, AllocError>
     requires { length events.now ≡ length replies.now }
-    ensures { IfOk result (λ svg. svg.items ≡ svg_from labels.now world.now since events.now replies.now) }
+    ensures { IfOk result (λ svg. svg.items ≡ svg_from labels.now keys.now.history world.now since events.now replies.now) }
 {
-    let rows = rows_from(alloc, None, labels, world, since, events, replies)?;
-    let notes = notes_from(alloc, MOST_SHOWN, labels, world, since, replies)?;
+    let rows = rows_from(alloc, None, labels, keys, since, events, replies)?;
+    let notes = notes_from(alloc, MOST_SHOWN, labels, keys, world, since, replies)?;
     svg_of(alloc, labels, rows.as_slice(), notes.as_slice())
 }
 
-/// The page of the events that led to a world from one whose store was at this revision, and of their replies, with runners of these labels.
+/// The page of the events that led to a world from one whose store was at this revision, and of their replies, with runners of these labels. What
+/// revisions changed is what these keys show, as for `text_from`.
 ///
 /// There is a reply to each event. It fails where a growth was refused.
 pub fn html_from(
     alloc: Global,
     labels: &[RunnerLabel],
+    keys: &Keys,
     world: &World,
     since: u64,
     events: &[WorldEvent],
     replies: &[Result<Reply, Denied>],
 ) -> Result<Vec<u8>, AllocError>
     requires { length events.now ≡ length replies.now }
-    ensures { IfOk result (λ html. html.items ≡ html_from labels.now world.now since events.now replies.now) }
+    ensures { IfOk result (λ html. html.items ≡ html_from labels.now keys.now.history world.now since events.now replies.now) }
 {
-    let keys = world.store().keys();
-    let rows = rows_from(alloc, None, labels, world, since, events, replies)?;
-    let notes = left_from(alloc, MOST_SHOWN, labels, world, since, replies)?;
+    let rows = rows_from(alloc, None, labels, keys, since, events, replies)?;
+    let notes = left_from(alloc, MOST_SHOWN, labels, keys, world, since, replies)?;
     let counters = counters(alloc, since, replies)?;
     let reasons = reasons_of(alloc, keys, since, replies)?;
     html_of(

@@ -141,6 +141,8 @@ impl fmt::Debug for Text {
 impl Clone for Text {
     ghost is_clone = { λ t copy. copy ≡ t };
 
+    // (inlined, so that a copy is made where it is to stand)
+    #[inline(always)]
     fn clone(&self) -> Result<Text, AllocError> {
         let bytes = match &self.bytes {
             Bytes::Short(short) => Bytes::Short(*short),

@@ -13,7 +13,7 @@ use Rattle.stm_history.specs.History.{key_of, change_of}
 use Rattle.stm_keys.specs.declared.event.Event.{Event}
 use Rattle.stm_keys.specs.Events.{key_of_event, event_about, change_of_event}
 use Rattle.stm_keys.specs.Keys.{changes_of, IsKept}
-use Rattle.stm_keys.specs.NextChange.{first_change}
+use Rattle.stm_keys.specs.NextChange.{first_change, changes_key}
 use Rattle.stm_keys.specs.Chains.{Versions, Chain, versions_in, versions_of, with_version, oldest_from}
 use Rattle.stm_keys.proofs.Walked.{AreKept, are_kept}
 
@@ -88,7 +88,7 @@ one_more : (above number : ℕ) (b : Bool) (versions : Versions) (o : Option ℕ
 one_more above number b versions o is = grind (arith, nat_tests, and_false, and_true, counted)
 
 change_found : (opening : Opening) (above : ℕ) (key : List ℕ) (recorded : List (List Event)) →
-    first_change opening above key (changes_of recorded) ≡ oldest_from (above + 1) (versions_of opening key recorded).numbers
+    first_change opening above (changes_key key) (changes_of recorded) ≡ oldest_from (above + 1) (versions_of opening key recorded).numbers
 change_found opening above key [] = refl
 change_found opening above key (events ∷ older) = grind (arith, nat_tests, length-map, about_change, one_more, change_found opening above key older)
 
@@ -100,5 +100,5 @@ none_past bound below count (n ∷ ns) all past = grind (arith, nat_tests, lt-lt
 -- what is found in a key's chain is the number of the next revision that changes the key
 pub next_found : (opening : Opening) (above bound : ℕ) (recorded : List (List Event)) (chains : List ℕ → Option Chain) (key : List ℕ) →
     IsKept opening recorded chains → bound ≡ min (above + 1) 18446744073709551615 →
-    oldest_from bound (versions_in (chains key)).numbers ≡ first_change opening above key (changes_of recorded)
+    oldest_from bound (versions_in (chains key)).numbers ≡ first_change opening above (changes_key key) (changes_of recorded)
 next_found opening above bound recorded chains key kept is = grind (arith, nat_tests, change_found, cases_lt, none_past, are_kept)

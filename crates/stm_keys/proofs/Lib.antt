@@ -13,6 +13,7 @@ pub mod Steps
 pub mod Order
 pub mod Newest
 pub mod Later
+pub mod Ranges
 pub mod Copied
 pub mod Forgetting
 pub mod Dropping

@@ -54,7 +54,7 @@ last_shows opening changes older number apart same =
     (found changes apart))
 
 -- there are no events above the last revision
-none_above : (opening : Opening) (number : ℕ) (revisions : List (List Change)) → number_of_last opening revisions < number → events_numbered opening number revisions ≡ []
+pub none_above : (opening : Opening) (number : ℕ) (revisions : List (List Change)) → number_of_last opening revisions < number → events_numbered opening number revisions ≡ []
 none_above opening number [] above = refl
 none_above opening number (changes ∷ older) above = grind (arith, nat_tests, eqb-true, none_above opening number older (omega arith))
 

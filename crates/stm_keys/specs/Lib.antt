@@ -7,3 +7,4 @@ pub mod Keys
 pub mod Laws
 pub mod NextChange
 pub mod ReadNames
+pub mod Runs

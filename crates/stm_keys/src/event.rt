@@ -1,6 +1,8 @@
 //! What a change of a key shows to those who watch it.
 ghost use Rattle.std.specs.Prelude.{◌≡◌, option_copied, None, Some};
 ghost use Rattle.stm_keys.specs.Events.{key_of_event, event_about, after_event, AreApart};
+ghost use Rattle.stm_keys.specs.NextChange.{is_between};
+ghost use Rattle.stm_keys.specs.Runs.{is_any_about};
 
 use crate::shared_text::SharedText;
 use stm_history::{KeyState, Text};
@@ -51,6 +53,19 @@ impl Event {
             Event::Delete { key, .. } => key,
         }
     }
+}
+
+/// Whether one of these events is about a key from the first on and below the end.
+pub(crate) fn is_any_between(events: &[Event], first: &Text, end: &Text) -> bool
+    ensures { result ≡ is_any_about (is_between first.now end.now) events.now }
+{
+    for event in events {
+        let key = event.key();
+        if first.cmp(key).is_le() && key.cmp(end).is_lt() {
+            return true;
+        }
+    }
+    false
 }
 
 /// The event of a key among the events of one revision, if there is one.

@@ -10,7 +10,8 @@ ghost use Rattle.stm_history.specs.History.{History, opened_at, now, add_revisio
 ghost use Rattle.stm_keys.specs.CanOpen.{can_open};
 ghost use Rattle.stm_keys.specs.Events.{event_of, events_of, event_about, key_of_event, after_event, AreApart};
 ghost use Rattle.stm_keys.specs.Chains.{versions_in, with_version, no_versions, StandFirst, KeepsPresent, is_left, names_of};
-ghost use Rattle.stm_keys.specs.NextChange.{next_change};
+ghost use Rattle.stm_keys.specs.NextChange.{is_between, next_change, next_change_between};
+ghost use Rattle.stm_keys.specs.Runs.{IsPassed};
 ghost use Rattle.stm_keys.specs.Keys.{key_read, DeletePresent, HasSmallNumbers, ListsPresent, with_floor, without_up_to, compacted_at};
 
 use crate::chain::Version;
@@ -20,11 +21,13 @@ use crate::chains::{
     make_room_at_place,
 };
 use crate::copies::{copy_chains, copy_revisions};
-use crate::event::Event;
+use crate::event::{Event, is_any_between};
 use crate::events::Events;
 use crate::hints::Hints;
 use crate::refusal::{ApplyRefusal, ReadRefusal};
 use crate::restored::opened_chains;
+use crate::run::Ahead;
+use crate::runs::Runs;
 use crate::shared_text::SharedText;
 use indexmap::IndexMap;
 use std::alloc::{AllocError, Global};
@@ -32,11 +35,15 @@ use std::collections::VecDeque;
 use std::marker::Model;
 use stm_history::{Change, HIGHEST_REVISION, KeyState, Text};
 
+/// How many events a run has at least whose keys are noted.
+const RUN_EVENTS: usize = 256;
+
 /// The keys of a store, at every revision that is kept.
 ///
 /// Contracts see the history that is kept, the list of the present keys, the revision that the store had before any change, and the
 /// floor. The fields are the number below the kept revisions, these revisions, the oldest first, each put with its key's full state, for
-/// each key what it was before them and the numbers of those that changed it, and how many keys are present: theirs are the first chains.
+/// each key what it was before them and the numbers of those that changed it, how many keys are present: theirs are the first chains, and for runs of
+/// revisions the keys that they change, as far as a search of a range asked for it.
 #[derive(Debug)]
 pub struct Keys {
     opened: u64,
@@ -45,6 +52,7 @@ pub struct Keys {
     revisions: Revisions,
     chains: Chains,
     present: usize,
+    runs: Runs,
 }
 
 impl Drop for Keys {
@@ -56,6 +64,7 @@ impl Drop for Keys {
             revisions: _,
             chains: _,
             present: _,
+            runs: _,
         } = self;
     }
 }
@@ -66,6 +75,8 @@ impl Model for Keys {
     ghost use Rattle.stm_history.specs.History.{key_after};
     ghost use Rattle.stm_keys.specs.Keys.{Contents, IsKept, changes_of};
     ghost use Rattle.stm_keys.specs.Chains.{present_among, StandFirst, names_of, opening_of};
+    ghost use Rattle.std.specs.List.{AllByRecursion};
+    ghost use Rattle.stm_keys.specs.Runs.{SumsUp};
 
     ghost Value = { Contents };
 
@@ -78,7 +89,8 @@ impl Model for Keys {
 
     ghost invariant = { λ a. IsKept (opening_of a.below a.chains) (reverse a.revisions.items) (get_by_text a.chains)
         × StandFirst (λ key. is_some (key_after (opening_of a.below a.chains) key (changes_of (reverse a.revisions.items)))) a.present (names_of a.chains)
-        × (a.floor ≤ a.below + length a.revisions.items) };
+        × (a.floor ≤ a.below + length a.revisions.items)
+        × AllByRecursion (SumsUp a.below a.revisions.items) a.runs };
 }
 
 /// What a put makes of a key: it begins anew where the key was absent, and counts on where it was present.
@@ -249,6 +261,7 @@ impl Keys {
             revisions: VecDeque::new(alloc),
             chains: IndexMap::new(alloc),
             present: 0,
+            runs: Runs::new(alloc),
         }
     }
 
@@ -521,6 +534,7 @@ impl Keys {
             revisions: VecDeque::new(alloc),
             chains,
             present,
+            runs: Runs::new(alloc),
         })
     }
 
@@ -625,6 +639,13 @@ impl Keys {
         }
     }
 
+    /// Drops the runs of revisions that were dropped.
+    fn forget_runs(&mut self)
+        ensures { self.new ≡ self.old }
+    {
+        self.runs.forget_up_to(self.below);
+    }
+
     /// Makes a revision the floor, and drops the revisions below it: what each key was at the floor, the events of the floor's own revision
     /// and all later ones stay.
     ///
@@ -638,7 +659,90 @@ impl Keys {
     {
         self.raise_floor(revision)?;
         self.forget_up_to(revision - 1);
+        self.forget_runs();
         Ok(())
+    }
+}
+
+impl Keys {
+    /// Notes which keys the revisions above one change, up to another that has come.
+    fn add_run(&mut self, from: u64, upto: u64) -> Result<(), AllocError>
+        requires { upto ≤ now self.old.history }
+        ensures { self.new ≡ self.old }
+    {
+        self.runs.add(&self.revisions, self.below, from, upto)?;
+        Ok(())
+    }
+
+    /// How many events a revision has, none where it has not come.
+    fn count_at(&self, number: u64) -> usize {
+        if number <= self.revision() {
+            self.events_at(number).len()
+        } else {
+            0
+        }
+    }
+
+    /// Notes which keys the revisions change of which that was not noted yet. One of many events is noted by itself.
+    fn add_runs(&mut self) -> Result<(), AllocError>
+        ensures { self.new ≡ self.old }
+    {
+        let mut from = self.runs.last().max(self.below);
+        let mut number = from;
+        let mut count: usize = 0;
+        'revisions: while number < self.revision() {
+            number += 1;
+            count = count.saturating_add(self.count_at(number));
+            if count >= RUN_EVENTS || self.count_at(number.saturating_add(1)) >= RUN_EVENTS {
+                self.add_run(from, number)?;
+                from = number;
+                count = 0;
+            }
+        }
+        Ok(())
+    }
+
+    /// Notes which keys the revisions change of which that was not noted yet, so that `next_change_between` passes over many of them at once.
+    ///
+    /// It takes a step for each such event, and sorts it among some thousands of others. Where an allocation fails, fewer are noted: later searches take longer,
+    /// and answer the same.
+    pub fn sum_up(&mut self)
+        ensures { self.new ≡ self.old }
+    {
+        let _noted = self.add_runs();
+    }
+
+    /// What is known of the revisions above one, of the keys of a range. Nothing is known up to `asked`, of which it was asked already.
+    fn ahead(&self, passed: u64, asked: u64, first: &Text, end: &Text) -> Ahead
+        requires { self.now.history.opening.number ≤ passed }
+        ensures { IsPassed self.now.history (is_between first.now end.now) passed result }
+    {
+        self.runs.ahead(passed, asked, first, end)
+    }
+
+    /// The first revision above a number that changes a key from the first on and below the end, of those that are kept, `None` where no later one does.
+    ///
+    /// It passes over the revisions of which `sum_up` noted that they change no such key, some hundreds to some thousands of events at once, and looks at each of
+    /// the others. It takes no memory.
+    pub fn next_change_between(&self, first: &Text, end: &Text, above: u64) -> Option<u64>
+        ensures { result ≡ next_change_between self.now.history first.now end.now above }
+    {
+        let mut passed = above.max(self.below());
+        let mut asked = passed;
+        'revisions: while passed < self.revision() {
+            match self.ahead(passed, asked, first, end) {
+                Ahead::Idle(upto) => passed = upto,
+                Ahead::Next(number) => return Some(number),
+                Ahead::Unknown(upto) => {
+                    asked = upto;
+                    passed += 1;
+                    if is_any_between(self.events_at(passed), first, end) {
+                        return Some(passed);
+                    }
+                }
+            }
+        }
+        None
     }
 }
 
@@ -651,6 +755,7 @@ impl Keys {
     {
         let chains = copy_chains(&self.chains)?;
         let revisions = copy_revisions(&self.revisions)?;
+        let runs = self.runs.copy()?;
         Ok(Keys {
             opened: self.opened,
             floor: self.floor,
@@ -658,6 +763,7 @@ impl Keys {
             revisions,
             chains,
             present: self.present,
+            runs,
         })
     }
 }

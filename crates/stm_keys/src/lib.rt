@@ -14,6 +14,8 @@ mod keys;
 pub mod laws;
 mod refusal;
 mod restored;
+mod run;
+mod runs;
 mod shared_text;
 
 pub use event::Event;

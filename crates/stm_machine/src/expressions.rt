@@ -14,6 +14,7 @@ use stm_program::{Expr, ExprNode};
 use stm_steps::{Session, Value, combine, join, number_of, spell, wanted_key};
 
 /// An expression waits for the value of its part, at whose start the machine stands then. There is room for it to wait.
+#[inline(always)]
 fn waits_for(stack: &mut Stack, frame: OperandFrame, part: &Arc<Expr>) -> Result<Focus, AllocError>
     requires { 1 ≤ stack.old.room }
     ensures ok { IfOk result (λ focus. IsMade (waits (Frame.Operand frame) (Focus.Evaluate part.now.value)) stack.old.frames focus stack.new.frames) }

@@ -1,4 +1,6 @@
 //! Machines.
+//!
+//! What each step goes through is inlined, so that its values are not copied from call to call.
 ghost use Rattle.std.specs.Prelude.{◌≡◌, None, Some, IfOk, OnOk, OnErr, IsFalse, IsSome, if◌then◌else◌};
 ghost use Rattle.std.specs.Option.{option_copied};
 ghost use Rattle.stm_machine.specs.Steps.{step_of, Stands};
@@ -31,6 +33,7 @@ pub struct Machine {
 }
 
 impl Drop for Machine {
+    #[inline(always)]
     fn drop(self) {
         let Machine {
             focus: _,
@@ -76,6 +79,7 @@ impl Machine {
     ///
     /// There is none where the run has ended, and at a key that the look-up does not know. An allocation failure leaves the
     /// machine as it was.
+    #[inline(always)]
     fn step<L: Lookup>(&mut self, lookup: &L) -> Result<bool, AllocError>
         ensures ok { IfOk result (λ made. step_of (L.answers lookup.now) self.old ≡ (if made then Some self.new else None)) }
         ensures stands { IfOk result (λ made. IsFalse made → self.new ≡ self.old) }
@@ -98,6 +102,7 @@ impl Machine {
 
     /// Jumps over what is run at once, or else makes one step, and answers whether there was one to make. An allocation failure leaves
     /// the machine as it was.
+    #[inline(always)]
     fn go<L: Lookup>(&mut self, lookup: &L) -> Result<bool, AllocError>
         ensures ok { IfOk result (λ made. GoesOrStands (L.answers lookup.now) made self.old self.new) }
         ensures err { OnErr result (self.new ≡ self.old) }

@@ -19,6 +19,7 @@ use stm_program::{Block, Expr, Stmt, StmtNode, Variable, Write};
 use stm_steps::{End, Fault, Session, Value, deletion, put, turns, wanted_text};
 
 /// A statement waits for a value, inside the statements after it. There is room for both.
+#[inline(always)]
 fn waits_for(
     stack: &mut Stack,
     frame: ArgumentFrame,

@@ -119,6 +119,7 @@ fn rev<L: Lookup>(
 ///
 /// `None` where its run has ended, and at a key that the look-up does not know: nothing has changed then. An allocation failure leaves
 /// the parts and the session as they were.
+#[inline(always)]
 pub(crate) fn go_on<L: Lookup>(
     alloc: Global,
     lookup: &L,

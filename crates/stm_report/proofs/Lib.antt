@@ -5,5 +5,8 @@ pub mod LiveLeases
 pub mod FormatRowLemmas
 pub mod FormatScriptLemmas
 pub mod FormatMembers
+pub mod RunRevisions
+pub mod RunMade
+pub mod RunHistories
 pub mod WholeLineLemmas
 pub mod WholeJudgingLemmas

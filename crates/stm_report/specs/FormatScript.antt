@@ -4,7 +4,8 @@ use Rattle.std.specs.Io.KnownBytes.{Appends, Keeps}
 use Rattle.stm_events.specs.declared.event.WorldEvent.{WorldEvent}
 use Rattle.stm_events.specs.declared.reply.Reply.{Reply}
 use Rattle.stm_events.specs.declared.refusal.Denied.{Denied}
-use Rattle.stm_history.specs.History.{now}
+use Rattle.stm_history.specs.History.{History, now}
+use Rattle.stm_txn.specs.Standing.{kept}
 use Rattle.stm_world.specs.World.{World, opened, world_after, replies_to}
 use Rattle.stm_texts.specs.declared.scenario.Scenario.{Scenario}
 use Rattle.stm_json.specs.Outcome.{Outcome}
@@ -23,22 +24,31 @@ use Rattle.stm_formats.specs.FormatRuns.{text_from, svg_from, html_from}
 
 -- ---- the report of a run in a format
 
--- the text is the report of these events, before which the store was at a revision, of their replies and of the world that they left; one of lines is in
--- UTF-8
-abbrev pub IsTextSince : ℕ → Format → List RunnerLabel → World → List WorldEvent → List (Result Reply Denied) → List ℕ → Type 0
-IsTextSince since Lines labels w events replies text = IsReport w replies text × IsUtf8 text
-IsTextSince since Json labels w events replies text = text ≡ json_text w replies
-IsTextSince since (Text width) labels w events replies text = text ≡ text_from width labels w since events replies
-IsTextSince since Svg labels w events replies text = text ≡ svg_from labels w since events replies
-IsTextSince since Html labels w events replies text = text ≡ html_from labels w since events replies
+-- The text is the report of these events, before which the store was at a revision, of their replies and of the world that they left; where it says what
+-- revisions changed, it is as this history has them. One of lines is in UTF-8.
+abbrev pub IsTextOver : History → ℕ → Format → List RunnerLabel → World → List WorldEvent → List (Result Reply Denied) → List ℕ → Type 0
+IsTextOver h since Lines labels w events replies text = IsReport w replies text × IsUtf8 text
+IsTextOver h since Json labels w events replies text = text ≡ json_text w replies
+IsTextOver h since (Text width) labels w events replies text = text ≡ text_from width labels h w since events replies
+IsTextOver h since Svg labels w events replies text = text ≡ svg_from labels h w since events replies
+IsTextOver h since Html labels w events replies text = text ≡ html_from labels h w since events replies
 
--- the text is that of these events' run from a world
+-- it is of the history that the world's store has kept
+abbrev pub IsTextSince : ℕ → Format → List RunnerLabel → World → List WorldEvent → List (Result Reply Denied) → List ℕ → Type 0
+IsTextSince since format labels w events replies text = IsTextOver (kept w.standing).history since format labels w events replies text
+
+-- the text is that of these events' run from a world, of the history that its store has kept
 abbrev pub IsTextFrom : Format → List RunnerLabel → World → List WorldEvent → List ℕ → Type 0
 IsTextFrom format labels w events text = IsTextSince (now w.standing.history) format labels (world_after events w) events (replies_to events w) text
 
+-- the same of the whole history, also of what compactions have dropped
+abbrev pub IsWholeTextFrom : Format → List RunnerLabel → World → List WorldEvent → List ℕ → Type 0
+IsWholeTextFrom format labels w events text =
+    IsTextOver (world_after events w).standing.history (now w.standing.history) format labels (world_after events w) events (replies_to events w) text
+
 -- the text is that of a scenario's run, over an empty store at its opening revision
 unfoldable pub IsRunText : Format → List RunnerLabel → Scenario → List ℕ → Type 0
-IsRunText format labels s text = IsTextFrom format labels (opened (setup_of s.opening)) s.events text
+IsRunText format labels s text = IsWholeTextFrom format labels (opened (setup_of s.opening)) s.events text
 
 -- a scenario was read, and the text is that of its run
 abbrev pub IsOutputOf : Format → List RunnerLabel → Outcome Scenario → List ℕ → Type 0

@@ -3,6 +3,7 @@ pub mod Script
 pub mod Format
 pub mod FormatFields
 pub mod Forms
+pub mod RunHistory
 pub mod FormatScript
 pub mod WholeLines
 pub mod WholeComparing

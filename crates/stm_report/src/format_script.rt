@@ -2,19 +2,48 @@
 ghost use Rattle.std.specs.Prelude.{◌≡◌, ◌≤◌, ◌+◌, false, length, IfOk};
 ghost use Rattle.stm_devices.specs.declared.transfer.TheConstants.{MOST_READ};
 ghost use Rattle.stm_history.specs.History.{now};
-ghost use Rattle.stm_report.specs.FormatScript.{IsTextSince, IsTextFrom, IsRunText, Answers, Writes, DoesAs};
+ghost use Rattle.stm_report.specs.RunHistory.{IsNew};
+ghost use Rattle.stm_report.specs.FormatScript.{IsTextOver, IsTextSince, IsTextFrom, IsWholeTextFrom, IsRunText, Answers, Writes, DoesAs};
 
 use crate::format::Format;
 use crate::report_text::{report, report_objects};
+use crate::run_history::{has_compaction, run_with_history};
 use crate::run_script::ScriptFault;
 use std::alloc::{AllocError, Global};
 use stm_devices::{ReadFault, Sink, Source, read_all, write_all};
 use stm_formats::{RunnerLabel, html_from, svg_from, text_from};
+use stm_keys::Keys;
 use stm_retry::{Denied, Reply, World, WorldEvent};
 use stm_texts::{ReadError, Scenario, opens_with, read_scenario};
 
 /// The report of a world, of the events that led to it from a world whose store was at this revision, and of their replies, in a format. Text, picture and page
-/// call the runners what these labels say.
+/// call the runners what these labels say, and show what revisions changed as these keys have it.
+fn render_over(
+    alloc: Global,
+    format: Format,
+    labels: &[RunnerLabel],
+    keys: &Keys,
+    since: u64,
+    world: &World,
+    events: &[WorldEvent],
+    replies: &[Result<Reply, Denied>],
+) -> Result<Vec<u8>, AllocError>
+    requires { length events.now ≡ length replies.now }
+    ensures { IfOk result (λ text. IsTextOver keys.now.history since format labels.now world.now events.now replies.now text.items) }
+{
+    match format {
+        Format::Lines => Ok(report(alloc, world, replies)?.into_bytes()),
+        Format::Json => Ok(report_objects(alloc, world, replies)?.into_bytes()),
+        Format::Text { width } => text_from(
+            alloc, width, labels, keys, world, since, events, replies,
+        ),
+        Format::Svg => svg_from(alloc, labels, keys, world, since, events, replies),
+        Format::Html => html_from(alloc, labels, keys, world, since, events, replies),
+    }
+}
+
+/// The report of a world, of the events that led to it from a world whose store was at this revision, and of their replies, in a format. Text, picture and page
+/// call the runners what these labels say, and do not show what the store has dropped.
 ///
 /// There is a reply to each event. It fails where a growth was refused.
 pub fn render(
@@ -29,13 +58,8 @@ pub fn render(
     requires { length events.now ≡ length replies.now }
     ensures { IfOk result (λ text. IsTextSince since format labels.now world.now events.now replies.now text.items) }
 {
-    match format {
-        Format::Lines => Ok(report(alloc, world, replies)?.into_bytes()),
-        Format::Json => Ok(report_objects(alloc, world, replies)?.into_bytes()),
-        Format::Text { width } => text_from(alloc, width, labels, world, since, events, replies),
-        Format::Svg => svg_from(alloc, labels, world, since, events, replies),
-        Format::Html => html_from(alloc, labels, world, since, events, replies),
-    }
+    let keys = world.store().keys();
+    render_over(alloc, format, labels, keys, since, world, events, replies)
 }
 
 /// The store's revision.
@@ -45,8 +69,8 @@ pub fn revision_of(world: &World) -> u64
     world.store().keys().revision()
 }
 
-/// The report of what a world replies to these events.
-fn report_from(
+/// The report of what a world replies to these events. It does not show what the store has dropped.
+fn kept_from(
     alloc: Global,
     format: Format,
     labels: &[RunnerLabel],
@@ -67,6 +91,56 @@ fn report_from(
             replies.as_slice(),
         ),
         Err(_) => Err(AllocError),
+    }
+}
+
+/// The same, but it shows all.
+fn whole_from(
+    alloc: Global,
+    format: Format,
+    labels: &[RunnerLabel],
+    world: &mut World,
+    events: &[WorldEvent],
+) -> Result<Vec<u8>, AllocError>
+    requires { IsNew world.old }
+    ensures { IfOk result (λ text. IsWholeTextFrom format labels.now world.old events.now text.items) }
+{
+    let since = revision_of(world);
+    let mut keys = world.store().keys().copy()?;
+    let replies = run_with_history(alloc, world, &mut keys, events)?;
+    render_over(
+        alloc,
+        format,
+        labels,
+        &keys,
+        since,
+        world,
+        events,
+        replies.as_slice(),
+    )
+}
+
+/// The report of what a world replies to these events. Where they compact its store, text, picture and page show also what that drops.
+fn report_from(
+    alloc: Global,
+    format: Format,
+    labels: &[RunnerLabel],
+    world: &mut World,
+    events: &[WorldEvent],
+) -> Result<Vec<u8>, AllocError>
+    requires { IsNew world.old }
+    ensures { IfOk result (λ text. IsWholeTextFrom format labels.now world.old events.now text.items) }
+{
+    match format {
+        Format::Lines => kept_from(alloc, format, labels, world, events),
+        Format::Json => kept_from(alloc, format, labels, world, events),
+        _ => {
+            if has_compaction(events) {
+                whole_from(alloc, format, labels, world, events)
+            } else {
+                kept_from(alloc, format, labels, world, events)
+            }
+        }
     }
 }
 

@@ -15,6 +15,7 @@ mod format_script;
 mod leases;
 mod line_form;
 mod report_text;
+mod run_history;
 mod run_script;
 mod whole_comparing;
 mod whole_judging;

@@ -20,6 +20,7 @@ pub struct KeySet {
 }
 
 impl Drop for KeySet {
+    #[inline(always)]
     fn drop(self) {
         let KeySet {
             keys: _,
@@ -40,6 +41,7 @@ impl Model for KeySet {
 }
 
 /// Whether a key is one of these.
+#[inline(always)]
 fn is_among(keys: &[Text], key: &Text) -> bool
     ensures { result ≡ list_any (bytes_eq key.now) keys.now }
 {
@@ -108,6 +110,7 @@ impl KeySet {
     }
 
     /// Adds a key at the end, unless it is there already. An allocation failure leaves the keys as they were.
+    #[inline(always)]
     pub fn insert(&mut self, key: &Text) -> Result<(), AllocError>
         ensures ok { OnOk result (self.new ≡ with_key key.now self.old) }
         ensures err { OnErr result (self.new ≡ self.old) }

@@ -48,6 +48,7 @@ fn compute(operator: Operator, left: i64, right: i64) -> Result<i64, Fault>
 /// What an operator computes of two values. `Kind` is answered where one of them is a text, `ZeroDivisor` for a
 /// division or a remainder by 0, and then `Overflow` for a result out of range.
 #[tactic(auto, unfolding(crate::specs::Values::arithmetic))]
+#[inline(always)]
 pub fn combine(operator: Operator, left: &Value, right: &Value) -> Result<Value, Fault>
     ensures { result ≡ arithmetic operator left.now right.now }
 {
@@ -59,6 +60,7 @@ pub fn combine(operator: Operator, left: &Value, right: &Value) -> Result<Value,
 
 /// A number as decimal text. `Kind` is answered for a text.
 #[tactic(auto, unfolding(crate::specs::Values::text_of))]
+#[inline(always)]
 pub fn spell(alloc: Global, value: &Value) -> Result<Result<Value, Fault>, AllocError>
     ensures { IfOk result (λ r. r ≡ text_of value.now) }
 {

@@ -1,4 +1,6 @@
 //! A run in progress.
+//!
+//! What each read and each write of a run goes through is inlined, so that its values are not copied from call to call.
 ghost use Rattle.std.specs.Prelude.{◌≡◌, ◌≤◌, None, IfOk, OnOk, OnErr};
 ghost use Rattle.stm_history.specs.declared.revisions.TheConstants.{HIGHEST_NUMBER};
 ghost use Rattle.stm_steps.specs.Session.{fresh, variable_in, with_variable, with_output, with_write, with_item, with_read};
@@ -66,6 +68,7 @@ impl Model for Session {
 }
 
 /// What a `get` of a key that gave this value puts into the trace.
+#[inline(always)]
 fn get_item(key: &Text, value: &Text) -> Result<TraceItem, AllocError>
     ensures { IfOk result (λ item. item ≡ Get key.now value.now) }
 {
@@ -115,6 +118,7 @@ impl Session {
     }
 
     /// Records a write. An allocation failure leaves the session as it was.
+    #[inline(always)]
     pub fn write(&mut self, write: Write) -> Result<(), AllocError>
         ensures ok { OnOk result (self.new ≡ with_write write self.old) }
         ensures err { OnErr result (self.new ≡ self.old) }
@@ -149,6 +153,7 @@ impl Session {
     }
 
     /// Records a key that was looked up, and what it gave.
+    #[inline(always)]
     fn keep_read(&mut self, key: &Text, item: TraceItem) -> Result<(), AllocError>
         ensures ok { OnOk result (self.new ≡ with_item item (with_read key.now self.old)) }
         ensures err { OnErr result (self.new ≡ self.old) }

@@ -91,6 +91,7 @@ impl WriteLog {
     }
 
     /// Adds a write at the end. An allocation failure leaves the writes as they were.
+    #[inline(always)]
     pub fn push(&mut self, write: Write) -> Result<(), AllocError>
         ensures ok { OnOk result (self.new ≡ self.old ++ write ∷ []) }
         ensures err { OnErr result (self.new ≡ self.old) }

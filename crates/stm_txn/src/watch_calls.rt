@@ -53,6 +53,26 @@ impl Store {
         reported_watch(watched)
     }
 
+    /// Watches a range, without a preparation of its search.
+    fn add_range(&mut self, first: &str, end: &str, from: u64) -> Result<u64, Refusal>
+        ensures step { Returns (watched self.old.standing (Range first.now end.now) from) result self.new.standing }
+        ensures present { self.new.present ≡ self.old.present }
+        ensures opened { self.new.opened ≡ self.old.opened }
+        ensures err { OnErr result (self.new ≡ self.old) }
+    {
+        let watched = self.watchers.watch_range(first, end, from, &self.keys);
+        reported_watch(watched)
+    }
+
+    /// Prepares the search of the next revision of a range, if one comes.
+    fn prepare_search(&mut self, comes: bool)
+        ensures { self.new ≡ self.old }
+    {
+        if comes {
+            self.keys.sum_up();
+        }
+    }
+
     /// Watches the keys from `first` on that are below `end`, by bytes, as `watch_key` watches one. An `end` that is
     /// not above `first` leaves none. `EmptyKey` is answered where `first` is empty.
     pub fn watch_range(&mut self, first: &str, end: &str, from: u64) -> Result<u64, Refusal>
@@ -61,8 +81,9 @@ impl Store {
         ensures opened { self.new.opened ≡ self.old.opened }
         ensures err { OnErr result (self.new ≡ self.old) }
     {
-        let watched = self.watchers.watch_range(first, end, from, &self.keys);
-        reported_watch(watched)
+        let begins_in_the_past = from > 0 && from <= self.keys.revision();
+        self.prepare_search(begins_in_the_past);
+        self.add_range(first, end, from)
     }
 
     /// Cancels a watcher. It takes no memory. `NoWatcher` is answered where there is none with this number, or it was
@@ -112,6 +133,19 @@ impl Store {
         reported_poll(polled)
     }
 
+    /// A poll, without a preparation of its search.
+    fn poll_prepared(&mut self, id: u64, most: u64) -> Result<Batch, Refusal>
+        ensures step { Returns (polled self.old.standing id most) result self.new.standing }
+        ensures present { self.new.present ≡ self.old.present }
+        ensures numbers { IfOk result (λ batch. EventsFit batch.events) }
+        ensures refused { OnErr result (self.new.standing ≡ poll_refused self.old.standing id) }
+        ensures opened { self.new.opened ≡ self.old.opened }
+    {
+        let _counter = self.keys.revision();
+        let batch = self.take_batch(id, most)?;
+        Ok(batch)
+    }
+
     /// Gives a watcher the pending events of at most `most` revisions, and whole revisions only, and notes how far it
     /// has been notified. The numbers of the events are at most `HIGHEST_NUMBER`.
     ///
@@ -126,8 +160,8 @@ impl Store {
         ensures refused { OnErr result (self.new.standing ≡ poll_refused self.old.standing id) }
         ensures opened { self.new.opened ≡ self.old.opened }
     {
-        let _counter = self.keys.revision();
-        let batch = self.take_batch(id, most)?;
-        Ok(batch)
+        let is_of_range = self.watchers.watches_range(id);
+        self.prepare_search(is_of_range);
+        self.poll_prepared(id, most)
     }
 }

@@ -72,7 +72,7 @@ fn compare_at(alloc: Global, index: usize, value: &Value) -> Result<Compare, Rea
 fn each_compare(alloc: Global, values: &[Value]) -> Result<Vec<Compare>, ReadError>
     ensures { Returns (λ v. v.items) result (each_from compare_of 0 (items_view values.now)) }
 {
-    let mut compares = Vec::new(alloc);
+    let mut compares = Vec::with_capacity(alloc, values.len())?;
     for (index, value) in values.iter().enumerate() {
         let compare = compare_at(alloc, index, value)?;
         compares.push(compare)?;

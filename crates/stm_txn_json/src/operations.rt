@@ -71,7 +71,7 @@ fn operation_at(alloc: Global, index: usize, value: &Value) -> Result<Op, ReadEr
 fn each_operation(alloc: Global, values: &[Value]) -> Result<Vec<Op>, ReadError>
     ensures { Returns (λ v. v.items) result (each_from operation_of 0 (items_view values.now)) }
 {
-    let mut operations = Vec::new(alloc);
+    let mut operations = Vec::with_capacity(alloc, values.len())?;
     for (index, value) in values.iter().enumerate() {
         let operation = operation_at(alloc, index, value)?;
         operations.push(operation)?;

@@ -1,6 +1,6 @@
 -- What stands at a place of a list.
 use Rattle.std.proofs.Common.{◌≡◌, ◌⊎◌, ℕ, zero, suc, ◌<◌, List, [], ◌∷◌, ◌++◌, length, map, Option, Some, None, IsSome, is_some, option_map, slice_index_or, slice_set}
-use Rattle.std.proofs.Common.{false, refl, sym, ap, ◌∙◌, inl, inr, arith}
+use Rattle.std.proofs.Common.{false, refl, ap, inl, inr, arith}
 use Rattle.std.proofs.lemmas.Option.{same_Some}
 use Rattle.std.proofs.Math.ListN.{get_or-map}
 use Rattle.std.proofs.lemmas.Bool.Decides.{nat_tests}
@@ -23,10 +23,6 @@ pub read_at : {A : Type 0} (xs : List (Option A)) (i : ℕ) (d : Option A) → i
 read_at [] i d below = absurd (omega arith)
 read_at (x ∷ xs) zero d below = refl
 read_at (x ∷ xs) (suc i) d below = read_at xs i d (omega arith)
-
-pub found_at : {A : Type 0} (xs : List (Option A)) (i : ℕ) (o : Option A) (x : A) → IsSome (slice_index_or xs i None) → o ≡ slice_index_or xs i o → o ≡ Some x
-    → slice_index_or xs i None ≡ Some x
-found_at xs i o x some at is = sym (read_at xs i o (within xs i some)) ∙ sym at ∙ is
 
 pub set_twice : {A : Type 0} (xs : List A) (i : ℕ) (x y : A) → slice_set (slice_set xs i x) i y ≡ slice_set xs i y
 set_twice [] i x y = refl

@@ -1,11 +1,14 @@
 -- What copies of the tables and of the pages keep.
-use Rattle.std.proofs.Common.{◌≡◌, ℕ, List, [], ◌∷◌, String, refl, arith}
+use Rattle.std.proofs.Common.{◌≡◌, ℕ, zero, suc, List, Option, [], ◌∷◌, String, refl, arith}
 use Rattle.std.specs.Prelude.{bytes_eq, string_bytes}
 use Rattle.std.specs.List.{AllZip}
 use Rattle.std.specs.Map.{lookup}
 use Rattle.std.proofs.lemmas.Bool.Decides.{nat_tests}
 use Rattle.stm_watch.specs.declared.page.Page.{Page}
-use Rattle.stm_watch.specs.Pages.{Keeps}
+use Rattle.stm_watch.specs.declared.page.RangeEntry.{RangeEntry}
+use Rattle.stm_watch.specs.declared.ranges.Ranges.{Ranges}
+use Rattle.stm_watch.specs.declared.watched.Watcher.{Watcher}
+use Rattle.stm_watch.specs.Pages.{HasIn, Keeps, KeepsAll}
 use Rattle.stm_watch.proofs.Entered.{unsettled}
 
 -- copies of texts and numbers are found like their originals
@@ -25,3 +28,11 @@ pub keeps_copied : (pages copies : List Page) → AllZip IsPageCopy pages copies
 keeps_copied [] copies p ws e has = absurd has
 keeps_copied (page ∷ pages) [] p ws e has = absurd p
 keeps_copied (page ∷ pages) (copy ∷ copies) p ws e has = grind (arith, nat_tests, unsettled, keeps_copied pages copies p.1)
+
+pub groups_copied : (groups copies : List Ranges) → AllZip KeepsAll groups copies → (ws : List (Option Watcher)) (g : ℕ) (e : RangeEntry)
+    → HasIn ws groups g e → HasIn ws copies g e
+groups_copied [] [] p ws g e has = has
+groups_copied [] (copy ∷ copies) p ws g e has = absurd p
+groups_copied (group ∷ groups) [] p ws g e has = absurd p
+groups_copied (group ∷ groups) (copy ∷ copies) p ws zero e has = p.0 ws e has
+groups_copied (group ∷ groups) (copy ∷ copies) p ws (suc g) e has = groups_copied groups copies p.1 ws g e has

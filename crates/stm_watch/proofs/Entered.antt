@@ -1,19 +1,24 @@
 -- The entries on pages after each change.
-use Rattle.std.proofs.Common.{◌≡◌, ◌≢◌, ◌⊎◌, ℕ, zero, suc, ◌<◌, Bool, true, ◌&&◌, nat_eq, List, [], ◌∷◌, ◌++◌, take, drop, length, map, Option, Some, None}
-use Rattle.std.proofs.Common.{IsSome, option_map, slice_index_or, slice_set, refl, sym, ap, subst, ◌∙◌, inl, inr, arith}
+use Rattle.std.proofs.Common.{◌≡◌, ◌≢◌, ◌⊎◌, ℕ, zero, suc, ◌<◌, ◌≤◌, Bool, true, false, cond, ◌&&◌, nat_eq, List, [], ◌∷◌, ◌++◌, take, drop, length, map, Option, Some, None}
+use Rattle.std.proofs.Common.{IsSome, is_some, option_map, slice_index_or, slice_set, refl, sym, ap, subst, ◌∙◌, inl, inr, arith}
 use Rattle.std.specs.Prelude.{nat_lt}
-use Rattle.std.proofs.lemmas.Bool.{cases_eq, ne_eqb, Decides.nat_tests}
+use Rattle.std.specs.Str.{bytes_eq}
+use Rattle.std.proofs.lemmas.Bool.{cases_Bool, cases_eq, ne_eqb, Decides.nat_tests}
 use Rattle.std.proofs.lemmas.List.{get_or-set_same, get_or-set_other}
 use Rattle.std.proofs.lemmas.Option.{same_Some}
+use Rattle.std.proofs.lemmas.Slice.Eq.{bytes_eq-Decides}
+use Rattle.indexmap.specs.IndexMap.{get_by_text}
 use Rattle.stm_watch.specs.declared.page.RangeEntry.{RangeEntry}
 use Rattle.stm_watch.specs.declared.page.Page.{Page}
 use Rattle.stm_watch.specs.declared.watched.Watched.{Watched}
-use Rattle.stm_watch.specs.declared.watched.Watched.TheVariants.{Key, Range}
+use Rattle.stm_watch.specs.declared.watched.Watched.TheVariants.{Key}
 use Rattle.stm_watch.specs.declared.watched.Watcher.{Watcher}
-use Rattle.stm_watch.specs.Keys.{is_watched}
+use Rattle.stm_watch.specs.Keys.{is_watched, first_key}
 use Rattle.stm_watch.specs.Touch.{first_with, touch_key}
-use Rattle.stm_watch.specs.Pages.{IsAny, IsOneOf, StandsOn, HasEntry, Keeps, KeepsOthers, IsEntered, AreEntered, entry_of}
-use Rattle.stm_watch.proofs.At.{within, slot_of_map, slot_of_more}
+use Rattle.stm_watch.specs.declared.groups.Groups.{Groups}
+use Rattle.stm_watch.specs.declared.ranges.Ranges.{Ranges}
+use Rattle.stm_watch.specs.Pages.{IsAny, IsOneOf, IsIn, IsInside, IsQuiet, StandsOn, HasEntry, At, HasIn, GroupsKeep, IsGrouped, AreEntered, group_of}
+use Rattle.stm_watch.proofs.At.{not_some, within, slot_of_map, slot_of_more}
 
 -- ---- one of a list
 
@@ -75,6 +80,11 @@ module _ {A : Type 0} (is : A → Type 0) where
   any-read (x ∷ xs) zero d below so = inl so
   any-read (x ∷ xs) (suc i) d below so = inr (any-read xs i d (omega arith) so)
 
+  -- which one it is
+  pub any-found : (xs : List A) → IsAny is xs → (x : A) × is x × IsOneOf x xs
+  any-found [] any = absurd any
+  any-found (x ∷ xs) any = elim any [ inl here ↦ (x, here, inl refl) | inr there ↦ let rest = any-found xs there in (rest.0, rest.1, inr rest.2) ]
+
   -- there is none
   pub any-none : (xs : List A) → nat_eq (length xs) 0 ≡ true → IsAny is xs → ⊥
   any-none [] empty any = any
@@ -84,15 +94,94 @@ pub any-map : {A : Type 0} (is so : A → Type 0) → ((x : A) → is x → so x
 any-map is so to [] any = absurd any
 any-map is so to (x ∷ xs) any = elim any [ inl here ↦ inl (to x here) | inr there ↦ inr (any-map is so to xs there) ]
 
--- ---- all watchers of ranges
+-- ---- one at a place
+
+module _ {A : Type 0} (is : A → Type 0) where
+  pub at-read : (xs : List A) (i : ℕ) (d : A) → d ≡ slice_index_or xs i d → At is xs i → is d
+  at-read [] i d here at = absurd at
+  at-read (x ∷ xs) zero d here at = subst is (sym here) at
+  at-read (x ∷ xs) (suc i) d here at = at-read xs i d here at
+
+  pub at-past : (xs : List A) (i : ℕ) → length xs ≤ i → At is xs i → ⊥
+  at-past [] i past at = at
+  at-past (x ∷ xs) zero past at = omega (arith, past)
+  at-past (x ∷ xs) (suc i) past at = at-past xs i (omega arith) at
+
+  pub at-new : (xs : List A) (i : ℕ) (y : A) → i < length xs → is y → At is (slice_set xs i y) i
+  at-new [] i y below so = absurd (omega arith)
+  at-new (x ∷ xs) zero y below so = so
+  at-new (x ∷ xs) (suc i) y below so = at-new xs i y (omega arith) so
+
+  -- one is changed
+  pub at-set : (xs : List A) (i j : ℕ) (d y : A) → d ≡ slice_index_or xs i d → (is d → is y) → At is xs j → At is (slice_set xs i y) j
+  at-set [] i j d y here to at = at
+  at-set (x ∷ xs) zero zero d y here to at = to (subst is (sym here) at)
+  at-set (x ∷ xs) zero (suc j) d y here to at = at
+  at-set (x ∷ xs) (suc i) zero d y here to at = at
+  at-set (x ∷ xs) (suc i) (suc j) d y here to at = at-set xs i j d y here to at
+
+  pub at-more : (xs ys : List A) (i : ℕ) → At is xs i → At is (xs ++ ys) i
+  at-more [] ys i at = absurd at
+  at-more (x ∷ xs) ys zero at = at
+  at-more (x ∷ xs) ys (suc i) at = at-more xs ys i at
+
+pub at-map : {A : Type 0} (is so : A → Type 0) → ((x : A) → is x → so x) → (xs : List A) (i : ℕ) → At is xs i → At so xs i
+at-map is so to [] i at = at
+at-map is so to (x ∷ xs) zero at = to x at
+at-map is so to (x ∷ xs) (suc i) at = at-map is so to xs i at
+
+-- ---- groups
+
+pub kept_twice : (old mid new : Groups) → GroupsKeep old mid → GroupsKeep mid new → GroupsKeep old new
+kept_twice old mid new one other = grind (arith, nat_tests)
+
+-- what has no group is a key
+pub watched_key : (of_key : List ℕ → Option ℕ) (w : Watched) → group_of of_key w ≡ None → (of_key (first_key w) ≡ None) × (w ≡ Key (first_key w))
+watched_key of_key w none = grind (arith, nat_tests)
+
+-- a key got a group that had none
+pub keys_more : (of_key new_of_key : List ℕ → Option ℕ) (group : ℕ) (key : List ℕ) → of_key key ≡ None
+    → ((q : List ℕ) → new_of_key q ≡ cond (bytes_eq key q) (Some group) (of_key q)) → (k : List ℕ) (g : ℕ) → of_key k ≡ Some g → new_of_key k ≡ Some g
+keys_more of_key new_of_key group key none keys k g is = grind (arith, nat_tests, cases_Bool, bytes_eq-Decides)
+
+-- ---- all watchers
 
 -- an entry stands on a page that is looked at for each change
 pub unsettled : (ws : List (Option Watcher)) (e : RangeEntry) (page : Page) → page.reach.until ≡ 0 → IsOneOf e page.entries.items → StandsOn ws e page
 unsettled ws e page none there = record { met = λ w at idle. inl (omega (arith, none)); there = there }
 
-pub entered_same : (old new : List Page) (ws : List (Option Watcher)) → ((e : RangeEntry) → HasEntry ws old e → HasEntry ws new e) → AreEntered old ws
-    → AreEntered new ws
-entered_same old new ws keeps entered i w at = grind (arith, nat_tests)
+-- a change that concerns nobody so far, and nobody on one page more
+pub quiet_more : (ws : List (Option Watcher)) (e : RangeEntry) (pages more : List Page) (x : Page) (until least : ℕ) → more ≡ pages ++ x ∷ []
+    → is_some x.reach.bounds ≡ false → least ≤ until → least ≤ x.reach.until → (HasEntry ws pages e → IsQuiet ws e until) → HasEntry ws more e → IsQuiet ws e least
+quiet_more ws e pages more x until least is nobody below here quiet any w at idle = elim (any-parts (StandsOn ws e) pages (x ∷ []) (subst (λ (l : List Page). HasEntry ws l e) is any)) [
+  | inl before ↦ let le = quiet before w at idle in omega (arith, le, below)
+  | inr last ↦ elim last [
+    | inl stands ↦ elim (stands.met w at idle) [
+      | inl le ↦ omega (arith, le, here)
+      | inr inside ↦ absurd (subst (IsInside e) (not_some x.reach.bounds nobody) inside)
+    ]
+    | inr nothing ↦ absurd nothing
+  ]
+]
+
+-- an entry of a group of which all pages are looked at for each change
+pub looked_at : (ws : List (Option Watcher)) (e : RangeEntry) (group : Ranges) → group.until ≡ 0 → HasEntry ws group.pages.items e → IsIn ws e group
+looked_at ws e group none there = record { quiet = λ w at idle. omega (arith, none); there = there }
+
+-- the entry of a watcher stays in its group
+pub grouped_same : (old new : Groups) (ws after : List (Option Watcher)) (w : Watched) (i : ℕ)
+    → ((key : List ℕ) (g : ℕ) → get_by_text old.keys key ≡ Some g → get_by_text new.keys key ≡ Some g)
+    → ((g : ℕ) (e : RangeEntry) → e.place ≡ i → HasIn ws old.groups.items g e → HasIn after new.groups.items g e)
+    → IsGrouped old w i ws → IsGrouped new w i after
+grouped_same old new ws after w i keys entries had = grind (arith, nat_tests)
+
+pub entered_same : (old new : Groups) (ws : List (Option Watcher)) → ((key : List ℕ) (g : ℕ) → get_by_text old.keys key ≡ Some g → get_by_text new.keys key ≡ Some g)
+    → ((g : ℕ) (e : RangeEntry) → HasIn ws old.groups.items g e → HasIn ws new.groups.items g e) → AreEntered old ws → AreEntered new ws
+entered_same old new ws keys entries entered i w at =
+    grouped_same old new ws ws w.watched i keys (λ g e its. entries g e) (entered i w at)
+
+pub entered_kept : (old new : Groups) (ws : List (Option Watcher)) → GroupsKeep old new → AreEntered old ws → AreEntered new ws
+entered_kept old new ws keep = entered_same old new ws keep.keys (keep.entries ws)
 
 -- one that is idle at a place was idle there before, and has seen what it had
 abbrev IsStill : List (Option Watcher) → List (Option Watcher) → ℕ → Type 0
@@ -103,17 +192,27 @@ IsStill old new i =
 same_still : (old new : List (Option Watcher)) (i : ℕ) → slice_index_or new i None ≡ slice_index_or old i None → IsStill old new i
 same_still old new i same v at idle = (v, sym same ∙ at, idle, refl)
 
-entered_still : (pages : List Page) (old new : List (Option Watcher)) (w : Watched) (i : ℕ) → IsStill old new i → IsEntered w i old pages
-    → IsEntered w i new pages
-entered_still pages old new w i still entered = grind (arith, nat_tests, any-map, within)
+grouped_still : (groups : Groups) (old new : List (Option Watcher)) (w : Watched) (i : ℕ) → IsStill old new i → IsGrouped groups w i old → IsGrouped groups w i new
+grouped_still groups old new w i still grouped =
+    grouped_same groups groups old new w i (λ key g is. is)
+    (λ g e place. at-map (IsIn old e) (IsIn new e) (λ group. in_still e place group) groups.groups.items g) grouped
+  where
+    stands_still : (e : RangeEntry) → e.place ≡ i → (page : Page) → StandsOn old e page → StandsOn new e page
+    stands_still e place page stands = grind (arith, nat_tests)
+
+    in_still : (e : RangeEntry) → e.place ≡ i → (group : Ranges) → IsIn old e group → IsIn new e group
+    in_still e place group had = record {
+      quiet = λ v at idle. grind (arith, nat_tests, had.quiet);
+      there = any-map (StandsOn old e) (StandsOn new e) (stands_still e place) group.pages.items had.there;
+    }
 
 -- after a change of a key
-pub entered_touched : (revision : ℕ) (key : List ℕ) (pages : List Page) (ws : List (Option Watcher)) → AreEntered pages ws
-    → AreEntered pages (map (option_map (touch_key revision key)) ws)
-entered_touched revision key pages ws entered i w at =
+pub entered_touched : (revision : ℕ) (key : List ℕ) (groups : Groups) (ws : List (Option Watcher)) → AreEntered groups ws
+    → AreEntered groups (map (option_map (touch_key revision key)) ws)
+entered_touched revision key groups ws entered i w at =
     let was = before (slice_index_or ws i None) w (sym (slot_of_map (touch_key revision key) ws i) ∙ at) in
-    subst (λ (x : Watched). IsEntered x i (map (option_map (touch_key revision key)) ws) pages) was.2
-    (entered_still pages ws (map (option_map (touch_key revision key)) ws) was.0.watched i
+    subst (λ (x : Watched). IsGrouped groups x i (map (option_map (touch_key revision key)) ws)) was.2
+    (grouped_still groups ws (map (option_map (touch_key revision key)) ws) was.0.watched i
     (λ v is idle.
     let had = before (slice_index_or ws i None) v (sym (slot_of_map (touch_key revision key) ws i) ∙ is) in
     (had.0, had.1, had.4 idle, had.3))
@@ -136,38 +235,43 @@ entered_touched revision key pages ws entered i w at =
         )
 
 -- one watcher more
-pub entered_more : (pages : List Page) (ws : List (Option Watcher)) (w : Watcher)
-    → ((all : List (Option Watcher)) → IsEntered w.watched (length ws) all pages) → AreEntered pages ws → AreEntered pages (ws ++ Some w ∷ [])
-entered_more pages ws w new entered i v at = grind (arith, nat_tests, slot_of_more, entered_still, same_still)
+pub entered_more : (groups : Groups) (ws : List (Option Watcher)) (w : Watcher)
+    → ((all : List (Option Watcher)) → IsGrouped groups w.watched (length ws) all) → AreEntered groups ws → AreEntered groups (ws ++ Some w ∷ [])
+entered_more groups ws w new entered i v at =
+    elim (slot_of_more ws w v i at) [
+      | inl before ↦ grouped_still groups ws (ws ++ Some w ∷ []) v.watched i (same_still ws (ws ++ Some w ∷ []) i (at ∙ sym before)) (entered i v before)
+      | inr here ↦ subst (λ (x : Watcher). IsGrouped groups x.watched i (ws ++ Some w ∷ [])) here.1
+          (subst (λ (k : ℕ). IsGrouped groups w.watched k (ws ++ Some w ∷ [])) (sym here.0) (new (ws ++ Some w ∷ [])))
+    ]
 
 -- those at other places
-others : (old new : List Page) (ws : List (Option Watcher)) (place : ℕ) (slot : Option Watcher) (i : ℕ) (w : Watcher) → KeepsOthers place old new
-    → AreEntered old ws → i ≢ place → slice_index_or (slice_set ws place slot) i None ≡ Some w → IsEntered w.watched i (slice_set ws place slot) new
-others old new ws place slot i w keeps entered differs at =
+others : (old new : Groups) (ws : List (Option Watcher)) (place : ℕ) (slot : Option Watcher) (i : ℕ) (w : Watcher)
+    → ((key : List ℕ) (g : ℕ) → get_by_text old.keys key ≡ Some g → get_by_text new.keys key ≡ Some g)
+    → ((g : ℕ) (e : RangeEntry) → e.place ≢ place → HasIn ws old.groups.items g e → HasIn ws new.groups.items g e)
+    → AreEntered old ws → i ≢ place → slice_index_or (slice_set ws place slot) i None ≡ Some w → IsGrouped new w.watched i (slice_set ws place slot)
+others old new ws place slot i w keys entries entered differs at =
     let same = get_or-set_other ws place i slot None differs in
-    entered_still new ws (slice_set ws place slot) w.watched i (same_still ws (slice_set ws place slot) i same) (kept w.watched (entered i w (sym same ∙ at)))
-  where
-    kept : (v : Watched) → IsEntered v i ws old → IsEntered v i ws new
-    kept (Key key) has = tt
-    kept (Range first end) has = keeps ws (entry_of first end i) differs has
+    grouped_still new ws (slice_set ws place slot) w.watched i (same_still ws (slice_set ws place slot) i same)
+    (grouped_same old new ws ws w.watched i keys (λ g e is. entries g e (λ here. differs (sym is ∙ here))) (entered i w (sym same ∙ at)))
 
 -- one watcher less
-pub entered_less : (old new : List Page) (ws : List (Option Watcher)) (place : ℕ) → KeepsOthers place old new → IsSome (slice_index_or ws place None)
-    → AreEntered old ws → AreEntered new (slice_set ws place None)
-entered_less old new ws place keeps some entered i w at =
+pub entered_less : (old new : Groups) (ws : List (Option Watcher)) (place : ℕ) → new.keys ≡ old.keys
+    → ((ws : List (Option Watcher)) (g : ℕ) (e : RangeEntry) → e.place ≢ place → HasIn ws old.groups.items g e → HasIn ws new.groups.items g e)
+    → IsSome (slice_index_or ws place None) → AreEntered old ws → AreEntered new (slice_set ws place None)
+entered_less old new ws place keys entries some entered i w at =
     elim (cases_eq i place) [
       | inl same ↦
           let none : slice_index_or (slice_set ws place None) place None ≡ None = get_or-set_same ws place None None (within ws place some) in
           let here : slice_index_or (slice_set ws place None) place None ≡ Some w =
           subst (λ (n : ℕ). slice_index_or (slice_set ws place None) n None ≡ Some w) same at in
           absurd (cc)
-      | inr differs ↦ others old new ws place None i w keeps entered differs at
+      | inr differs ↦ others old new ws place None i w (λ key g is. ap (λ m. get_by_text m key) keys ∙ is) (entries ws) entered differs at
     ]
 
 -- one that was polled, and may be idle now
-pub entered_polled : (old new : List Page) (ws : List (Option Watcher)) (place : ℕ) (was is : Watcher) → slice_index_or ws place None ≡ Some was
-    → is.watched ≡ was.watched → Keeps old new
-    → ((one other : List (Option Watcher)) → IsEntered is.watched place one old → IsEntered is.watched place other new)
+pub entered_polled : (old new : Groups) (ws : List (Option Watcher)) (place : ℕ) (was is : Watcher) → slice_index_or ws place None ≡ Some was
+    → is.watched ≡ was.watched → GroupsKeep old new
+    → ((one other : List (Option Watcher)) → IsGrouped old is.watched place one → IsGrouped new is.watched place other)
     → AreEntered old ws → AreEntered new (slice_set ws place (Some is))
 entered_polled old new ws place was is there watched keeps woken entered i w at =
     elim (cases_eq i place) [
@@ -175,8 +279,8 @@ entered_polled old new ws place was is there watched keeps woken entered i w at 
           let all : List (Option Watcher) = slice_set ws place (Some is) in
           let here : is ≡ w = same_Some is w (sym (get_or-set_same ws place (Some is) None (within ws place (subst IsSome (sym there) refl)))
           ∙ subst (λ (n : ℕ). slice_index_or all n None ≡ Some w) same at) in
-          subst (λ (n : ℕ). IsEntered w.watched n all new) (sym same)
-          (subst (λ (x : Watcher). IsEntered x.watched place all new) here
-          (woken ws all (subst (λ (x : Watched). IsEntered x place ws old) (sym watched) (entered place was there))))
-      | inr differs ↦ others old new ws place (Some is) i w (λ one e other. keeps one e) entered differs at
+          subst (λ (n : ℕ). IsGrouped new w.watched n all) (sym same)
+          (subst (λ (x : Watcher). IsGrouped new x.watched place all) here
+          (woken ws all (subst (λ (x : Watched). IsGrouped old x place ws) (sym watched) (entered place was there))))
+      | inr differs ↦ others old new ws place (Some is) i w keeps.keys (λ g e other. keeps.entries ws g e) entered differs at
     ]

@@ -103,6 +103,3 @@ module _ (most : ℕ) (h : History) (w : Watching) (count : ℕ) (events : List 
   part_given full number some =
       let more = some_reported (above_of h w upto) number some in
       sym (part_batch most h w count events upto more.0 more.1 so_far (omega (arith, room, full)) more.2)
-
-  pub next_after : most ≤ count → (number : ℕ) → Some number ≡ number_of_first (above_of h w upto) → Some number ≡ first_pending h (after_poll most h w)
-  next_after full number some = some ∙ ap (λ (b : Batch). number_of_first (above_of h w b.upto)) (part_given full number some)

@@ -1,18 +1,15 @@
 -- The index of watchers after each change.
-use Rattle.std.proofs.Common.{◌≡◌, ◌⊎◌, ℕ, ◌<◌, ◌+◌, arith, Bool, false, cond, List, [], ◌∷◌, ◌++◌, length, Option, Some}
-use Rattle.std.proofs.Common.{None, IsSome, is_some, slice_index_or, slice_set, refl, sym, ap, subst, ◌∙◌, inl, inr, length-append}
+use Rattle.std.proofs.Common.{◌≡◌, ℕ, ◌<◌, ◌+◌, arith, List, [], ◌∷◌, ◌++◌, length, Option, Some}
+use Rattle.std.proofs.Common.{None, IsSome, slice_index_or, slice_set, refl, sym, ap, subst, ◌∙◌, inl, inr, length-append}
 use Rattle.std.proofs.lemmas.Bool.{cases_Bool, cases_eq, Decides.nat_tests}
 use Rattle.std.proofs.lemmas.List.{get_or-set_same, get_or-set_other, get_or_append_left, length-set}
 use Rattle.std.proofs.lemmas.Option.{same_Some}
-use Rattle.std.proofs.lemmas.Slice.Eq.{bytes_eq-Decides}
 use Rattle.std.proofs.Math.Seq.{get_or-append_seam}
-use Rattle.std.specs.Str.{bytes_eq}
-use Rattle.stm_lists.specs.Lists.{Lists, Place, list_at, entries_at, HasList, HasNode, StandsAt, Updates, first_node}
-use Rattle.stm_watch.specs.declared.watched.Watched.{Watched}
+use Rattle.stm_lists.specs.Lists.{Lists, Place, entries_at, HasList, HasNode, StandsAt, Updates, first_node}
 use Rattle.stm_watch.specs.declared.watched.Watched.TheVariants.{Key}
 use Rattle.stm_watch.specs.declared.watched.Watcher.{Watcher}
 use Rattle.stm_watch.specs.Calls.{IsNextReady}
-use Rattle.stm_watch.specs.Kept.{Holds, AreListed, AreCovered, list_in, list_among}
+use Rattle.stm_watch.specs.Kept.{Holds, AreListed, AreCovered, list_among}
 use Rattle.stm_watch.proofs.At.{within, read_at, slot_of_more, set_twice}
 use Rattle.stm_watch.proofs.Linked.{place_on, front_on, no_front, more_new, more_kept, more_from, more_there, less_kept, less_from, less_there}
 
@@ -20,20 +17,6 @@ pub some_is : {A : Type 0} (o : Option A) → IsSome o → (x : A) × (o ≡ Som
 some_is o some = grind (arith, nat_tests)
 
 -- ---- the lists of watchers
-
--- nothing but room changed
-listed_same : (old new : Lists ℕ) (lists_of new_lists_of : Watcher → Option ℕ) (nodes new_nodes : List (Option ℕ)) (ws : List (Option Watcher))
-    → new.lists ≡ old.lists → ((w : Watcher) → new_lists_of w ≡ lists_of w) → new_nodes ≡ nodes → AreListed old lists_of nodes ws
-    → AreListed new new_lists_of new_nodes ws
-listed_same old new lists_of new_lists_of nodes new_nodes ws same_lists same_for same_nodes listed = grind (arith, nat_tests)
-
--- there is one list more
-listed_new : (old new : Lists ℕ) (lists_of new_lists_of : Watcher → Option ℕ) (nodes : List (Option ℕ)) (ws : List (Option Watcher)) (list : ℕ)
-    → list_at old list ≡ None → Updates old new list (Some [])
-    → ((w : Watcher) (l : ℕ) → lists_of w ≡ Some l → new_lists_of w ≡ Some l)
-    → ((w : Watcher) (l : ℕ) → new_lists_of w ≡ Some l → (l ≡ list) ⊎ (lists_of w ≡ Some l))
-    → AreListed old lists_of nodes ws → AreListed new new_lists_of nodes ws
-listed_new old new lists_of new_lists_of nodes ws list fresh updates to from listed = grind (arith, nat_tests, cases_eq)
 
 -- one watcher more
 listed_more : (old new : Lists ℕ) (lists_of : Watcher → Option ℕ) (nodes : List (Option ℕ)) (ws : List (Option Watcher)) (list node : ℕ) (w : Watcher)
@@ -195,152 +178,59 @@ listed_again old new lists_of nodes ws list node i w listed below none is update
     set_here : slice_index_or (slice_set ws i (Some w)) i None ≡ Some w
     set_here = get_or-set_same ws i (Some w) None (subst (λ (n : ℕ). i < n) listed.long below)
 
--- ---- the lists of keys
-
--- which lists there are after a key got one
-lists_to : (of_key new_of_key : List ℕ → Option ℕ) (ranges list : ℕ) (key : List ℕ) → of_key key ≡ None
-    → ((q : List ℕ) → new_of_key q ≡ cond (bytes_eq key q) (Some list) (of_key q))
-    → (watched : Watched) (l : ℕ) → list_in of_key ranges watched ≡ Some l → list_in new_of_key ranges watched ≡ Some l
-lists_to of_key new_of_key ranges list key none keys watched l is = grind (arith, nat_tests, cases_Bool, bytes_eq-Decides)
-
-lists_from : (of_key new_of_key : List ℕ → Option ℕ) (ranges list : ℕ) (key : List ℕ)
-    → ((q : List ℕ) → new_of_key q ≡ cond (bytes_eq key q) (Some list) (of_key q))
-    → (watched : Watched) (l : ℕ) → list_in new_of_key ranges watched ≡ Some l → (l ≡ list) ⊎ (list_in of_key ranges watched ≡ Some l)
-lists_from of_key new_of_key ranges list key keys watched l is = grind (arith, nat_tests, cases_Bool, same_Some)
-
-lists_same : (of_key new_of_key : List ℕ → Option ℕ) (ranges : ℕ) → ((q : List ℕ) → new_of_key q ≡ of_key q)
-    → (watched : Watched) → list_in new_of_key ranges watched ≡ list_in of_key ranges watched
-lists_same of_key new_of_key ranges same watched = grind (arith, nat_tests)
-
--- the same of the lists on which watchers stand
-among_to : (ready l : ℕ) (idle new_idle : Option ℕ) (b : Bool) → (idle ≡ Some l → new_idle ≡ Some l) → cond b (Some ready) idle ≡ Some l
-    → cond b (Some ready) new_idle ≡ Some l
-among_to ready l idle new_idle b to is = grind (arith, nat_tests)
-
-among_from : (ready list l : ℕ) (idle new_idle : Option ℕ) (b : Bool) → (new_idle ≡ Some l → (l ≡ list) ⊎ (idle ≡ Some l))
-    → cond b (Some ready) new_idle ≡ Some l → (l ≡ list) ⊎ (cond b (Some ready) idle ≡ Some l)
-among_from ready list l idle new_idle b from is = grind (arith, nat_tests)
-
--- a list that is looked for with success is there
-some_to : (o p : Option ℕ) → ((l : ℕ) → o ≡ Some l → p ≡ Some l) → IsSome o → IsSome p
-some_to o p to some = let is = some_is o some in subst IsSome (sym (to is.0 is.1)) refl
-
 -- ---- all watchers
 
--- no watchers
-pub covered_none : (none one two : Lists ℕ) (of_key : List ℕ → Option ℕ) (ranges ready : ℕ) → none.lists ≡ [] → Updates none one ranges (Some [])
-    → list_at one ready ≡ None → Updates one two ready (Some []) → ((q : List ℕ) → of_key q ≡ None) → AreCovered two of_key ranges ready [] []
-covered_none none one two of_key ranges ready empty first fresh second keys = grind (arith, nat_tests, cases_eq, same_Some)
-
-module _ (of_key : List ℕ → Option ℕ) (ranges ready : ℕ) where
-  -- the lists of ready and of idle watchers are there
-  pub ready_there : (lists : Lists ℕ) (nodes : List (Option ℕ)) (ws : List (Option Watcher)) → AreCovered lists of_key ranges ready nodes ws → HasList lists ready
+module _ (idle ready : ℕ) where
+  -- the list of the ready watchers is there
+  pub ready_there : (lists : Lists ℕ) (nodes : List (Option ℕ)) (ws : List (Option Watcher)) → AreCovered lists idle ready nodes ws → HasList lists ready
   ready_there lists nodes ws covered = covered.listed.there (record { watched = Key []; seen = 0; first = Some 0 }) ready refl
 
-  pub idle_there : (lists : Lists ℕ) (nodes : List (Option ℕ)) (ws : List (Option Watcher)) (watched : Watched) (list : ℕ) → AreCovered lists of_key ranges ready nodes ws
-      → list_in of_key ranges watched ≡ Some list → HasList lists list
-  idle_there lists nodes ws watched list covered is = covered.listed.there (record { watched = watched; seen = 0; first = None }) list is
-
-  pub covered_same : (old new : Lists ℕ) (new_of_key : List ℕ → Option ℕ) (nodes new_nodes : List (Option ℕ)) (ws : List (Option Watcher))
-      → new.lists ≡ old.lists → ((q : List ℕ) → new_of_key q ≡ of_key q) → new_nodes ≡ nodes
-      → AreCovered old of_key ranges ready nodes ws → AreCovered new new_of_key ranges ready new_nodes ws
-  covered_same old new new_of_key nodes new_nodes ws same_lists same_keys same_nodes covered = record {
-    listed = listed_same old new (list_among of_key ranges ready) (list_among new_of_key ranges ready) nodes new_nodes ws same_lists
-        (λ w. ap (cond (is_some w.first) (Some ready)) (lists_same of_key new_of_key ranges same_keys w.watched)) same_nodes covered.listed;
-    waiting = λ i w at. subst IsSome (sym (lists_same of_key new_of_key ranges same_keys w.watched)) (covered.waiting i w at);
-    apart = λ watched is. covered.apart watched (sym (lists_same of_key new_of_key ranges same_keys watched) ∙ is);
-  }
-
-  -- a key gets a list
-  pub covered_new : (old new : Lists ℕ) (new_of_key : List ℕ → Option ℕ) (nodes : List (Option ℕ)) (ws : List (Option Watcher)) (list : ℕ) (key : List ℕ)
-      → of_key key ≡ None → ((q : List ℕ) → new_of_key q ≡ cond (bytes_eq key q) (Some list) (of_key q))
-      → list_at old list ≡ None → Updates old new list (Some [])
-      → AreCovered old of_key ranges ready nodes ws → AreCovered new new_of_key ranges ready nodes ws
-  covered_new old new new_of_key nodes ws list key none keys fresh updates covered = record {
-    listed = listed_new old new (list_among of_key ranges ready) (list_among new_of_key ranges ready) nodes ws list fresh updates
-        (λ w l. among_to ready l (list_in of_key ranges w.watched) (list_in new_of_key ranges w.watched) (is_some w.first)
-        (lists_to of_key new_of_key ranges list key none keys w.watched l))
-        (λ w l. among_from ready list l (list_in of_key ranges w.watched) (list_in new_of_key ranges w.watched) (is_some w.first)
-        (lists_from of_key new_of_key ranges list key keys w.watched l))
-        covered.listed;
-    waiting = λ i w at. some_to (list_in of_key ranges w.watched) (list_in new_of_key ranges w.watched)
-        (lists_to of_key new_of_key ranges list key none keys w.watched) (covered.waiting i w at);
-    apart = λ watched is. elim (lists_from of_key new_of_key ranges list key keys watched ready is) [
-      | inl same ↦
-          let there : IsSome (list_at old list) = subst (HasList old) same (ready_there old nodes ws covered) in
-          let never : IsSome {T = List (ℕ × ℕ)} None = subst IsSome fresh there in
-          absurd (cc)
-      | inr before ↦ covered.apart watched before
-    ];
-  }
+  pub covered_same : (old new : Lists ℕ) (nodes new_nodes : List (Option ℕ)) (ws : List (Option Watcher)) → new.lists ≡ old.lists → new_nodes ≡ nodes
+      → AreCovered old idle ready nodes ws → AreCovered new idle ready new_nodes ws
+  covered_same old new nodes new_nodes ws same_lists same_nodes covered = grind (arith, nat_tests)
 
   -- one watcher more
   pub covered_more : (old new : Lists ℕ) (nodes : List (Option ℕ)) (ws : List (Option Watcher)) (list node : ℕ) (w : Watcher)
-      → AreCovered old of_key ranges ready nodes ws → list_among of_key ranges ready w ≡ Some list → IsSome (list_in of_key ranges w.watched)
+      → AreCovered old idle ready nodes ws → list_among idle ready w ≡ Some list
       → Updates old new list (Some (entries_at old list ++ (node, length nodes) ∷ []))
-      → AreCovered new of_key ranges ready (nodes ++ Some node ∷ []) (ws ++ Some w ∷ [])
-  covered_more old new nodes ws list node w covered is waits updates = record {
-    listed = listed_more old new (list_among of_key ranges ready) nodes ws list node w covered.listed is updates;
-    waiting = λ i v at. elim (slot_of_more ws w v i at) [
-      | inl before ↦ covered.waiting i v before
-      | inr here ↦ subst (λ (x : Watcher). IsSome (list_in of_key ranges x.watched)) here.1 waits
-    ];
+      → AreCovered new idle ready (nodes ++ Some node ∷ []) (ws ++ Some w ∷ [])
+  covered_more old new nodes ws list node w covered is updates = record {
+    listed = listed_more old new (list_among idle ready) nodes ws list node w covered.listed is updates;
     apart = covered.apart;
   }
 
   pub covered_node : (lists : Lists ℕ) (nodes : List (Option ℕ)) (ws : List (Option Watcher)) (i node : ℕ) (o : Option ℕ)
-      → AreCovered lists of_key ranges ready nodes ws → IsSome (slice_index_or ws i None) → o ≡ slice_index_or nodes i o → o ≡ Some node
+      → AreCovered lists idle ready nodes ws → IsSome (slice_index_or ws i None) → o ≡ slice_index_or nodes i o → o ≡ Some node
       → (list : ℕ) × (slice_index_or nodes i None ≡ Some node) × Holds (entries_at lists list) node i
   covered_node lists nodes ws i node o covered some at is = grind (arith, nat_tests, some_is, within, read_at, same_Some)
 
   -- one watcher less
   pub covered_less : (old new : Lists ℕ) (nodes : List (Option ℕ)) (ws : List (Option Watcher)) (i node list : ℕ)
-      → AreCovered old of_key ranges ready nodes ws → slice_index_or nodes i None ≡ Some node → Holds (entries_at old list) node i
+      → AreCovered old idle ready nodes ws → slice_index_or nodes i None ≡ Some node → Holds (entries_at old list) node i
       → ((place : Place ℕ) → StandsAt old node place → Updates old new place.list (Some (place.before ++ place.after)))
-      → (HasNode new node → ⊥) → i < length ws → AreCovered new of_key ranges ready (slice_set nodes i None) (slice_set ws i None)
+      → (HasNode new node → ⊥) → i < length ws → AreCovered new idle ready (slice_set nodes i None) (slice_set ws i None)
   covered_less old new nodes ws i node list covered at holds unlinked gone below = record {
-    listed = listed_less old new (list_among of_key ranges ready) nodes ws i node list covered.listed at holds unlinked gone below;
-    waiting = λ j v is. elim (cases_eq j i) [
-      | inl same ↦
-          let none : slice_index_or (slice_set ws i None) i None ≡ None = get_or-set_same ws i None None below in
-          let some : slice_index_or (slice_set ws i None) i None ≡ Some v = subst (λ (n : ℕ). slice_index_or (slice_set ws i None) n None ≡ Some v) same is in
-          absurd (cc)
-      | inr differs ↦ covered.waiting j v (sym (get_or-set_other ws i j None None differs) ∙ is)
-    ];
+    listed = listed_less old new (list_among idle ready) nodes ws i node list covered.listed at holds unlinked gone below;
     apart = covered.apart;
   }
 
   -- a watcher at a place where none is
   pub covered_again : (old new : Lists ℕ) (nodes : List (Option ℕ)) (ws : List (Option Watcher)) (list node i : ℕ) (w : Watcher)
-      → AreCovered old of_key ranges ready (slice_set nodes i None) (slice_set ws i None) → i < length nodes → i < length ws
-      → list_among of_key ranges ready w ≡ Some list → IsSome (list_in of_key ranges w.watched)
+      → AreCovered old idle ready (slice_set nodes i None) (slice_set ws i None) → i < length nodes → list_among idle ready w ≡ Some list
       → Updates old new list (Some (entries_at old list ++ (node, i) ∷ []))
-      → AreCovered new of_key ranges ready (slice_set nodes i (Some node)) (slice_set ws i (Some w))
-  covered_again old new nodes ws list node i w covered below there is waits updates =
-      subst (λ ns. AreCovered new of_key ranges ready ns (slice_set ws i (Some w))) (set_twice nodes i None (Some node))
-      (subst (AreCovered new of_key ranges ready (slice_set (slice_set nodes i None) i (Some node))) (set_twice ws i None (Some w))
+      → AreCovered new idle ready (slice_set nodes i (Some node)) (slice_set ws i (Some w))
+  covered_again old new nodes ws list node i w covered below is updates =
+      subst (λ ns. AreCovered new idle ready ns (slice_set ws i (Some w))) (set_twice nodes i None (Some node))
+      (subst (AreCovered new idle ready (slice_set (slice_set nodes i None) i (Some node))) (set_twice ws i None (Some w))
       (record {
-        listed = listed_again old new (list_among of_key ranges ready) (slice_set nodes i None) (slice_set ws i None) list node i w covered.listed
+        listed = listed_again old new (list_among idle ready) (slice_set nodes i None) (slice_set ws i None) list node i w covered.listed
             (subst (λ (n : ℕ). i < n) (sym (length-set nodes i None)) below) (get_or-set_same nodes i None None below) is updates;
-        waiting = λ j v at. elim (cases_eq j i) [
-          | inl same ↦
-              let here : w ≡ v = same_Some w v (sym (get_or-set_same (slice_set ws i None) i (Some w) None
-              (subst (λ (n : ℕ). i < n) (sym (length-set ws i None)) there))
-              ∙ subst (λ (k : ℕ). slice_index_or (slice_set (slice_set ws i None) i (Some w)) k None ≡ Some v) same at) in
-              subst (λ (x : Watcher). IsSome (list_in of_key ranges x.watched)) here waits
-          | inr differs ↦ covered.waiting j v (sym (get_or-set_other (slice_set ws i None) i j (Some w) None differs) ∙ at)
-        ];
         apart = covered.apart;
       }))
 
   -- ---- one that is ready
 
-  module _ (lists : Lists ℕ) (nodes : List (Option ℕ)) (ws : List (Option Watcher)) (covered : AreCovered lists of_key ranges ready nodes ws) where
-    -- a watcher on an idle list is idle, and one on the list of the ready ones is ready
-    pub is_idle : (w : Watcher) (watched : Watched) (list : ℕ) → list_in of_key ranges watched ≡ Some list → list_among of_key ranges ready w ≡ Some list
-        → is_some w.first ≡ false
-    is_idle w watched list idle is = grind (arith, nat_tests, cases_Bool, same_Some)
-
+  module _ (lists : Lists ℕ) (nodes : List (Option ℕ)) (ws : List (Option Watcher)) (covered : AreCovered lists idle ready nodes ws) where
     pub none_next : first_node (entries_at lists ready) ≡ None → IsNextReady ws None
     none_next none id = grind (arith, nat_tests, cases_Bool, same_Some, no_front)
 

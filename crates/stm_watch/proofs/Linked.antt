@@ -55,9 +55,6 @@ place_on s list node i h =
       number = refl;
     }
 
-pub holds_at : (s : Lists ℕ) (node : ℕ) (place : Place ℕ) → StandsAt s node place → Holds (entries_at s place.list) node place.value
-holds_at s node place stands = grind (arith, nat_tests, holds-right)
-
 pub node_on : (s : Lists ℕ) (list node i : ℕ) → Holds (entries_at s list) node i → HasNode s node
 node_on s list node i h = let on = place_on s list node i h in (on.place, on.stands)
 
@@ -98,11 +95,8 @@ module _ (old new : Lists ℕ) (node : ℕ) (place : Place ℕ) (stands : Stands
   pub less_kept : (l n i : ℕ) → i ≢ place.value → Holds (entries_at old l) n i → Holds (entries_at new l) n i
   less_kept l n i other h = grind (arith, nat_tests, cases_eq, less_here, less_before, less_else, holds-parts, holds-left, holds-right)
 
-  less_was : (l n i : ℕ) → Holds (entries_at new l) n i → Holds (entries_at old l) n i
-  less_was l n i h = grind (arith, nat_tests, cases_eq, less_before, less_here, less_else, holds-parts, holds-left, holds-right)
-
   pub less_from : (l n i : ℕ) → Holds (entries_at new l) n i → Holds (entries_at old l) n i × (n ≢ node)
-  less_from l n i h = (less_was l n i h, λ same. gone (subst (HasNode new) same (node_on new l n i h)))
+  less_from l n i h = grind (arith, nat_tests, node_on, cases_eq, less_before, less_here, less_else, holds-parts, holds-left, holds-right)
 
   pub less_there : (l : ℕ) → HasList old l → HasList new l
   less_there l has = grind (arith, nat_tests, cases_eq)

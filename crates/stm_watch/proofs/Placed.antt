@@ -1,5 +1,5 @@
 -- What a poll makes of the watchers at all places.
-use Rattle.std.proofs.Common.{◌≡◌, ℕ, ◌-◌, Bool, true, false, cond, List, Option, Some, None, IsSome, IfSome, IsOk, option_map, slice_index_or, slice_set}
+use Rattle.std.proofs.Common.{◌≡◌, ℕ, ◌-◌, Bool, true, false, cond, List, Option, Some, None, IsSome, IfSome, option_map, slice_index_or, slice_set}
 use Rattle.std.proofs.Common.{Result, Ok, Err, OnErr, refl, sym, ap, subst, ◌∙◌, nat_eq, arith}
 use Rattle.std.specs.declared.alloc.AllocError.{AllocError}
 use Rattle.std.proofs.lemmas.List.{set-get_or, get_or-set_same}
@@ -107,14 +107,8 @@ module _ (h : History) (floor id most : ℕ) (old : List (Option Watcher)) (plac
 
   -- it is not lost
   module _ (not : is_lost floor w.first ≡ false) (stand : StandAll h floor old) where
-    polled_is : poll h id most (seen_at floor old) ≡ given
-    polled_is = ap (poll_found h id most (seen_at floor old)) found_seen ∙ ap (λ b. cond b (Err Compacted) given) not
-
     pub is_followed : IsFollowed h w
     is_followed = subst (Stands h floor) at (stands_at h floor old place stand) not
-
-    pub can_be_polled : IsOk (poll h id most (seen_at floor old))
-    can_be_polled = subst IsOk (sym polled_is) refl
 
     lost_same : is_lost floor (first_pending h (after_poll most h (followed w))) ≡ is_lost floor w.first
     lost_same = polled_not_lost floor most h (followed w) (ap (is_lost floor) (sym is_followed) ∙ not) ∙ sym not
@@ -137,7 +131,7 @@ module _ (h : History) (floor id most : ℕ) (old : List (Option Watcher)) (plac
           (Some (let one : Watching = record { watched = w.watched; seen = (batch_of most h (followed w)).upto; lost = b } in one))) lost_same
 
       pub found_polled : poll h id most (seen_at floor old) ≡ Ok (record { answer = batch; next = seen_at floor new })
-      found_polled = grind (arith, nat_tests, polled_is, seen_at, seen_new)
+      found_polled = grind (arith, nat_tests, seen_at, seen_new, found_seen)
 
       pub polled_stand : StandAll h floor new
       polled_stand = grind (arith, nat_tests, stand_set)

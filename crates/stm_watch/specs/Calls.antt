@@ -11,7 +11,7 @@ use Rattle.stm_watch.specs.declared.refusal.WatchRefusal.{WatchRefusal}
 use Rattle.stm_watch.specs.declared.refusal.WatchRefusal.TheVariants.{EmptyKey, OutOfMemory}
 use Rattle.stm_watch.specs.declared.refusal.PollRefusal.{PollRefusal}
 use Rattle.stm_watch.specs.declared.refusal.PollRefusal.TheVariants.{NoWatcher, Compacted, OutOfMemory as PollOutOfMemory}
-use Rattle.stm_watch.specs.Keys.{first_key}
+use Rattle.stm_watch.specs.Keys.{first_key, is_range}
 use Rattle.stm_watch.specs.Watching.{Watching}
 use Rattle.stm_watch.specs.Places.{WatchersView, with_places, is_lost, watching_of, watchings}
 use Rattle.stm_watch.specs.Pending.{watching_from, is_pending, first_pending, batch_of, after_poll}
@@ -21,6 +21,10 @@ use Rattle.stm_watch.specs.Pending.{watching_from, is_pending, first_pending, ba
 -- the watcher with this number, if there is one that was not cancelled
 abbrev pub watcher_at : {A : Type 0} → ℕ → List (Option A) → Option A
 watcher_at id ws = if nat_eq id 0 then None else slice_index_or ws (id - 1) None
+
+-- whether there is a watcher with this number, and it is of a range
+abbrev pub watches_range : ℕ → List (Option Watcher) → Bool
+watches_range id places = is_range (option_map (λ (w : Watcher). w.watched) (watcher_at id places))
 
 -- what a call that is not refused comes to: its answer, and the watchers after it
 pub record Step (A : Type 0) : Type 0 where

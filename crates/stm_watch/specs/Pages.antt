@@ -1,7 +1,9 @@
 -- The pages of watchers of ranges, and what a change of a key makes of the watchers at some places. No public clause cites this module.
-use Rattle.std.specs.Prelude.{◌≡◌, ◌≢◌, ◌⊎◌, ◌≤◌, ◌<◌, ℕ, true, List, [], ◌∷◌, Option, Some, None, slice_index_or}
+use Rattle.std.specs.Prelude.{◌≡◌, ◌⊎◌, ◌≤◌, ◌<◌, ℕ, zero, suc, Bool, true, false, List, [], ◌∷◌, ◌++◌, Option, Some, None, slice_index_or}
 use Rattle.std.specs.Ordering.{nat_cmp, is_le}
 use Rattle.std.specs.Cmp.Lexicographic.{slice_cmp}
+use Rattle.indexmap.specs.IndexMap.{get_by_text}
+use Rattle.stm_watch.specs.declared.groups.Groups.{Groups}
 use Rattle.stm_watch.specs.declared.index.Index.{Index}
 use Rattle.stm_watch.specs.declared.page.RangeEntry.{RangeEntry}
 use Rattle.stm_watch.specs.declared.page.Bounds.{Bounds}
@@ -25,18 +27,43 @@ IsOneOf x xs = IsAny (λ y. y ≡ x) xs
 
 -- ---- entries on pages
 
-abbrev pub entry_of : List ℕ → List ℕ → ℕ → RangeEntry
-entry_of first end place = record { first = first; end = end; place = place }
+-- the range of the entry has all keys that are watched
+abbrev pub HasAll : RangeEntry → Watched → Type 0
+HasAll e watched = (key : List ℕ) → is_watched watched key ≡ true → is_watched (Range e.first e.end) key ≡ true
+
+-- where the range ends that has just these keys
+abbrev pub end_of : Watched → List ℕ
+end_of (Key key) = key ++ 0 ∷ []
+end_of (Range first end) = end
+
+-- the entry is for the watcher at a place
+pub record IsEntryOf (watched : Watched) (place : ℕ) (e : RangeEntry) : Type 0 where
+  pub stands : e.place ≡ place
+  pub all : HasAll e watched
 
 -- the range is within bounds
 pub record IsWithin (e : RangeEntry) (bounds : Bounds) : Type 0 where
   pub low : is_le (slice_cmp nat_cmp bounds.low e.first) ≡ true
   pub high : is_le (slice_cmp nat_cmp e.end bounds.high) ≡ true
 
+-- it is within the bounds, if there are any
+abbrev pub IsInside : RangeEntry → Option Bounds → Type 0
+IsInside e None = ⊥
+IsInside e (Some bounds) = IsWithin e bounds
+
+-- whether a range within the bounds may have a key
+abbrev pub may_have : Option Bounds → List ℕ → Bool
+may_have None key = false
+may_have (Some bounds) key = is_watched (Range bounds.low bounds.high) key
+
 -- where the watcher of the entry is idle, its range is within the bounds, or what it has seen is not below the revision up to which they say all
 abbrev pub IsMet : List (Option Watcher) → RangeEntry → Reach → Type 0
 IsMet ws e reach =
-    (w : Watcher) → slice_index_or ws e.place None ≡ Some w → w.first ≡ None → (reach.until ≤ w.seen) ⊎ IsWithin e reach.bounds
+    (w : Watcher) → slice_index_or ws e.place None ≡ Some w → w.first ≡ None → (reach.until ≤ w.seen) ⊎ IsInside e reach.bounds
+
+-- where the watcher of the entry is idle, what it has seen is not below a revision
+abbrev pub IsQuiet : List (Option Watcher) → RangeEntry → ℕ → Type 0
+IsQuiet ws e until = (w : Watcher) → slice_index_or ws e.place None ≡ Some w → w.first ≡ None → until ≤ w.seen
 
 -- this is what the watcher at a place has seen, if one is idle there
 abbrev pub IsSeenAt : List (Option Watcher) → ℕ → Option ℕ → Type 0
@@ -55,23 +82,57 @@ HasEntry ws pages e = IsAny (StandsOn ws e) pages
 abbrev pub Keeps : List Page → List Page → Type 0
 Keeps old new = (ws : List (Option Watcher)) (e : RangeEntry) → HasEntry ws old e → HasEntry ws new e
 
--- none is lost but that of the watcher at a place
-abbrev pub KeepsOthers : ℕ → List Page → List Page → Type 0
-KeepsOthers place old new = (ws : List (Option Watcher)) (e : RangeEntry) → e.place ≢ place → HasEntry ws old e → HasEntry ws new e
+-- the watcher at a place has its entry here
+pub record IsEntered (watched : Watched) (place : ℕ) (here : RangeEntry → Type 0) : Type 0 where
+  pub entry : RangeEntry
+  pub its : IsEntryOf watched place entry
+  pub there : here entry
 
--- the watcher at a place has its entry, if it watches a range
-abbrev pub IsEntered : Watched → ℕ → List (Option Watcher) → List Page → Type 0
-IsEntered (Key key) place ws pages = Unit {0}
-IsEntered (Range first end) place ws pages = HasEntry ws pages (entry_of first end place)
+-- ---- groups
 
--- each watcher of a range has its entry
-abbrev pub AreEntered : List Page → List (Option Watcher) → Type 0
-AreEntered pages ws = (i : ℕ) (w : Watcher) → slice_index_or ws i None ≡ Some w → IsEntered w.watched i ws pages
+-- the entry is on the pages of a group, which are looked at where a change concerns its watcher
+pub record IsIn (ws : List (Option Watcher)) (e : RangeEntry) (group : Ranges) : Type 0 where
+  pub quiet : IsQuiet ws e group.until
+  pub there : HasEntry ws group.pages.items e
+
+-- no entry of a group is lost
+abbrev pub KeepsAll : Ranges → Ranges → Type 0
+KeepsAll old new = (ws : List (Option Watcher)) (e : RangeEntry) → IsIn ws e old → IsIn ws e new
+
+-- the one at a place is there, and is so
+abbrev pub At : {A : Type 0} → (A → Type 0) → List A → ℕ → Type 0
+At is [] i = ⊥
+At is (x ∷ xs) zero = is x
+At is (x ∷ xs) (suc i) = At is xs i
+
+-- the entry is in the group with a number
+abbrev pub HasIn : List (Option Watcher) → List Ranges → ℕ → RangeEntry → Type 0
+HasIn ws groups group e = At (IsIn ws e) groups group
+
+-- the group in which watchers of this are: that of the key, or that of ranges
+abbrev pub group_of : (List ℕ → Option ℕ) → Watched → Option ℕ
+group_of of_key (Key key) = of_key key
+group_of of_key (Range first end) = Some 0
+
+-- no key loses its group, and no group an entry
+pub record GroupsKeep (old new : Groups) : Type 0 where
+  pub keys : (key : List ℕ) (group : ℕ) → get_by_text old.keys key ≡ Some group → get_by_text new.keys key ≡ Some group
+  pub entries : (ws : List (Option Watcher)) (group : ℕ) (e : RangeEntry) → HasIn ws old.groups.items group e → HasIn ws new.groups.items group e
+
+-- the watcher at a place has its entry in its group
+pub record IsGrouped (groups : Groups) (watched : Watched) (place : ℕ) (ws : List (Option Watcher)) : Type 0 where
+  pub group : ℕ
+  pub its : group_of (get_by_text groups.keys) watched ≡ Some group
+  pub entered : IsEntered watched place (HasIn ws groups.groups.items group)
+
+-- each watcher has
+abbrev pub AreEntered : Groups → List (Option Watcher) → Type 0
+AreEntered groups ws = (i : ℕ) (w : Watcher) → slice_index_or ws i None ≡ Some w → IsGrouped groups w.watched i ws
 
 -- all watchers are found
-pub record AreFound (index : Index) (ranges : Ranges) (ws : List (Option Watcher)) : Type 0 where
+pub record AreFound (index : Index) (groups : Groups) (ws : List (Option Watcher)) : Type 0 where
   pub covers : Covers index ws
-  pub entered : AreEntered ranges.pages.items ws
+  pub entered : AreEntered groups ws
 
 -- ---- who is touched
 
@@ -82,7 +143,16 @@ Reaches key i e = (e.place ≡ i) × (is_watched (Range e.first e.end) key ≡ t
 -- there is such an entry on a page, which is looked at for it
 abbrev pub ReachesOn : ℕ → List ℕ → ℕ → Page → Type 0
 ReachesOn revision key i page =
-    (e : RangeEntry) × IsOneOf e page.entries.items × Reaches key i e × ((page.reach.until < revision) ⊎ IsWithin e page.reach.bounds)
+    (e : RangeEntry) × IsOneOf e page.entries.items × Reaches key i e × ((page.reach.until < revision) ⊎ IsInside e page.reach.bounds)
+
+-- there is one on a page of a group, which is looked at for it
+abbrev pub ReachesIn : ℕ → List ℕ → ℕ → Ranges → Type 0
+ReachesIn revision key i group = (group.until < revision) × IsAny (ReachesOn revision key i) group.pages.items
+
+-- the same of a group by its number
+abbrev pub ReachesAt : ℕ → List ℕ → ℕ → List Ranges → Option ℕ → Type 0
+ReachesAt revision key i groups None = ⊥
+ReachesAt revision key i groups (Some group) = At (ReachesIn revision key i) groups group
 
 -- a change of a key was noted at some places, at these among them
 pub record IsTouched (revision : ℕ) (key : List ℕ) (at : ℕ → Type 0) (old new : List (Option Watcher)) : Type 0 where

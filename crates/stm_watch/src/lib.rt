@@ -8,6 +8,7 @@
 
 mod copies;
 mod gather;
+mod groups;
 mod index;
 mod page;
 mod pending_revision;

@@ -1,5 +1,5 @@
-//! A page: watchers of ranges that begin near each other, and the bounds of those that a change may concern.
-ghost use Rattle.std.specs.Prelude.{◌≡◌, ◌≢◌, ◌⊎◌, ◌≤◌, ◌+◌, ◌++◌, ◌||◌, List, Option, true, nat_eq, nat_lt, IfOk, OnOk, OnErr};
+//! A page: watchers of ranges that begin near each other, or of one key, and the bounds of those that a change may concern.
+ghost use Rattle.std.specs.Prelude.{◌≡◌, ◌≢◌, ◌⊎◌, ◌≤◌, ◌+◌, ◌++◌, ◌∷◌, [], ◌||◌, List, Option, true, nat_eq, nat_lt, IfOk, OnOk, OnErr};
 ghost use Rattle.std.specs.Ordering.{nat_cmp, is_le, ordering_then};
 ghost use Rattle.std.specs.Cmp.Lexicographic.{slice_cmp};
 ghost use Rattle.std.specs.Vec.{vec_len, vec_capacity};
@@ -7,17 +7,18 @@ ghost use Rattle.stm_watch.specs.declared.page.RangeEntry.{RangeEntry as Entry};
 ghost use Rattle.stm_watch.specs.declared.watched.Watched.TheVariants.{Range};
 ghost use Rattle.stm_watch.specs.declared.watched.Watcher.{Watcher as Kept};
 ghost use Rattle.stm_watch.specs.Keys.{is_watched};
-ghost use Rattle.stm_watch.specs.Pages.{IsOneOf, IsWithin, IsMet, IsSeenAt, StandsOn, entry_of};
+ghost use Rattle.stm_watch.specs.Pages.{IsAny, IsOneOf, IsWithin, IsInside, IsMet, IsSeenAt, StandsOn, IsEntryOf, HasAll, end_of, may_have};
 
 use crate::copies::copy_entries;
 use crate::slots::Slots;
+use crate::watched::Watched;
 use std::alloc::{AllocError, Global};
 use stm_history::Text;
 
 /// How many entries a page has at most. It is split before it gets one more.
 const MOST_ENTRIES: usize = 128;
 
-/// What an index has of a watcher of a range: the keys from `first` on that are below `end`, and the watcher's place.
+/// What a page has of a watcher: the keys from `first` on that are below `end`, and the watcher's place.
 #[derive(Drop, Clone)]
 pub(crate) struct RangeEntry {
     pub first: Text,
@@ -26,22 +27,34 @@ pub(crate) struct RangeEntry {
 }
 
 impl RangeEntry {
-    /// The entry of the watcher at a place.
-    pub(crate) fn of(first: &Text, end: &Text, place: usize) -> Result<RangeEntry, AllocError>
-        ensures { IfOk result (λ entry. entry ≡ entry_of first.now end.now place) }
+    /// The entry of the watcher at a place. One of a key has the range of that key alone.
+    pub(crate) fn of(
+        alloc: Global,
+        watched: &Watched,
+        place: usize,
+    ) -> Result<RangeEntry, AllocError>
+        ensures { IfOk result (λ entry. IsEntryOf watched.now place entry) }
     {
-        Ok(RangeEntry {
-            first: first.clone()?,
-            end: end.clone()?,
-            place,
-        })
+        let first = watched.first_key().clone()?;
+        let end = end_of(alloc, watched)?;
+        Ok(RangeEntry { first, end, place })
     }
 
-    /// Whether the entry is that of the watcher of this range at a place.
-    pub(crate) fn is(&self, first: &Text, end: &Text, place: usize) -> bool
-        ensures { result ≡ true → self.now ≡ entry_of first.now end.now place }
+    /// Whether the range of the entry has all keys that are watched.
+    fn has_all(&self, watched: &Watched) -> bool
+        ensures { result ≡ true → HasAll self.now watched.now }
     {
-        self.place == place && self.first == *first && self.end == *end
+        match watched {
+            Watched::Key(key) => self.first.cmp(key).is_le() && key.cmp(&self.end).is_lt(),
+            Watched::Range { first, end } => self.first == *first && self.end == *end,
+        }
+    }
+
+    /// Whether the entry may be that of the watcher at a place.
+    pub(crate) fn is_of(&self, watched: &Watched, place: usize) -> bool
+        ensures { result ≡ true → IsEntryOf watched.now place self.now }
+    {
+        self.place == place && self.has_all(watched)
     }
 
     /// Whether the entry is the one with this first key and place, or stands before it. Entries stand in the order of
@@ -50,6 +63,25 @@ impl RangeEntry {
         ensures { result ≡ is_le (ordering_then (slice_cmp nat_cmp self.now.first first.now) (nat_cmp self.now.place place)) }
     {
         self.first.cmp(first).then(self.place.cmp(&place)).is_le()
+    }
+}
+
+/// The first text behind another.
+fn text_after(alloc: Global, text: &Text) -> Result<Text, AllocError>
+    ensures { IfOk result (λ after. after ≡ text.now ++ 0 ∷ []) }
+{
+    let mut after = String::from_str(alloc, text.as_str())?;
+    after.push('\0')?;
+    Ok(Text::new(after))
+}
+
+/// The end of a range that has just these keys.
+fn end_of(alloc: Global, watched: &Watched) -> Result<Text, AllocError>
+    ensures { IfOk result (λ end. end ≡ end_of watched.now) }
+{
+    match watched {
+        Watched::Key(key) => text_after(alloc, key),
+        Watched::Range { end, .. } => end.clone(),
     }
 }
 
@@ -83,26 +115,17 @@ pub(crate) struct Bounds {
 }
 
 impl Bounds {
-    /// Bounds that no key is in, from which those of this and later ranges are widened.
-    fn from(entry: &RangeEntry) -> Result<Bounds, AllocError> {
-        Ok(Bounds {
-            low: entry.first.clone()?,
-            high: entry.first.clone()?,
-        })
-    }
-
-    /// The same bounds.
-    fn copied(&self) -> Result<Bounds, AllocError>
-        ensures { IfOk result (λ copy. copy ≡ self.now) }
+    /// Those of one range.
+    fn of(entry: &RangeEntry) -> Result<Bounds, AllocError>
+        ensures { IfOk result (λ bounds. IsWithin entry.now bounds) }
     {
-        Ok(Bounds {
-            low: self.low.clone()?,
-            high: self.high.clone()?,
-        })
+        let low = entry.first.clone()?;
+        let high = entry.end.clone()?;
+        Ok(Bounds { low, high })
     }
 
     /// Whether a range within the bounds may have a key.
-    pub(crate) fn may_have(&self, key: &Text) -> bool
+    fn may_have(&self, key: &Text) -> bool
         ensures { result ≡ is_watched (Range self.now.low self.now.high) key.now }
     {
         self.low.cmp(key).is_le() && key.cmp(&self.high).is_lt()
@@ -119,25 +142,33 @@ impl Bounds {
     }
 }
 
-/// Whom a change may concern: up to the revision `until` nobody but watchers of ranges within the bounds.
+/// Widens bounds, which may be those of nobody. A failed allocation leaves none outside.
+fn include(bounds: &mut Option<Bounds>, entry: &RangeEntry) -> Result<(), AllocError>
+    ensures kept { (e : Entry) → IsInside e bounds.old → IsInside e bounds.new }
+    ensures ok { OnOk result (IsInside entry.now bounds.new) }
+{
+    if let Some(bounds) = bounds {
+        bounds.widen(entry)?;
+        return Ok(());
+    }
+    *bounds = Some(Bounds::of(entry)?);
+    Ok(())
+}
+
+/// Whom a change may concern: up to the revision `until` nobody but watchers of ranges within the bounds, or nobody at all.
 #[derive(Drop)]
 pub(crate) struct Reach {
-    pub bounds: Bounds,
+    pub bounds: Option<Bounds>,
     pub until: u64,
 }
 
 impl Reach {
-    /// That of these entries, of which this is the first, at a revision.
-    fn of_all(
-        entries: &[RangeEntry],
-        first: &RangeEntry,
-        slots: &Slots,
-        revision: u64,
-    ) -> Result<Reach, AllocError>
+    /// That of these entries at a revision.
+    fn of_all(entries: &[RangeEntry], slots: &Slots, revision: u64) -> Result<Reach, AllocError>
         ensures { IfOk result (λ reach. (e : Entry) → IsOneOf e entries.now → IsMet slots.now e reach) }
     {
         let mut reach = Reach {
-            bounds: Bounds::from(first)?,
+            bounds: None,
             until: u64::MAX,
         };
         for entry in entries {
@@ -160,10 +191,20 @@ impl Reach {
             return Ok(());
         };
         if seen < revision {
-            return self.bounds.widen(entry);
+            return include(&mut self.bounds, entry);
         }
         self.until = self.until.min(seen);
         Ok(())
+    }
+
+    /// Whether a range within the bounds may have a key.
+    fn may_have(&self, key: &Text) -> bool
+        ensures { result ≡ may_have self.now.bounds key.now }
+    {
+        match &self.bounds {
+            None => false,
+            Some(bounds) => bounds.may_have(key),
+        }
     }
 }
 
@@ -183,7 +224,7 @@ fn move_half(entries: &mut Vec<RangeEntry>, upper: &mut Vec<RangeEntry>)
     }
 }
 
-/// Watchers of ranges, and whom of them a change may concern.
+/// Watchers, and whom of them a change may concern.
 #[derive(Drop)]
 pub(crate) struct Page {
     pub reach: Reach,
@@ -195,20 +236,22 @@ impl Clone for Page {
     ghost is_clone = { λ page copy. (copy.reach.until ≡ 0) × (copy.entries.items ≡ page.entries.items) };
 
     fn clone(&self) -> Result<Page, AllocError> {
-        let bounds = self.reach.bounds.copied()?;
         let entries = copy_entries(&self.entries)?;
-        Ok(Page::unsettled(bounds, entries))
+        Ok(Page::unsettled(entries))
     }
 }
 
 impl Page {
     /// A page of these entries, of which nobody knows whom a change may concern.
-    fn unsettled(bounds: Bounds, entries: Vec<RangeEntry>) -> Page
+    fn unsettled(entries: Vec<RangeEntry>) -> Page
         ensures until { result.reach.until ≡ 0 }
         ensures entries { result.entries.items ≡ entries.items }
     {
         Page {
-            reach: Reach { bounds, until: 0 },
+            reach: Reach {
+                bounds: None,
+                until: 0,
+            },
             entries,
         }
     }
@@ -217,10 +260,9 @@ impl Page {
     pub(crate) fn of(alloc: Global, entry: RangeEntry) -> Result<Page, AllocError>
         ensures { IfOk result (λ page. (ws : List (Option Kept)) → StandsOn ws entry page) }
     {
-        let bounds = Bounds::from(&entry)?;
-        let mut entries = Vec::new(alloc);
+        let mut entries = Vec::with_capacity(alloc, 1)?;
         entries.push(entry)?;
-        Ok(Page::unsettled(bounds, entries))
+        Ok(Page::unsettled(entries))
     }
 
     /// Whether the page has no entry.
@@ -252,15 +294,15 @@ impl Page {
             .partition_point(|entry| entry.is_up_to(first, place))
     }
 
-    /// Whether the entry of the watcher of this range at a place was found on the page.
-    pub(crate) fn has(&self, first: &Text, end: &Text, place: usize) -> bool
-        ensures { result ≡ true → IsOneOf (entry_of first.now end.now place) self.now.entries.items }
+    /// Whether the entry of the watcher at a place was found on the page.
+    pub(crate) fn has(&self, watched: &Watched, place: usize) -> bool
+        ensures { result ≡ true → IsAny (IsEntryOf watched.now place) self.now.entries.items }
     {
-        let count = self.count_up_to(first, place);
+        let count = self.count_up_to(watched.first_key(), place);
         if count == 0 {
             return false;
         }
-        self.entries[count - 1].is(first, end, place)
+        self.entries[count - 1].is_of(watched, place)
     }
 
     /// Adds an entry. A failed allocation leaves none out.
@@ -293,25 +335,24 @@ impl Page {
         ensures ok { IfOk result (λ upper. (ws : List (Option Kept)) (e : Entry) → StandsOn ws e self.old → StandsOn ws e self.new ⊎ StandsOn ws e upper) }
         ensures err { OnErr result (self.new ≡ self.old) }
     {
-        let bounds = self.reach.bounds.copied()?;
         let mut entries = Vec::with_capacity(*self.entries.allocator(), self.entries.len())?;
         move_half(&mut self.entries, &mut entries);
         self.reach.until = 0;
-        Ok(Page::unsettled(bounds, entries))
+        Ok(Page::unsettled(entries))
     }
 
     /// Whether a change of a key at a revision may concern a watcher on the page.
     pub(crate) fn may_concern(&self, revision: u64, key: &Text) -> bool
-        ensures { result ≡ (nat_lt self.now.reach.until revision || is_watched (Range self.now.reach.bounds.low self.now.reach.bounds.high) key.now) }
+        ensures { result ≡ (nat_lt self.now.reach.until revision || may_have self.now.reach.bounds key.now) }
     {
-        self.reach.until < revision || self.reach.bounds.may_have(key)
+        self.reach.until < revision || self.reach.may_have(key)
     }
 
     /// Forgets whom a change may concern, where one of this key may concern anybody: one of them was made ready.
     pub(crate) fn unsettle(&mut self, key: &Text)
         ensures { (ws : List (Option Kept)) (e : Entry) → StandsOn ws e self.old → StandsOn ws e self.new }
     {
-        if self.reach.bounds.may_have(key) {
+        if self.reach.may_have(key) {
             self.reach.until = 0;
         }
     }
@@ -323,11 +364,8 @@ impl Page {
         if self.reach.until >= revision {
             return;
         }
-        let entries = self.entries.as_slice();
-        if let Some(first) = entries.first() {
-            if let Ok(reach) = Reach::of_all(entries, first, slots, revision) {
-                self.reach = reach;
-            }
+        if let Ok(reach) = Reach::of_all(self.entries.as_slice(), slots, revision) {
+            self.reach = reach;
         }
     }
 }

@@ -1,6 +1,6 @@
 //! What watchers see of a revision.
 ghost use Rattle.std.specs.Prelude.{◌≡◌, ◌++◌, [], ◌∷◌, IfOk, OnOk};
-ghost use Rattle.stm_watch.specs.Pending.{matching, is_any_pending, pending_of_revision};
+ghost use Rattle.stm_watch.specs.Pending.{matching};
 ghost use Rattle.stm_watch.specs.Walk.{first_above};
 
 use crate::watched::Watched;
@@ -14,18 +14,6 @@ pub struct PendingRevision {
     pub number: u64,
     /// Its events that match.
     pub events: Sequence<Event>,
-}
-
-/// Whether one of these events is of a key that is watched.
-fn has_any(watched: &Watched, events: &[Event]) -> bool
-    ensures { result ≡ is_any_pending (pending_of_revision 0 (matching watched.now events.now)) }
-{
-    for event in events {
-        if watched.has(event.key()) {
-            return true;
-        }
-    }
-    false
 }
 
 /// Puts a copy of an event after these, where it is of a key that is watched.
@@ -57,27 +45,13 @@ pub(crate) fn copy_matching(
     Ok(copies)
 }
 
-/// The first revision above one of which a watcher of a range is notified. It takes no memory.
-fn next_in_range(keys: &Keys, watched: &Watched, above: u64) -> Option<u64>
-    ensures { result ≡ first_above keys.now.history watched.now above }
-{
-    let mut passed = above.max(keys.below());
-    while passed < keys.revision() {
-        passed += 1;
-        if has_any(watched, keys.events_at(passed)) {
-            return Some(passed);
-        }
-    }
-    None
-}
-
 /// The first revision above one of which a watcher is notified: of a key by halves among the revisions that
-/// changed it, of a range by a walk over all. It takes no memory.
+/// changed it, of a range past those of which the store noted that they change no key of it. It takes no memory.
 pub(crate) fn next_number(keys: &Keys, watched: &Watched, above: u64) -> Option<u64>
     ensures { result ≡ first_above keys.now.history watched.now above }
 {
     match watched {
         Watched::Key(key) => keys.next_change(key.as_str(), above),
-        Watched::Range { .. } => next_in_range(keys, watched, above),
+        Watched::Range { first, end } => keys.next_change_between(first, end, above),
     }
 }

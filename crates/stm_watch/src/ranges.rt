@@ -1,9 +1,9 @@
-//! The watchers of ranges, on pages.
-ghost use Rattle.std.specs.Prelude.{◌≡◌, ◌≤◌, ◌<◌, List, [], Option, true, OnOk, IfOk};
+//! Watchers of ranges, or of one key, on pages.
+ghost use Rattle.std.specs.Prelude.{◌≡◌, ◌≢◌, ◌≤◌, ◌<◌, List, Option, true, OnOk, IfOk};
 ghost use Rattle.std.specs.Vec.{vec_len};
 ghost use Rattle.stm_watch.specs.declared.page.RangeEntry.{RangeEntry as Entry};
 ghost use Rattle.stm_watch.specs.declared.watched.Watcher.{Watcher as Kept};
-ghost use Rattle.stm_watch.specs.Pages.{HasEntry, IsEntered, Keeps, KeepsOthers, entry_of};
+ghost use Rattle.stm_watch.specs.Pages.{HasEntry, IsEntered, IsIn, IsQuiet, Keeps, KeepsAll};
 
 use crate::page::{Page, RangeEntry};
 use crate::slots::Slots;
@@ -11,22 +11,37 @@ use crate::watched::Watched;
 use std::alloc::{AllocError, Global};
 use stm_history::Text;
 
-/// Finds the watchers of the ranges that have a key. They are named by their places, as in an `Index`.
+/// Finds those of some watchers that watch a key. They are named by their places, as in an `Index`.
 ///
 /// Pages stand in the order of the ranges' first keys, as the entries on each do. No contract says so: the order lets
 /// ranges that are near each other stand on one page, so that a key is in the bounds of few pages.
 #[derive(Drop)]
 pub(crate) struct Ranges {
     pub pages: Vec<Page>,
+    /// Up to this revision a change concerns nobody here, so that none of the pages is looked at.
+    pub until: u64,
+}
+
+/// Up to which revision a change concerns nobody on these pages.
+fn quiet_until(pages: &[Page]) -> u64
+    ensures { (ws : List (Option Kept)) (e : Entry) → HasEntry ws pages.now e → IsQuiet ws e result }
+{
+    let mut until = u64::MAX;
+    for page in pages {
+        if page.reach.bounds.is_some() {
+            return 0;
+        }
+        until = until.min(page.reach.until);
+    }
+    until
 }
 
 impl Ranges {
     /// No watchers.
-    pub(crate) fn new(alloc: Global) -> Ranges
-        ensures { result.pages.items ≡ [] }
-    {
+    pub(crate) fn new(alloc: Global) -> Ranges {
         Ranges {
             pages: Vec::new(alloc),
+            until: 0,
         }
     }
 
@@ -76,12 +91,13 @@ impl Ranges {
         ensures ok { OnOk result ((ws : List (Option Kept)) → HasEntry ws self.new.pages.items entry) }
     {
         let page = Page::of(*self.pages.allocator(), entry)?;
-        self.pages.push(page)?;
+        self.pages.reserve_exact(1)?;
+        self.pages.push_reserved(page);
         Ok(())
     }
 
-    /// Adds an entry. A failed allocation leaves none out.
-    fn add_entry(&mut self, entry: RangeEntry) -> Result<(), AllocError>
+    /// Adds an entry to a page. A failed allocation leaves none out.
+    fn enter(&mut self, entry: RangeEntry) -> Result<(), AllocError>
         ensures kept { Keeps self.old.pages.items self.new.pages.items }
         ensures ok { OnOk result ((ws : List (Option Kept)) → HasEntry ws self.new.pages.items entry) }
     {
@@ -93,21 +109,20 @@ impl Ranges {
         Ok(())
     }
 
-    /// Adds the watcher at a place, if it watches a range. A failed allocation leaves no watcher out.
-    pub(crate) fn add(&mut self, watched: &Watched, place: usize) -> Result<(), AllocError>
-        ensures kept { Keeps self.old.pages.items self.new.pages.items }
-        ensures ok { OnOk result ((ws : List (Option Kept)) → IsEntered watched.now place ws self.new.pages.items) }
+    /// Adds an entry. A failed allocation leaves none out.
+    pub(crate) fn add(&mut self, entry: RangeEntry) -> Result<(), AllocError>
+        ensures kept { KeepsAll self.old self.new }
+        ensures ok { OnOk result ((ws : List (Option Kept)) → IsIn ws entry self.new) }
     {
-        if let Watched::Range { first, end } = watched {
-            self.add_entry(RangeEntry::of(first, end, place)?)?;
-        }
-        Ok(())
+        let entered = self.enter(entry);
+        self.until = 0;
+        entered
     }
 
     /// Takes an entry off a page, and the page with the last one.
     fn remove_from(&mut self, at: usize, first: &Text, place: usize)
         requires { at < vec_len self.old.pages }
-        ensures { KeepsOthers place self.old.pages.items self.new.pages.items }
+        ensures { (ws : List (Option Kept)) (e : Entry) → e.place ≢ place → HasEntry ws self.old.pages.items e → HasEntry ws self.new.pages.items e }
     {
         self.pages[at].remove(first, place);
         if self.pages[at].is_empty() {
@@ -115,85 +130,99 @@ impl Ranges {
         }
     }
 
-    /// Takes the watcher at a place out, if it watches a range. It takes no memory.
-    pub(crate) fn remove(&mut self, watched: &Watched, place: usize)
-        ensures { KeepsOthers place self.old.pages.items self.new.pages.items }
+    /// Takes the entry with this first key and place out. It takes no memory.
+    pub(crate) fn remove(&mut self, first: &Text, place: usize)
+        ensures { (ws : List (Option Kept)) (e : Entry) → e.place ≢ place → IsIn ws e self.old → IsIn ws e self.new }
     {
-        let Watched::Range { first, .. } = watched else {
-            return;
-        };
         if self.pages.is_empty() {
             return;
         }
         let at = self.page_of(first, place);
         self.remove_from(at, first, place);
+        self.until = 0;
     }
 
-    /// Has it found out anew whom a change may concern on the page on which this entry stands, where it is found there.
-    fn wake_on_page(&mut self, first: &Text, end: &Text, place: usize) -> bool
-        ensures kept { Keeps self.old.pages.items self.new.pages.items }
-        ensures woken { result ≡ true → (ws : List (Option Kept)) → HasEntry ws self.new.pages.items (entry_of first.now end.now place) }
+    /// Has it found out anew whom a change may concern on the page on which this watcher stands, where it is found there.
+    fn wake_on_page(&mut self, watched: &Watched, place: usize) -> bool
+        ensures kept { KeepsAll self.old self.new }
+        ensures woken { result ≡ true → (ws : List (Option Kept)) → IsEntered watched.now place (λ e. IsIn ws e self.new) }
     {
         if self.pages.is_empty() {
             return false;
         }
-        let at = self.page_of(first, place);
-        if !self.pages[at].has(first, end, place) {
+        let at = self.page_of(watched.first_key(), place);
+        if !self.pages[at].has(watched, place) {
             return false;
         }
         self.pages[at].reach.until = 0;
+        self.until = 0;
         true
     }
 
     /// Has it found out anew for each page whom a change may concern.
     fn wake_each(&mut self)
-        ensures { (old new : List (Option Kept)) (e : Entry) → HasEntry old self.old.pages.items e → HasEntry new self.new.pages.items e }
+        ensures { (old new : List (Option Kept)) (e : Entry) → IsIn old e self.old → IsIn new e self.new }
     {
         for index in 0..self.pages.len() {
             self.pages[index].reach.until = 0;
         }
+        self.until = 0;
     }
 
     /// Notes that the watcher at a place may be idle from now on. It takes no memory. As no contract says that pages stand in order, its entry may not
     /// be found where it should stand; then it is found out anew for all pages.
     pub(crate) fn wake(&mut self, watched: &Watched, place: usize)
-        ensures kept { Keeps self.old.pages.items self.new.pages.items }
-        ensures woken { (old new : List (Option Kept)) → IsEntered watched.now place old self.old.pages.items
-            → IsEntered watched.now place new self.new.pages.items }
+        ensures kept { KeepsAll self.old self.new }
+        ensures woken { (old new : List (Option Kept)) → IsEntered watched.now place (λ e. IsIn old e self.old)
+            → IsEntered watched.now place (λ e. IsIn new e self.new) }
     {
-        let Watched::Range { first, end } = watched else {
-            return;
-        };
-        if !self.wake_on_page(first, end, place) {
+        if !self.wake_on_page(watched, place) {
             self.wake_each();
         }
     }
 
     /// Forgets whom a change may concern, on each page where one of this key may concern anybody.
     pub(crate) fn unsettle(&mut self, key: &Text)
-        ensures { Keeps self.old.pages.items self.new.pages.items }
+        ensures { KeepsAll self.old self.new }
     {
         for at in 0..self.pages.len() {
             self.pages[at].unsettle(key);
         }
+        self.until = 0;
     }
 
     /// Finds out whom a change at a revision may concern, on each page of which that is not known. It takes no memory.
     pub(crate) fn settle(&mut self, slots: &Slots, revision: u64)
-        ensures { (e : Entry) → HasEntry slots.now self.old.pages.items e → HasEntry slots.now self.new.pages.items e }
+        ensures { (e : Entry) → IsIn slots.now e self.old → IsIn slots.now e self.new }
     {
+        if revision <= self.until {
+            return;
+        }
         for at in 0..self.pages.len() {
             self.pages[at].settle(slots, revision);
         }
+        self.until = quiet_until(self.pages.as_slice());
     }
 }
 
 impl Ranges {
     /// A copy, on which no entry is missing.
-    pub(crate) fn copy(&self) -> Result<Ranges, AllocError>
-        ensures { IfOk result (λ copy. Keeps self.now.pages.items copy.pages.items) }
+    fn copy(&self) -> Result<Ranges, AllocError>
+        ensures { IfOk result (λ copy. KeepsAll self.now copy) }
     {
         let pages = self.pages.clone()?;
-        Ok(Ranges { pages })
+        Ok(Ranges {
+            pages,
+            until: self.until,
+        })
+    }
+}
+
+/// On the copy no entry is missing.
+impl Clone for Ranges {
+    ghost is_clone = { λ ranges copy. KeepsAll ranges copy };
+
+    fn clone(&self) -> Result<Ranges, AllocError> {
+        self.copy()
     }
 }

@@ -6,8 +6,8 @@ ghost use Rattle.stm_watch.specs.Calls.{IsNextReady};
 ghost use Rattle.stm_watch.specs.Slots.{IsFollowed, PlacePolls, IsPlaceOf};
 ghost use Rattle.stm_watch.specs.Touch.{touch};
 
+use crate::groups::Groups;
 use crate::index::Index;
-use crate::ranges::Ranges;
 use crate::slots::Slots;
 use crate::touch::touch_all;
 use crate::watched::Watcher;
@@ -16,13 +16,13 @@ use std::alloc::{AllocError, Global};
 use std::marker::Model;
 use stm_keys::{Event, Keys};
 
-/// Watchers at their places, and the lists and pages on which they are found.
+/// Watchers at their places, the lists on which they stand, and the pages on which they are found.
 ///
 /// Contracts see what stands at each place: nothing where a watcher was cancelled.
 pub(crate) struct Table {
     slots: Slots,
     index: Index,
-    ranges: Ranges,
+    groups: Groups,
 }
 
 impl Drop for Table {
@@ -30,7 +30,7 @@ impl Drop for Table {
         let Table {
             slots: _,
             index: _,
-            ranges: _,
+            groups: _,
         } = self;
     }
 }
@@ -45,7 +45,7 @@ impl Model for Table {
 
     ghost view = { λ s. s.slots };
 
-    ghost invariant = { λ s. AreFound s.index s.ranges s.slots };
+    ghost invariant = { λ s. AreFound s.index s.groups s.slots };
 }
 
 impl Table {
@@ -56,7 +56,7 @@ impl Table {
         Ok(Table {
             slots: Slots::new(alloc),
             index: Index::new(alloc)?,
-            ranges: Ranges::new(alloc),
+            groups: Groups::new(alloc),
         })
     }
 
@@ -102,11 +102,11 @@ impl Table {
         ensures ok { OnOk result (self.new ≡ self.old ++ Some watcher ∷ []) }
         ensures err { OnErr result (self.new ≡ self.old) }
     {
-        self.index.make_room(&watcher.watched)?;
+        self.index.make_room()?;
         let list = self.index.list_for(&watcher);
-        // The entry of a range is for a watcher that has room.
+        // The entry is for a watcher that has room.
         self.slots.reserve()?;
-        self.ranges.add(&watcher.watched, self.slots.len())?;
+        self.groups.add(&watcher.watched, self.slots.len())?;
         self.slots.push(watcher)?;
         self.index.push(list);
         Ok(())
@@ -117,7 +117,7 @@ impl Table {
         requires { IsSome (slice_index_or self.old place None) }
         ensures { self.new ≡ slice_set self.old place None }
     {
-        self.ranges
+        self.groups
             .remove(&self.slots.watcher(place).watched, place);
         self.index.remove(place);
         self.slots.remove(place);
@@ -130,7 +130,7 @@ impl Table {
         touch_all(
             &mut self.slots,
             &mut self.index,
-            &mut self.ranges,
+            &mut self.groups,
             revision,
             events,
         );
@@ -153,7 +153,7 @@ impl Table {
         let watcher = self.slots.watcher(place);
         let list = self.index.list_for(watcher);
         self.index.move_to(place, list);
-        self.ranges.wake(&watcher.watched, place);
+        self.groups.wake(&watcher.watched, place);
         Ok(batch)
     }
 }
@@ -164,12 +164,12 @@ impl Table {
         ensures { IfOk result (λ copy. copy ≡ self.now) }
     {
         let index = self.index.copy()?;
-        let ranges = self.ranges.copy()?;
+        let groups = self.groups.copy()?;
         let slots = self.slots.copy()?;
         Ok(Table {
             slots,
             index,
-            ranges,
+            groups,
         })
     }
 }

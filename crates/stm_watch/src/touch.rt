@@ -1,74 +1,32 @@
 //! What a new revision makes of the watchers.
-ghost use Rattle.std.specs.Prelude.{◌≡◌, ◌≢◌, ◌++◌, ℕ, List, Some, map, option_map};
-ghost use Rattle.indexmap.specs.IndexMap.{get_by_text};
+ghost use Rattle.std.specs.Prelude.{◌≡◌, map, option_map};
 ghost use Rattle.stm_keys.specs.Events.{change_of_event};
-ghost use Rattle.stm_lists.specs.Lists.{Place, StandsAt, list_at};
-ghost use Rattle.stm_watch.specs.Kept.{Covers, places_on, places_at};
-ghost use Rattle.stm_watch.specs.Pages.{AreFound, IsAny, IsTouched, Keeps, Reaches, ReachesOn};
-ghost use Rattle.stm_watch.specs.Touch.{touch, touch_key, touch_at, touch_each};
+ghost use Rattle.stm_watch.specs.Kept.{Covers};
+ghost use Rattle.stm_watch.specs.Pages.{AreFound, GroupsKeep, IsAny, IsTouched, KeepsAll, Reaches, ReachesAt, ReachesIn, ReachesOn};
+ghost use Rattle.stm_watch.specs.Touch.{touch, touch_key};
 
+use crate::groups::{Groups, OF_RANGES};
 use crate::index::Index;
 use crate::page::{Page, RangeEntry};
 use crate::ranges::Ranges;
 use crate::slots::Slots;
 use stm_history::Text;
 use stm_keys::Event;
-use stm_lists::ListId;
 
-/// Notes a change of a key at a new revision for the watcher at a place, if there is one. On a list of idle ones those
-/// before and after it stay.
-fn touch_one(slots: &mut Slots, index: &mut Index, place: usize, revision: u64, key: &Text)
-    requires { Covers index.old slots.old }
-    ensures slots { slots.new ≡ touch_at revision key.now place slots.old }
-    ensures covers { Covers index.new slots.new }
-    ensures left { (node : ℕ) (at : Place ℕ) → StandsAt index.old.lists node at → at.value ≡ place → at.list ≢ index.old.ready
-        → (still : List (ℕ × ℕ)) × (list_at index.new.lists at.list ≡ Some (at.before ++ (still ++ at.after))) }
-    ensures keys { index.new.keys ≡ index.old.keys }
-{
-    if slots.touch(place, revision, key) {
-        let ready = index.ready;
-        index.move_to(place, ready);
-    }
-}
-
-/// Notes it for the idle watchers of that key, on their list.
-fn touch_list(slots: &mut Slots, index: &mut Index, list: ListId, revision: u64, key: &Text)
-    requires covers { Covers index.old slots.old }
-    requires list { get_by_text index.old.keys key.now ≡ Some list }
-    ensures slots { slots.new ≡ touch_each revision key.now (places_on index.old.lists list) slots.old }
-    ensures covers { Covers index.new slots.new }
-{
-    let mut next = index.lists.front(list);
-    for _count in 0..index.lists.len(list) {
-        let Some(node) = next else { unreachable!() };
-        let place = *index.lists.get(node);
-        next = index.lists.next(node);
-        touch_one(slots, index, place, revision, key);
-    }
-}
-
-/// Notes it for the idle watchers of that key.
-fn touch_its_own(slots: &mut Slots, index: &mut Index, revision: u64, key: &Text)
-    requires { Covers index.old slots.old }
-    ensures slots { slots.new ≡ touch_each revision key.now (places_at index.old.lists (get_by_text index.old.keys key.now)) slots.old }
-    ensures covers { Covers index.new slots.new }
-{
-    if let Some(list) = index.list_of(key) {
-        touch_list(slots, index, list, revision, key);
-    }
-}
-
-/// Notes it for a watcher of a range, where the range has that key. No text is compared for one that is ready, or is yet to start: the
-/// watcher says so before its range is looked at.
-fn touch_range(slots: &mut Slots, index: &mut Index, entry: &RangeEntry, revision: u64, key: &Text)
+/// Notes a change of a key at a new revision for the watcher of an entry, where it watches that key. No text is compared for one that is ready, or is yet to
+/// start: the watcher says so before its key or range is looked at.
+fn touch_entry(slots: &mut Slots, index: &mut Index, entry: &RangeEntry, revision: u64, key: &Text)
     requires { Covers index.old slots.old }
     ensures slots { IsTouched revision key.now (λ i. Reaches key.now i entry.now) slots.old slots.new }
     ensures covers { Covers index.new slots.new }
 {
-    touch_one(slots, index, entry.place, revision, key);
+    if slots.touch(entry.place, revision, key) {
+        let ready = index.ready;
+        index.move_to(entry.place, ready);
+    }
 }
 
-/// Notes it for those of these watchers of ranges whose range has that key.
+/// Notes it for those of these watchers.
 fn touch_entries(
     slots: &mut Slots,
     index: &mut Index,
@@ -81,7 +39,7 @@ fn touch_entries(
     ensures covers { Covers index.new slots.new }
 {
     for entry in entries {
-        touch_range(slots, index, entry, revision, key);
+        touch_entry(slots, index, entry, revision, key);
     }
 }
 
@@ -116,10 +74,13 @@ fn touch_ranges(
     key: &Text,
 )
     requires { Covers index.old slots.old }
-    ensures slots { IsTouched revision key.now (λ i. IsAny (ReachesOn revision key.now i) ranges.old.pages.items) slots.old slots.new }
+    ensures slots { IsTouched revision key.now (λ i. ReachesIn revision key.now i ranges.old) slots.old slots.new }
     ensures covers { Covers index.new slots.new }
-    ensures kept { Keeps ranges.old.pages.items ranges.new.pages.items }
+    ensures kept { KeepsAll ranges.old ranges.new }
 {
+    if revision <= ranges.until {
+        return;
+    }
     let before = index.ready_count();
     touch_pages(slots, index, ranges.pages.as_slice(), revision, key);
     let after = index.ready_count();
@@ -128,30 +89,53 @@ fn touch_ranges(
     }
 }
 
-/// Notes a change of a key at a new revision for all watchers that it concerns.
-fn touch_of(slots: &mut Slots, index: &mut Index, ranges: &mut Ranges, revision: u64, key: &Text)
-    requires { AreFound index.old ranges.old slots.old }
-    ensures slots { slots.new ≡ map (option_map (touch_key revision key.now)) slots.old }
-    ensures found { AreFound index.new ranges.new slots.new }
+/// Notes it for those of a group.
+fn touch_group(
+    slots: &mut Slots,
+    index: &mut Index,
+    groups: &mut Groups,
+    group: Option<usize>,
+    revision: u64,
+    key: &Text,
+)
+    requires { Covers index.old slots.old }
+    ensures slots { IsTouched revision key.now (λ i. ReachesAt revision key.now i groups.old.groups.items group) slots.old slots.new }
+    ensures covers { Covers index.new slots.new }
+    ensures kept { GroupsKeep groups.old groups.new }
 {
-    ranges.settle(slots, revision);
-    touch_its_own(slots, index, revision, key);
-    touch_ranges(slots, index, ranges, revision, key);
+    if let Some(group) = group {
+        if group < groups.groups.len() {
+            touch_ranges(slots, index, &mut groups.groups[group], revision, key);
+        }
+    }
+}
+
+/// Notes a change of a key at a new revision for all watchers that it concerns.
+fn touch_of(slots: &mut Slots, index: &mut Index, groups: &mut Groups, revision: u64, key: &Text)
+    requires { AreFound index.old groups.old slots.old }
+    ensures slots { slots.new ≡ map (option_map (touch_key revision key.now)) slots.old }
+    ensures found { AreFound index.new groups.new slots.new }
+{
+    let its_own = groups.of_key(key);
+    groups.settle(its_own, slots, revision);
+    groups.settle(Some(OF_RANGES), slots, revision);
+    touch_group(slots, index, groups, its_own, revision, key);
+    touch_group(slots, index, groups, Some(OF_RANGES), revision, key);
 }
 
 /// Notes a new revision with these events for all watchers that it concerns.
 pub(crate) fn touch_all(
     slots: &mut Slots,
     index: &mut Index,
-    ranges: &mut Ranges,
+    groups: &mut Groups,
     revision: u64,
     events: &[Event],
 )
-    requires { AreFound index.old ranges.old slots.old }
+    requires { AreFound index.old groups.old slots.old }
     ensures slots { slots.new ≡ map (option_map (touch revision (map change_of_event events.now))) slots.old }
-    ensures found { AreFound index.new ranges.new slots.new }
+    ensures found { AreFound index.new groups.new slots.new }
 {
     for event in events {
-        touch_of(slots, index, ranges, revision, event.key());
+        touch_of(slots, index, groups, revision, event.key());
     }
 }

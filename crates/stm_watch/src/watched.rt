@@ -1,6 +1,6 @@
 //! What a watcher watches, and how far it has been notified.
-ghost use Rattle.std.specs.Prelude.{◌≡◌, ◌&&◌, nat_lt};
-ghost use Rattle.stm_watch.specs.Keys.{is_watched};
+ghost use Rattle.std.specs.Prelude.{◌≡◌, ◌&&◌, nat_lt, Some};
+ghost use Rattle.stm_watch.specs.Keys.{is_watched, is_range, first_key};
 ghost use Rattle.stm_watch.specs.Places.{is_lost};
 
 use stm_keys::Text;
@@ -15,6 +15,16 @@ pub enum Watched {
 }
 
 impl Watched {
+    /// The key, or the first one of the range.
+    pub(crate) fn first_key(&self) -> &Text
+        ensures { result.now ≡ first_key self.now }
+    {
+        match self {
+            Watched::Key(key) => key,
+            Watched::Range { first, .. } => first,
+        }
+    }
+
     /// Whether a key is watched.
     pub fn has(&self, key: &Text) -> bool
         ensures { result ≡ is_watched self.now key.now }
@@ -22,6 +32,16 @@ impl Watched {
         match self {
             Watched::Key(watched) => watched == key,
             Watched::Range { first, end } => first.cmp(key).is_le() && key.cmp(end).is_lt(),
+        }
+    }
+
+    /// Whether a range is watched.
+    pub(crate) fn is_range(&self) -> bool
+        ensures { result ≡ is_range (Some self.now) }
+    {
+        match self {
+            Watched::Key(_) => false,
+            Watched::Range { .. } => true,
         }
     }
 }

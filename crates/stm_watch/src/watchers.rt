@@ -7,7 +7,7 @@ ghost use Rattle.stm_keys.specs.Events.{change_of_event};
 ghost use Rattle.stm_watch.specs.Pending.{watching_from};
 ghost use Rattle.stm_watch.specs.Places.{is_lost, no_watchers, watching_of, watchings};
 ghost use Rattle.stm_watch.specs.Slots.{awaiting};
-ghost use Rattle.stm_watch.specs.Calls.{watch, poll, cancelled, compacted, view_refused, after_refused, WatchReturns, PollReturns, watcher_at, Stands, StandFor, IsNextReady, IsNextPending};
+ghost use Rattle.stm_watch.specs.Calls.{watch, poll, cancelled, compacted, view_refused, after_refused, WatchReturns, PollReturns, watcher_at, watches_range, Stands, StandFor, IsNextReady, IsNextPending};
 
 use crate::pending_revision::next_number;
 use crate::refusal::{NoWatcher, PollRefusal, WatchRefusal};
@@ -226,6 +226,16 @@ impl Watchers {
         ensures { result ≡ length self.now.places }
     {
         self.table.len()
+    }
+
+    /// Whether there is a watcher with a number, and it is of a range.
+    pub fn watches_range(&self, id: u64) -> bool
+        ensures { result ≡ watches_range id self.now.places }
+    {
+        match self.table.find(id) {
+            Some(place) => self.table.watcher(place).watched.is_range(),
+            None => false,
+        }
     }
 
     /// Whether the watcher at a place is lost.

@@ -96,15 +96,16 @@ pub ends_by : (handed : JournalState) (job : Job) (before : JobState) (is_last :
     IfOk result (IfEnded (λ (end : JobEnd). (end ≡ end_after verdict) × (committed_by verdict ≡ 0 → is_last ≡ true))) →
     IfOk result (IfEnded (λ (end : JobEnd). HasEnded handed job before is_last end seen))
 ends_by handed job before is_last verdict seen (Ok (Ended end)) tried reported = record { verdict = verdict; tried = tried; reported = reported.0; last = reported.1 }
-ends_by handed job before is_last verdict seen (Ok (Again next key)) tried reported = tt
+ends_by handed job before is_last verdict seen (Ok (Again key)) tried reported = tt
 ends_by handed job before is_last verdict seen (Err stop) tried reported = tt
 
-pub fails_by : (handed : JournalState) (job : Job) (before : JobState) (is_last : Bool) (verdict : Verdict) (seen : ℕ) (result : Result AttemptOutcome Stop) →
-    HasTried handed job before verdict seen → IfOk result (IfAgain (λ (next : AttemptState) (key : List ℕ). (is_last ≡ false) × IsNextAttempt job verdict next key)) →
-    IfOk result (IfAgain (λ (next : AttemptState) (key : List ℕ). (is_last ≡ false) × HasFailed handed job key before (state_of next seen)))
-fails_by handed job before is_last verdict seen (Ok (Ended end)) tried next = tt
-fails_by handed job before is_last verdict seen (Ok (Again attempt key)) tried next = (next.0, record { verdict = verdict; tried = tried; next = next.1 })
-fails_by handed job before is_last verdict seen (Err stop) tried next = tt
+pub fails_by : (handed : JournalState) (job : Job) (before : JobState) (next : AttemptState) (is_last : Bool) (verdict : Verdict) (seen : ℕ)
+    (result : Result AttemptOutcome Stop) → HasTried handed job before verdict seen →
+    IfOk result (IfAgain (λ (key : List ℕ). (is_last ≡ false) × IsNextAttempt job verdict next key)) →
+    IfOk result (IfAgain (λ (key : List ℕ). (is_last ≡ false) × HasFailed handed job key before (state_of next seen)))
+fails_by handed job before next is_last verdict seen (Ok (Ended end)) tried is_next = tt
+fails_by handed job before next is_last verdict seen (Ok (Again key)) tried is_next = (is_next.0, record { verdict = verdict; tried = tried; next = is_next.1 })
+fails_by handed job before next is_last verdict seen (Err stop) tried is_next = tt
 
 pub stops_by : (handed : JournalState) (job : Job) (before : JobState) (seen : ℕ) (result : Result AttemptOutcome Stop) →
     IfErr result (λ (stop : Stop). stop ≡ OutOfMemory) →
@@ -113,9 +114,8 @@ stops_by handed job before seen (Ok tried) want = tt
 stops_by handed job before seen (Err stop) want = inl want
 
 -- a verdict after which the job goes on
-pub at_again : (P : AttemptState → List ℕ → Type 0) (tried : AttemptOutcome) (next : AttemptState) (key : List ℕ) → tried ≡ Again next key → IfAgain P tried →
-    P next key
-at_again P tried next key is holds = subst (λ (t : AttemptOutcome). IfAgain P t) is holds
+pub at_again : (P : List ℕ → Type 0) (tried : AttemptOutcome) (key : List ℕ) → tried ≡ Again key → IfAgain P tried → P key
+at_again P tried key is holds = subst (λ (t : AttemptOutcome). IfAgain P t) is holds
 
 pub at_ended : (P : JobEnd → Type 0) (tried : AttemptOutcome) (end : JobEnd) → tried ≡ Ended end → IfEnded P tried → P end
 at_ended P tried end is holds = subst (λ (t : AttemptOutcome). IfEnded P t) is holds

@@ -13,16 +13,16 @@ use Rattle.stm_workers.specs.AttemptOutcomes.{IfEnded, IfAgain}
 pub ended_counts : (result : Result AttemptOutcome Stop) (before after added : ℕ) → after ≡ before + added →
     IfOk result (IfEnded (λ (end : JobEnd). counted_end end ≡ added)) → IfOk result (IfEnded (λ (end : JobEnd). after ≡ before + counted_end end))
 ended_counts (Ok (Ended end)) before after added sum same = sum ∙ ap (λ (n : ℕ). before + n) (sym same)
-ended_counts (Ok (Again next key)) before after added sum same = tt
+ended_counts (Ok (Again key)) before after added sum same = tt
 ended_counts (Err stop) before after added sum same = tt
 
 -- a verdict after which the job goes on counts nothing
-pub again_counts : (job : Job) (result : Result AttemptOutcome Stop) (before after added : ℕ) → after ≡ before + added →
-    IfOk result (IfAgain (λ (next : AttemptState) (key : List ℕ). IsOfJob job next × (added ≡ 0))) →
-    IfOk result (IfAgain (λ (next : AttemptState) (key : List ℕ). IsOfJob job next × (after ≡ before)))
-again_counts job (Ok (Ended end)) before after added sum goes = tt
-again_counts job (Ok (Again next key)) before after added sum goes = (goes.0, let none = goes.1 in omega (arith, sum, none))
-again_counts job (Err stop) before after added sum goes = tt
+pub again_counts : (job : Job) (next : AttemptState) (result : Result AttemptOutcome Stop) (before after added : ℕ) → after ≡ before + added →
+    IfOk result (IfAgain (λ (key : List ℕ). IsOfJob job next × (added ≡ 0))) →
+    IfOk result (IfAgain (λ (key : List ℕ). IsOfJob job next × (after ≡ before)))
+again_counts job next (Ok (Ended end)) before after added sum goes = tt
+again_counts job next (Ok (Again key)) before after added sum goes = (goes.0, let none = goes.1 in omega (arith, sum, none))
+again_counts job next (Err stop) before after added sum goes = tt
 
 pub stopped_counts : (result : Result AttemptOutcome Stop) (before after added : ℕ) → after ≡ before + added → OnErr result (added ≡ 0) →
     OnErr result (after ≡ before)

@@ -15,6 +15,7 @@ use crate::gate::Gate;
 use crate::locked::RunOfJobs;
 use crate::stop::Stop;
 use std::alloc::{AllocError, Global};
+use std::mem;
 use std::sync::Wait;
 use std::sync::ledger::Share;
 use stm_attempt::{Attempt, Next, ReadAnswer, Ready, Sequence};
@@ -27,8 +28,8 @@ use stm_job::{Job, JobEnd};
 pub(crate) enum AttemptOutcome {
     /// The job has its end.
     Ended(JobEnd),
-    /// Its commit failed over this key, and this is the next attempt.
-    Again(Attempt, Text),
+    /// Its commit failed over this key, and the next attempt stands in its place.
+    Again(Text),
 }
 
 /// The greatest of a revision and those that answers carry.
@@ -75,18 +76,26 @@ fn next_attempt(
     Attempt::after_conflict(alloc, job.level, answers)
 }
 
-/// What comes after the verdict on an attempt, the last one or not: the job's end, or its next attempt.
+/// Puts this attempt in the place of the one that was there, which is dropped.
+fn put(attempt: &mut Attempt, next: Attempt)
+    ensures { attempt.new ≡ next }
+{
+    drop(mem::replace(attempt, next));
+}
+
+/// What comes after the verdict on an attempt, the last one or not: the job's end, or its next attempt, in the place of this one.
 fn after_verdict(
     alloc: Global,
     job: &Job,
     verdict: Verdict,
+    attempt: &mut Attempt,
     is_last: bool,
 ) -> Result<AttemptOutcome, Stop>
     requires { CanGoOn verdict }
     ensures counted { IfOk result (IfEnded (λ end. counted_end end ≡ committed_by verdict)) }
-    ensures again { IfOk result (IfAgain (λ next key. IsOfJob job.now next × (committed_by verdict ≡ 0))) }
+    ensures again { IfOk result (IfAgain (λ key. IsOfJob job.now attempt.new × (committed_by verdict ≡ 0))) }
     ensures reported { IfOk result (IfEnded (λ end. (end ≡ end_after verdict) × (committed_by verdict ≡ 0 → is_last ≡ true))) }
-    ensures next { IfOk result (IfAgain (λ next key. (is_last ≡ false) × IsNextAttempt job.now verdict next key)) }
+    ensures next { IfOk result (IfAgain (λ key. (is_last ≡ false) × IsNextAttempt job.now verdict attempt.new key)) }
     ensures stopped { OnErr result (committed_by verdict ≡ 0) }
     ensures want { IfErr result (λ stop. stop ≡ OutOfMemory) }
 {
@@ -99,18 +108,19 @@ fn after_verdict(
                 return Ok(AttemptOutcome::Ended(JobEnd::GaveUp { key }));
             }
             let next = next_attempt(alloc, job, answers)?;
-            Ok(AttemptOutcome::Again(next, key))
+            put(attempt, next);
+            Ok(AttemptOutcome::Again(key))
         }
     }
 }
 
-/// Notes the key of a commit that failed, and gives the next attempt back. Where an allocation fails, the keys are as they were.
-fn note_lost(lost: &mut Vec<Text>, key: Text, next: Attempt) -> Result<Attempt, AllocError>
-    ensures noted { IfOk result (λ attempt. (attempt ≡ next) × (lost.new.items ≡ lost.old.items ++ key ∷ [])) }
+/// Notes the key of a commit that failed. Where an allocation fails, the keys are as they were.
+fn note_lost(lost: &mut Vec<Text>, key: Text) -> Result<(), AllocError>
+    ensures noted { OnOk result (lost.new.items ≡ lost.old.items ++ key ∷ []) }
     ensures unchanged { OnErr result (lost.new.items ≡ lost.old.items) }
 {
     lost.push(key)?;
-    Ok(next)
+    Ok(())
 }
 
 impl<'a, R: RunOfJobs, W: Wait, G: Gate> HallAccess<'a, R, W, G> {
@@ -207,7 +217,7 @@ impl<'a, R: RunOfJobs, W: Wait, G: Gate> HallAccess<'a, R, W, G> {
         Ok(verdict)
     }
 
-    /// What an attempt of a job comes to, the last one or not, by the verdict on its commit.
+    /// What an attempt of a job comes to, the last one or not, by the verdict on its commit. The next attempt takes its place.
     fn try_by_verdict(
         &self,
         place: usize,
@@ -222,46 +232,55 @@ impl<'a, R: RunOfJobs, W: Wait, G: Gate> HallAccess<'a, R, W, G> {
         requires part { 0 < share.old.parts }
         ensures parts { share.new.parts ≡ share.old.parts }
         ensures counted { IfOk result (IfEnded (λ end. share.new.amount ≡ share.old.amount + counted_end end)) }
-        ensures again { IfOk result (IfAgain (λ next key. IsOfJob job.now next × (share.new.amount ≡ share.old.amount))) }
+        ensures again { IfOk result (IfAgain (λ key. IsOfJob job.now attempt.new × (share.new.amount ≡ share.old.amount))) }
         ensures stopped { OnErr result (share.new.amount ≡ share.old.amount) }
         ensures never_falls { seen.old ≤ seen.new }
         ensures ends { IfOk result (IfEnded (λ end. HasEnded R.before job.now (state_of attempt.old seen.old) is_last end seen.new)) }
-        ensures fails { IfOk result (IfAgain (λ next key. (is_last ≡ false) × HasFailed R.before job.now key (state_of attempt.old seen.old) (state_of next seen.new))) }
+        ensures fails { IfOk result (IfAgain (λ key. (is_last ≡ false)
+            × HasFailed R.before job.now key (state_of attempt.old seen.old) (state_of attempt.new seen.new))) }
         ensures stops { IfErr result (λ stop. HasStopped R.before job.now (state_of attempt.old seen.old) stop seen.new) }
     {
         let verdict = self.try_once(place, job, share, attempt, seen)?;
-        after_verdict(self.alloc, job, verdict, is_last)
+        after_verdict(self.alloc, job, verdict, attempt, is_last)
     }
 
-    /// The same. The attempt is dropped here, at one place: where it were dropped on each way out of the loop below, that would take the prover long.
-    fn try_attempt(
+    /// Attempts a job until it ends, and notes the key of each commit that fails before its last attempt, which is at most the one after the loop. Each
+    /// attempt stands in the place of the first one, which its caller owns: it is large, and is not moved.
+    fn attempt_from(
         &self,
         place: usize,
         job: &Job,
         share: &mut Share<R>,
-        attempt: Attempt,
+        attempt: &mut Attempt,
         seen: &mut u64,
-        is_last: bool,
-    ) -> Result<AttemptOutcome, Stop>
-        requires attempt { IsOfJob job.now attempt }
+        lost: &mut Vec<Text>,
+    ) -> Result<JobEnd, Stop>
         requires of_a_job { is_run_of_some R.jobs job.now.program job.now.level ≡ true }
         requires part { 0 < share.old.parts }
+        requires begun { attempt.old ≡ begun job.now.level [] }
+        requires is_its { IsOfJob job.now attempt.old }
+        requires none { lost.old.items ≡ [] }
         ensures parts { share.new.parts ≡ share.old.parts }
-        ensures counted { IfOk result (IfEnded (λ end. share.new.amount ≡ share.old.amount + counted_end end)) }
-        ensures again { IfOk result (IfAgain (λ next key. IsOfJob job.now next × (share.new.amount ≡ share.old.amount))) }
+        ensures counted { IfOk result (λ end. share.new.amount ≡ share.old.amount + counted_end end) }
         ensures stopped { OnErr result (share.new.amount ≡ share.old.amount) }
         ensures never_falls { seen.old ≤ seen.new }
-        ensures ends { IfOk result (IfEnded (λ end. HasEnded R.before job.now (state_of attempt seen.old) is_last end seen.new)) }
-        ensures fails { IfOk result (IfAgain (λ next key. (is_last ≡ false) × HasFailed R.before job.now key (state_of attempt seen.old) (state_of next seen.new))) }
-        ensures stops { IfErr result (λ stop. HasStopped R.before job.now (state_of attempt seen.old) stop seen.new) }
+        ensures ends { IfOk result (λ end. ComesTo R.before job.now seen.old lost.new.items
+            (EndsByVerdict R.before job.now end seen.new (attempts_of lost.new.items))) }
+        ensures stops { IfErr result (λ stop. ComesTo R.before job.now seen.old lost.new.items (λ last. HasStopped R.before job.now last stop seen.new)) }
     {
-        let mut attempt = attempt;
-        let outcome = self.try_by_verdict(place, job, share, &mut attempt, seen, is_last);
-        drop(attempt);
-        outcome
+        for _ in 1..job.limit {
+            match self.try_by_verdict(place, job, share, attempt, seen, false)? {
+                AttemptOutcome::Ended(end) => return Ok(end),
+                AttemptOutcome::Again(key) => note_lost(lost, key)?,
+            }
+        }
+        match self.try_by_verdict(place, job, share, attempt, seen, true)? {
+            AttemptOutcome::Ended(end) => Ok(end),
+            AttemptOutcome::Again(_) => unreachable!(),
+        }
     }
 
-    /// Attempts a job until it ends, and notes the key of each commit that fails before its last attempt, which is at most the one after the loop.
+    /// Attempts a job from its first attempt on.
     fn attempt(
         &self,
         place: usize,
@@ -282,16 +301,9 @@ impl<'a, R: RunOfJobs, W: Wait, G: Gate> HallAccess<'a, R, W, G> {
         ensures stops { IfErr result (λ stop. ComesTo R.before job.now seen.old lost.new.items (λ last. HasStopped R.before job.now last stop seen.new)) }
     {
         let mut attempt = first_attempt(self.alloc, job);
-        for _ in 1..job.limit {
-            match self.try_attempt(place, job, share, attempt, seen, false)? {
-                AttemptOutcome::Ended(end) => return Ok(end),
-                AttemptOutcome::Again(next, key) => attempt = note_lost(lost, key, next)?,
-            }
-        }
-        match self.try_attempt(place, job, share, attempt, seen, true)? {
-            AttemptOutcome::Ended(end) => Ok(end),
-            AttemptOutcome::Again(_, _) => unreachable!(),
-        }
+        let end = self.attempt_from(place, job, share, &mut attempt, seen, lost);
+        drop(attempt);
+        end
     }
 
     /// Brings the job at a place to its end, and notes the keys over which its commits failed before its last attempt, in their order.

@@ -1,7 +1,8 @@
 //! The command `audit`.
 ghost use Rattle.std.specs.Prelude.{◌≡◌, false};
 
-use crate::explaining::{kept, say_source, say_unread, say_unwritten};
+use crate::explaining::{BAD, kept, say_seeming, say_unread, say_unwritten};
+use crate::kinds::{begins_report, seeming};
 use crate::noting::Noting;
 use crate::wording::{Lines, TEXT, held, print_words};
 use std::io::Write;
@@ -12,8 +13,8 @@ use stm_commands::Std;
 /// The status where a promise is broken, or commits are missing.
 const BROKEN: u8 = 1;
 
-/// The status of a trace that is none.
-const BAD: u8 = 2;
+/// What is wanted in the place of a trace.
+const TRACE: &str = "trace: that is one array of commits, [LEVEL,REVISION,[READ,..],[WRITE,..]]";
 
 /// Says why the bytes of the file of a name are no trace, or what to do where one seems to be younger than its store, by the status of its audit; nothing, where
 /// memory runs out.
@@ -28,6 +29,16 @@ fn say_why(rt: &HostRuntime, name: &str, bytes: &[u8], explain: bool, status: u8
     if let Ok(said) = said {
         let _ = rt.eprint(said.as_str());
     }
+}
+
+/// Says of what is no trace, under a name, what it seems to be.
+fn say_no_trace(rt: &HostRuntime, name: &str, text: &str) {
+    let seems = if begins_report(text) {
+        Some("a report")
+    } else {
+        seeming(text)
+    };
+    say_seeming(rt, name, seems, TRACE);
 }
 
 /// Audits the trace of a path, or that on standard input, and prints on `out` what was found. A fault is explained, or is not.
@@ -48,7 +59,9 @@ fn audit_on<W: Write + Drop>(
     if explain {
         say_unwritten(rt, out.device.failure.take());
     }
-    say_source(rt, &input, "trace");
+    if status == BAD {
+        say_no_trace(rt, input.name, input.text().unwrap_or(""));
+    }
     say_unread(rt, input.name, input.source.device.failure);
     status
 }

@@ -2,17 +2,26 @@
 ghost use Rattle.std.specs.Prelude.{◌≡◌, false};
 
 use crate::files::{Opened, open};
-use crate::kinds::{Kind, begins_source, kind_of, say_kind};
+use crate::found::run_of;
+use crate::kinds::{Kind, begins_scenario, kind_of, say_kind, seeming};
 use crate::naming::RUNNERS;
-use crate::noting::Noting;
-use crate::sources::{Given, JsonFile, say_ended, say_leases};
+use crate::noting::{Keeping, Noting};
+use crate::sources::{Given, JsonFile, OWN, say_ended, say_leases, say_of_runs};
+use std::alloc::Global;
 use std::io;
 use std::io::{Input, Write};
 use std::rt::Files;
+use stm_answers::late_steps_in_words;
 use stm_commands::{
     Format, KeptSource, RunnerLabel, Std, check_as_to, check_whole_to, script_as_to,
 };
-use stm_explain::is_hidden;
+use stm_explain::{Said, is_hidden};
+
+/// The status of an input that is bad.
+pub(crate) const BAD: u8 = 2;
+
+/// What is wanted in the place of a report.
+const REPORT: &str = "report: script prints one without --format";
 
 /// With this begins a start, and in JSON no text has it.
 pub(crate) const START: &str = "[\"start\",";
@@ -65,7 +74,8 @@ pub(crate) fn say_unread(rt: &HostRuntime, name: &str, failure: Option<io::Error
     }
 }
 
-/// Says of what was read as JSON why the system refused it, if it did, and what it is if that is a source, or what explore answers and no one schedule.
+/// Says of what was read as JSON why the system refused it, if it did, and what it is if that is a source, a report in another form than lines, or what explore
+/// answers and no one schedule.
 pub(crate) fn say_read<D>(rt: &HostRuntime, input: &KeptSource<'_, Std<Noting<D>>>) {
     let name = input.name;
     say_unread(rt, name, input.source.device.failure);
@@ -75,11 +85,10 @@ pub(crate) fn say_read<D>(rt: &HostRuntime, input: &KeptSource<'_, Std<Noting<D>
     }
 }
 
-/// Says of what is to be something else that it is a source, if it begins as one does.
-pub(crate) fn say_source<S>(rt: &HostRuntime, input: &KeptSource<'_, S>, wanted: &str) {
-    if begins_source(input.text().unwrap_or("")) {
-        let name = input.name;
-        let _ = eprintln!(rt; "{name}: this is a source, and no {wanted}");
+/// Says what an input of a name seems to be, if that is known, in the place of what is wanted.
+pub(crate) fn say_seeming(rt: &HostRuntime, name: &str, seems: Option<&str>, wanted: &str) {
+    if let Some(seems) = seems {
+        let _ = eprintln!(rt; "{name}: this is {seems}, and no {wanted}");
     }
 }
 
@@ -131,8 +140,52 @@ fn say_still(rt: &HostRuntime, given: &Given<'_>) {
     }
 }
 
+/// Says why steps of runners are refused in the run of a scenario; nothing, where memory runs out.
+fn say_late_steps(rt: &HostRuntime, given: &Given<'_>) {
+    let scenario = given.scenario.text();
+    if let Ok(lines) = late_steps_of(rt.alloc(), scenario) {
+        say_of_runs(rt, given, RUNNERS, lines.as_str());
+    }
+}
+
+/// The lines that say so, of the scenario of this line.
+fn late_steps_of(alloc: Global, scenario: &str) -> Said {
+    let report = run_of(alloc, None, Format::Lines, scenario)?;
+    let lines = late_steps_in_words(alloc, scenario, report.as_str())?;
+    let mut said = String::new(alloc);
+    for line in lines.as_str().lines() {
+        said.push_str(OWN)?;
+        said.push_str(line)?;
+        said.push_str("\n")?;
+    }
+    Ok(said)
+}
+
+/// Whether a format shows what a run did as a table or a picture, without the runners of refused events.
+fn is_shown_in_columns(format: Format) -> bool {
+    match format {
+        Format::Lines | Format::Json => false,
+        _ => true,
+    }
+}
+
 /// Runs a scenario. What explains its faults has the places of its source, where it has one, and the names that this gives to runners.
 pub(crate) fn run_script(
+    rt: &HostRuntime,
+    given: &Given<'_>,
+    format: Format,
+    labels: &[RunnerLabel],
+    explain: bool,
+) -> u8 {
+    let status = run_given(rt, given, format, labels, explain);
+    if explain && status == 0 && is_shown_in_columns(format) {
+        say_late_steps(rt, given);
+    }
+    status
+}
+
+/// The same, of which it is not said why steps are refused.
+fn run_given(
     rt: &HostRuntime,
     given: &Given<'_>,
     format: Format,
@@ -151,6 +204,39 @@ pub(crate) fn run_script(
     say_ended(rt, given, RUNNERS, status, &err)
 }
 
+/// The number of the line of which an answer says that it is wrong.
+fn wrong_line_in(answer: &str) -> Option<usize> {
+    let (number, _) = answer.strip_prefix("no ")?.split_once(' ')?;
+    number.parse::<usize>().ok()
+}
+
+/// What script prints of a scenario in the place of a line of the report of a name.
+fn due_words(alloc: Global, name: &str, scenario: &str, line: usize) -> Said {
+    let report = run_of(alloc, None, Format::Lines, scenario)?;
+    match report.as_str().lines().nth(line.saturating_sub(1)) {
+        Some(due) => format!(in alloc; "{name}:{line}: script prints here {due}"),
+        None => format!(in alloc; "{name}:{line}: what script prints has ended before this line"),
+    }
+}
+
+/// Says that of the line of which an answer says that it is wrong; nothing, where memory runs out.
+fn say_due(rt: &HostRuntime, name: &str, scenario: &str, answer: &[u8]) {
+    let answer = str::from_utf8(answer).unwrap_or("");
+    if let Some(line) = wrong_line_in(answer) {
+        if let Ok(words) = due_words(rt.alloc(), name, scenario, line) {
+            let _ = rt.eprintln(words.as_str());
+        }
+    }
+}
+
+/// Says of a file in the place of a report what it seems to be, unless that was explained.
+fn say_no_report<S>(rt: &HostRuntime, report: &KeptSource<'_, S>, explain: bool) {
+    let text = report.text().unwrap_or("");
+    if !explain || !begins_scenario(text) {
+        say_seeming(rt, report.name, seeming(text), REPORT);
+    }
+}
+
 /// Checks the report of a path beside a scenario: each line, where it is to be whole.
 pub(crate) fn run_check(
     rt: &HostRuntime,
@@ -159,9 +245,10 @@ pub(crate) fn run_check(
     whole: bool,
     explain: bool,
 ) -> u8 {
+    let text = scenario.text();
     let mut scenario = kept_json(rt, scenario);
     let mut report = kept(rt, report);
-    let mut out = Std::new(Noting::new(rt.stdout()));
+    let mut out = Std::new(Noting::new(Keeping::new(rt.alloc(), rt.stdout())));
     let mut err = Std::new(rt.stderr());
     let alloc = rt.alloc();
     let status = if whole {
@@ -184,10 +271,16 @@ pub(crate) fn run_check(
         )
     };
     say_read(rt, &scenario);
-    say_source(rt, &report, "report");
     say_unread(rt, report.name, report.source.device.failure);
+    if status == BAD {
+        say_no_report(rt, &report, explain);
+    }
     if explain {
         say_unwritten(rt, out.device.failure);
+    }
+    if explain && !whole {
+        let answer = out.device.into_device().into_bytes();
+        say_due(rt, report.name, text, answer.as_slice());
     }
     status
 }

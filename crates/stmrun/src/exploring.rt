@@ -3,7 +3,7 @@ ghost use Rattle.std.specs.Prelude.{◌≡◌, false};
 
 use crate::explaining::{kept_json, name_of, say_read, say_unwritten};
 use crate::files::is_missing;
-use crate::found::{Form, only_level, print_found, run_rules_in, runners_of};
+use crate::found::{Form, Table, only_level, print_found, run_rules_in, runners_of};
 use crate::naming::{RUNNERS, with_names};
 use crate::noting::{Kept, Noting};
 use crate::rules::{is_json, named_in, rules_named, rules_of, unnamed_rule};
@@ -341,7 +341,11 @@ fn refuse_rules(rt: &HostRuntime, words: &ExploreWords<'_>) -> Result<(), u8> {
 /// The form that is asked for, or that of the source of the scenario, where it has one.
 fn form_of<'a>(words: &ExploreWords<'_>, source: Option<&'a SourceText>) -> Form<'a> {
     match (words.format, source) {
-        (Some("text"), _) => Form::Text(source, words.width),
+        (Some("text"), _) => Form::Text(Table {
+            source,
+            width: words.width,
+            waits: &[],
+        }),
         (_, Some(source)) => Form::Source(source),
         (_, None) => Form::Lines,
     }

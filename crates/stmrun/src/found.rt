@@ -11,6 +11,7 @@ use stm_arguments::{Level, Levels};
 use stm_commands::{Format, KeptSource, Std, script_as_to};
 use stm_devices::write_all;
 use stm_explain::Said;
+use stm_exploring::Wait;
 
 /// In what form a search prints what it finds: a schedule, and the lines around it.
 #[derive(Clone, Copy)]
@@ -19,9 +20,27 @@ pub(crate) enum Form<'a> {
     Lines,
     /// As the source with the schedule.
     Source(&'a SourceText),
-    /// As the table of a run of the schedule, so many characters wide where that is said, with all else in words, and with the names that a source
-    /// gives to runners.
-    Text(Option<&'a SourceText>, Option<u32>),
+    /// As the table of a run of the schedule, with all else in words.
+    Text(Table<'a>),
+}
+
+/// How the table of a schedule is made, and what is said below it.
+#[derive(Clone, Copy)]
+pub(crate) struct Table<'a> {
+    /// The source, whose names the runners have.
+    pub(crate) source: Option<&'a SourceText>,
+    /// How many characters wide it is, where that is said.
+    pub(crate) width: Option<u32>,
+    /// Which runners wait for which others.
+    pub(crate) waits: &'a [Wait],
+}
+
+/// A form of a search in which these runners wait.
+fn with_waits<'a>(form: Form<'a>, waits: &'a [Wait]) -> Form<'a> {
+    match form {
+        Form::Text(table) => Form::Text(Table { waits, ..table }),
+        Form::Lines | Form::Source(_) => form,
+    }
 }
 
 /// With this begins a scenario that has an event, and nothing else that a search prints.
@@ -39,8 +58,13 @@ const STRONGEST: &str = ",\"SerializableSnapshot\"]";
 /// What stands in the words of such a line behind the rule and its level.
 const IS_BROKEN: &str = ": broken";
 
-/// What a run of a scenario prints in a format. It fails only when out of memory.
-fn run_of(alloc: Global, source: Option<&SourceText>, format: Format, line: &str) -> Said {
+/// What a run of a scenario prints in a format. It fails where that is none, or when out of memory.
+pub(crate) fn run_of(
+    alloc: Global,
+    source: Option<&SourceText>,
+    format: Format,
+    line: &str,
+) -> Said {
     let labels = match source {
         Some(source) => source.labels.as_slice(),
         None => &[],
@@ -68,9 +92,10 @@ fn table_of(alloc: Global, source: Option<&SourceText>, width: Option<u32>, line
 /// What is said below the table of a schedule that breaks a rule: nothing of another one.
 fn notes_of(alloc: Global, form: Form<'_>, printed: &str, line: &str) -> Said {
     match (form, broken_line(printed)) {
-        (Form::Text(source, _), Some(_)) => {
-            let report = run_of(alloc, source, Format::Lines, line)?;
-            schedule_in_words(alloc, report.as_str(), runners_of(source))
+        (Form::Text(table), Some(_)) => {
+            let report = run_of(alloc, table.source, Format::Lines, line)?;
+            let runners = runners_of(table.source);
+            schedule_in_words(alloc, report.as_str(), runners, table.waits)
         }
         _ => Ok(String::new(alloc)),
     }
@@ -78,11 +103,10 @@ fn notes_of(alloc: Global, form: Form<'_>, printed: &str, line: &str) -> Said {
 
 /// What stands above the table of a search at all levels: which rule its schedule breaks, and at which level. Nothing of another form or search.
 fn heading_of(alloc: Global, form: Form<'_>, levels: Levels, printed: &str) -> Said {
-    let (Form::Text(source, _), Levels::All, Some(line)) = (form, levels, broken_line(printed))
-    else {
+    let (Form::Text(table), Levels::All, Some(line)) = (form, levels, broken_line(printed)) else {
         return Ok(String::new(alloc));
     };
-    let words = in_words(alloc, line, printed, true, runners_of(source))?;
+    let words = in_words(alloc, line, printed, true, runners_of(table.source))?;
     match words {
         Some(words) => match words.as_str().split_once(IS_BROKEN) {
             Some((rule, _)) => format!(in alloc; "\n{rule}:\n"),
@@ -102,7 +126,7 @@ fn schedule_in(
     match form {
         Form::Lines => Ok(None),
         Form::Source(source) => resumed(alloc, source, level, line),
-        Form::Text(source, width) => {
+        Form::Text(Table { source, width, .. }) => {
             let table = table_of(alloc, source, width, line)?;
             Ok(Some(table))
         }
@@ -128,7 +152,9 @@ fn push_answer(
 ) -> Result<(), AllocError> {
     let has_level = matches!(levels, Levels::All);
     let words = match form {
-        Form::Text(source, _) => in_words(alloc, line, printed, has_level, runners_of(source))?,
+        Form::Text(table) => {
+            in_words(alloc, line, printed, has_level, runners_of(table.source))?
+        }
         Form::Lines | Form::Source(_) => None,
     };
     match words {
@@ -159,7 +185,7 @@ fn push_found(
             out.push_str(heading.as_str())?;
             out.push_str(schedule.as_str())?;
             out.push_str(notes.as_str())?;
-            return Ok(matches!(form, Form::Text(_, _)));
+            return Ok(matches!(form, Form::Text(_)));
         }
     }
     push_answer(alloc, out, form, levels, printed, line)?;
@@ -284,7 +310,7 @@ fn printed_in(
     kept: Kept,
 ) -> Result<Vec<u8>, AllocError> {
     let mut printed = kept.into_bytes()?;
-    if let (Form::Text(_, _), Levels::All, 1) = (form, levels, status) {
+    if let (Form::Text(_), Levels::All, 1) = (form, levels, status) {
         push_worst(rt, question, &mut printed)?;
     }
     Ok(printed)
@@ -315,5 +341,6 @@ pub(crate) fn run_rules_in(
     let status = run_rules(rt, question, levels, explain, &mut out);
     let kept = out.device.into_device();
     let printed = printed_in(rt, question, levels, form, status, kept);
+    let form = with_waits(form, question.waits);
     print_found(rt, form, levels, printed, status, explain)
 }

@@ -1,4 +1,6 @@
-//! What an input is, by its lines: a source, JSON, or what explore answers.
+//! What an input is, by its lines: a source, JSON, a report in some form, or what explore answers.
+
+use crate::naming::digits_of;
 
 /// The words with which a source begins behind its comments, and nothing that is JSON.
 const BEGINNINGS: &[&str] = &[
@@ -34,6 +36,27 @@ const WORDS: &[&str] = &[
     "anomaly after ",
 ];
 
+/// With this begins the element of a scenario, and no commit of a trace.
+const EVENTS: &[&str] = &[
+    "[\"start\"",
+    "[\"step\"",
+    "[\"txn\"",
+    "[\"grant\"",
+    "[\"keep\"",
+    "[\"revoke\"",
+    "[\"advance\"",
+    "[\"watch_",
+    "[\"poll\"",
+    "[\"cancel\"",
+    "[\"compact\"",
+];
+
+/// With one of these begins a report in objects.
+const OBJECTS: &[&str] = &["{\"event\":", "{\"kind\":"];
+
+/// With these begin the lines of a report that have no number.
+const LAST_LINES: &[&str] = &["[\"key\",", "[\"lease\",", "[\"end\","];
+
 /// What an input is.
 #[derive(Clone, Copy)]
 pub(crate) enum Kind {
@@ -45,6 +68,8 @@ pub(crate) enum Kind {
     Answer,
     /// What explore prints with several schedules, of which the second begins in this line.
     Schedules(usize),
+    /// A report in another form than lines, which is this.
+    Formatted(&'static str),
     /// None of these.
     Unknown,
 }
@@ -127,9 +152,60 @@ fn second_schedule(text: &str) -> Option<usize> {
     None
 }
 
+/// In which form other than lines a text is a report, if it begins as one.
+fn form_of(text: &str) -> Option<&'static str> {
+    let text = text.trim_start();
+    if text.starts_with("event  store") {
+        Some("a table, as --format text prints it")
+    } else if begins_with(text, OBJECTS) {
+        Some("a report in objects, as --format json prints it")
+    } else if text.starts_with("<svg ") {
+        Some("a picture, as --format svg prints it")
+    } else if text.starts_with("<!DOCTYPE html>") {
+        Some("a page, as --format html prints it")
+    } else {
+        None
+    }
+}
+
+/// Whether a text begins as a report does, in lines.
+pub(crate) fn begins_report(text: &str) -> bool {
+    let text = text.trim_start();
+    let Some(rest) = text.strip_prefix('[') else {
+        return false;
+    };
+    let (digits, behind) = digits_of(rest);
+    begins_with(text, LAST_LINES) || (!digits.is_empty() && behind.starts_with(",\""))
+}
+
+/// Whether a text begins as a scenario does.
+pub(crate) fn begins_scenario(text: &str) -> bool {
+    match text.trim_start().strip_prefix('[') {
+        Some(rest) => begins_with(rest.trim_start(), EVENTS),
+        None => false,
+    }
+}
+
+/// What a text seems to be that is no report in lines, and no trace; nothing, where that is not known.
+pub(crate) fn seeming(text: &str) -> Option<&'static str> {
+    if let Some(form) = form_of(text) {
+        Some(form)
+    } else if has_no_schedule(text) {
+        Some("explore's answer")
+    } else if begins_source(text) {
+        Some("a source")
+    } else if begins_scenario(text) {
+        Some("a scenario")
+    } else {
+        None
+    }
+}
+
 /// What a text is, in whose front answers of explore were passed over.
 pub(crate) fn kind_of(text: &str) -> Kind {
-    if let Some(line) = second_schedule(text) {
+    if let Some(form) = form_of(text) {
+        Kind::Formatted(form)
+    } else if let Some(line) = second_schedule(text) {
         Kind::Schedules(line)
     } else if has_no_schedule(text) {
         Kind::Answer
@@ -154,6 +230,9 @@ pub(crate) fn say_kind(rt: &HostRuntime, name: &str, kind: Kind) {
         ),
         Kind::Schedules(line) => eprintln!(rt;
             "{name}: several schedules stand here; the second begins in line {line}"
+        ),
+        Kind::Formatted(form) => eprintln!(rt;
+            "{name}: this is {form}, where a scenario or a program is wanted"
         ),
         Kind::Unknown => Ok(()),
     };

@@ -37,7 +37,7 @@ fn is_no_digit(character: char) -> bool {
 }
 
 /// The digits with which a text begins, and the rest.
-fn digits_of(text: &str) -> (&str, &str) {
+pub(crate) fn digits_of(text: &str) -> (&str, &str) {
     match text.split_once(is_no_digit) {
         Some((digits, _)) => (digits, text.strip_prefix(digits).unwrap_or("")),
         None => (text, ""),

@@ -32,7 +32,7 @@ const COMPILED: &str = ", compiled";
 const STANDARD: &str = "-";
 
 /// What stands before what a command has to say, also where it explains nothing.
-const OWN: &str = "stmrun: ";
+pub(crate) const OWN: &str = "stmrun: ";
 
 /// The line of a scenario without events.
 const NO_EVENTS: &str = "[]";
@@ -55,6 +55,15 @@ impl JsonFile<'_> {
             JsonFile::Json(path) => open_beside(rt, path),
             JsonFile::Compiled(line, _) => Opened::Compiled(line.as_str().as_bytes()),
             JsonFile::Held(bytes, _) => Opened::Compiled(bytes.as_slice()),
+        }
+    }
+
+    /// What is read of it, where it is no file; nothing, where it is one or no text.
+    pub(crate) fn text(&self) -> &str {
+        match self {
+            JsonFile::Json(_) => "",
+            JsonFile::Compiled(line, _) => line.as_str(),
+            JsonFile::Held(bytes, _) => str::from_utf8(bytes.as_slice()).unwrap_or(""),
         }
     }
 
@@ -120,7 +129,7 @@ fn bytes_at(rt: &HostRuntime, path: &str) -> Result<Vec<u8>, u8> {
 fn compiled_of(rt: &HostRuntime, path: &str, bytes: &[u8], explain: bool) -> Result<Compiled, u8> {
     let mut err = Std::new(rt.stderr());
     let kind = kind_of(front_of(bytes));
-    let is_other = matches!(kind, Kind::Json | Kind::Answer | Kind::Schedules(_));
+    let is_other = !matches!(kind, Kind::Source | Kind::Unknown);
     let name = explained_name(path, explain && !is_other);
     let compiled = compiled(rt.alloc(), name, &mut Std::new(bytes), &mut err);
     if is_other {
@@ -376,7 +385,7 @@ fn said_of_runs(alloc: Global, given: &Given<'_>, called: Called, lines: &str) -
 
 /// Says lines that explain the runs of a scenario, of runners that are called so, as its source has them, where it has one. Where memory runs out, what the
 /// command itself has to say is said, and nothing is explained.
-fn say_of_runs(rt: &HostRuntime, given: &Given<'_>, called: Called, lines: &str) {
+pub(crate) fn say_of_runs(rt: &HostRuntime, given: &Given<'_>, called: Called, lines: &str) {
     // The places take a second reading of the source.
     if lines.is_empty() {
         return;
@@ -731,9 +740,9 @@ pub(crate) fn run_compile(rt: &HostRuntime, path: &str, part: Part<'_>, explain:
         Err(status) => return status,
     };
     let kind = kind_of(front_of(bytes.as_slice()));
-    let is_answer = matches!(kind, Kind::Answer | Kind::Schedules(_));
-    let status = compile_bytes(rt, path, bytes.as_slice(), part, explain && !is_answer);
-    if is_answer {
+    let is_other = !matches!(kind, Kind::Source | Kind::Json | Kind::Unknown);
+    let status = compile_bytes(rt, path, bytes.as_slice(), part, explain && !is_other);
+    if is_other {
         say_kind(rt, name_of(path), kind);
     }
     status

@@ -1,13 +1,11 @@
-use Rattle.std.proofs.Common.{◌≡◌, List, ℕ, IsUtf8, sym, ap, subst, string_bytes}
-use Rattle.std.proofs.lemmas.Str.{IsUtf8-string_bytes}
-use Rattle.stm_report.specs.declared.format.Format.{Format}
-use Rattle.stm_report.specs.FormatScript.{IsTextSince}
-use Rattle.stm_report.specs.Report.{IsReport}
+use Rattle.std.proofs.Common.{IfOk, ap, subst, ◌∙◌}
+use Rattle.stm_history.specs.History.{History}
+use Rattle.stm_txn.specs.Standing.{Standing}
+use Rattle.stm_report.specs.FormatScript.{IsTextOver}
 use Rattle.stm_report.proofs.format_script.render.Goals as goal
 
-pub returns-in_ok-report-in-Lines : goal.returns-in_ok-report-in-Lines
-returns-in_ok-report-in-Lines c =
-    let bytes : c.into_bytes.result.items ≡ string_bytes c.in_ok-report-in-Lines.field-0 = ap (λ v. v.items) c.into_bytes.ensures.value in
-    subst (λ (format : Format). IsTextSince c.args.since format c.args.labels.now c.args.world.now c.args.events.now c.args.replies.now c.into_bytes.result.items) (sym c.in-Lines.is)
-    (subst (λ (text : List ℕ). IsReport c.args.world.now c.args.replies.now text × IsUtf8 text) (sym bytes)
-    (c.in_ok-report-in-Lines.ensures, IsUtf8-string_bytes c.in_ok-report-in-Lines.field-0))
+pub returns : goal.returns
+returns c =
+    let a = c.args in
+    subst (λ (h : History). IfOk c.render_over.result (λ text. IsTextOver h a.since a.format a.labels.now a.world.now a.events.now a.replies.now text.items))
+    (c.keys-keys.ensures.history ∙ ap (λ (s : Standing). s.history) c.store.ensures.standing) c.render_over.ensures

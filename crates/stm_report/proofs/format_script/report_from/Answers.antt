@@ -1,27 +1,31 @@
-use Rattle.std.proofs.Common.{◌≡◌, ℕ, List, Result, IfOk, length, ap, sym, subst, ◌∙◌}
-use Rattle.stm_events.specs.declared.reply.Reply.{Reply}
-use Rattle.stm_events.specs.declared.refusal.Denied.{Denied}
+use Rattle.std.proofs.Common.{IfOk, sym, subst, ◌∙◌}
+use Rattle.std.proofs.lemmas.Result.{IfOk-weaker}
+use Rattle.stm_history.specs.History.{History, now}
 use Rattle.stm_world.specs.World.{World, world_after, replies_to}
-use Rattle.stm_report.specs.FormatScript.{IsTextSince}
-use Rattle.stm_report.proofs.FormatRowLemmas.{one_reply}
+use Rattle.stm_report.specs.declared.format.Format.{Format}
+use Rattle.stm_report.specs.FormatScript.{IsTextOver, IsTextFrom, IsWholeTextFrom}
+use Rattle.stm_report.proofs.RunHistories.{all_kept, floors}
 use Rattle.stm_report.proofs.format_script.report_from.Goals as goal
 
-pub render-requires : goal.render-requires
-render-requires c =
-    let events = c.args.events.now in
-    let begun : World = c.args.world.now in
-    let replies : c.as_slice.result.now ≡ replies_to events begun = c.as_slice.ensures.value ∙ c.in-Ok.ensures.replies in
-    sym (ap (λ (rs : List (Result Reply Denied)). length rs) replies ∙ one_reply events begun)
+pub returns-in-Lines : goal.returns-in-Lines
+returns-in-Lines c =
+    let a = c.args in
+    IfOk-weaker c.kept_from.result _ _
+    (λ text. subst (λ (f : Format). IsTextFrom f a.labels.now a.world.now a.events.now text.items → IsWholeTextFrom f a.labels.now a.world.now a.events.now text.items)
+    (sym c.in-Lines.is) (λ is. is)) c.kept_from.ensures
 
-pub returns-in-Ok : goal.returns-in-Ok
-returns-in-Ok c =
-    let events = c.args.events.now in
-    let begun : World = c.args.world.now in
-    let format = c.args.format in
-    let labels = c.args.labels.now in
-    let world : c.run.new.self ≡ world_after events begun = c.in-Ok.ensures.ok in
-    let replies : c.as_slice.result.now ≡ replies_to events begun = c.as_slice.ensures.value ∙ c.in-Ok.ensures.replies in
-    subst (λ (n : ℕ). IfOk c.render.result (λ text. IsTextSince n format labels (world_after events begun) events (replies_to events begun) text.items)) c.revision_of-since.ensures
-    (subst (λ (w : World). IfOk c.render.result (λ text. IsTextSince c.revision_of-since.result format labels w events (replies_to events begun) text.items)) world
-    (subst (λ (rs : List (Result Reply Denied)). IfOk c.render.result (λ text. IsTextSince c.revision_of-since.result format labels c.run.new.self events rs text.items)) replies
-    c.render.ensures))
+pub returns-in-Json : goal.returns-in-Json
+returns-in-Json c =
+    let a = c.args in
+    IfOk-weaker c.kept_from-in-Json.result _ _
+    (λ text. subst (λ (f : Format). IsTextFrom f a.labels.now a.world.now a.events.now text.items → IsWholeTextFrom f a.labels.now a.world.now a.events.now text.items)
+    (sym c.in-Json.is) (λ is. is)) c.kept_from-in-Json.ensures
+
+pub returns-else-has_compaction : goal.returns-else-has_compaction
+returns-else-has_compaction c =
+    let a = c.args in
+    let ended : World = world_after a.events.now a.world.now in
+    let none = sym c.has_compaction.ensures ∙ c.if-has_compaction.false in
+    subst (λ (h : History). IfOk c.kept_from-else-has_compaction.result
+    (λ text. IsTextOver h (now a.world.now.standing.history) a.format a.labels.now ended a.events.now (replies_to a.events.now a.world.now) text.items))
+    (all_kept ended.standing (floors a.events.now a.world.now none ∙ c.requires.floor)) c.kept_from-else-has_compaction.ensures

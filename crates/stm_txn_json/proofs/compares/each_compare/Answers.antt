@@ -9,7 +9,7 @@ use Rattle.stm_txn_json.proofs.compares.each_compare.Goals as goal
 
 pub returns-in_err-compare : goal.returns-in_err-compare
 returns-in_err-compare c =
-    let p = err_from_is_err_and c.from_residual.result c.from_residual.ensures.1 in
+    let p = err_from_is_err_and c.from_residual-in_err-compare.result c.from_residual-in_err-compare.ensures.1 in
     rw (p.1, p.2) (ends compare_of c.in_err-compare.field-0.0 c.loop-index.compares.items c.args.values.now c.loop-index.index c.index-values-index.result
     (each_from compare_of 0 (items_view c.args.values.now)) c.loop-index-test.true c.index-values-index.is c.in_err-compare.ensures c.loop-index.invariant)
 

@@ -9,7 +9,7 @@ use Rattle.stm_txn_json.proofs.operations.each_operation.Goals as goal
 
 pub returns-in_err-operation : goal.returns-in_err-operation
 returns-in_err-operation c =
-    let p = err_from_is_err_and c.from_residual.result c.from_residual.ensures.1 in
+    let p = err_from_is_err_and c.from_residual-in_err-operation.result c.from_residual-in_err-operation.ensures.1 in
     rw (p.1, p.2) (ends operation_of c.in_err-operation.field-0.0 c.loop-index.operations.items c.args.values.now c.loop-index.index c.index-values-index.result
     (each_from operation_of 0 (items_view c.args.values.now)) c.loop-index-test.true c.index-values-index.is c.in_err-operation.ensures c.loop-index.invariant)
 

@@ -8,5 +8,5 @@ use Rattle.stm_watch.proofs.touch.touch_all.Given as goal
 abbrev pub invariant-loop-event : goal.invariant-loop-event
 invariant-loop-event l = record {
   noted : l.slots ≡ map (option_map (touch l.revision (map change_of_event (take l.event-index l.events)))) l.fn.slots;
-  found : AreFound l.index l.ranges l.slots;
+  found : AreFound l.index l.groups l.slots;
 }

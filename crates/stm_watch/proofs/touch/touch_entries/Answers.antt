@@ -21,9 +21,9 @@ loop-entry-preserved c =
     ∙ ap (λ (y : RangeEntry). take c.loop-entry.entry-index entries ++ y ∷ []) (sym c.entry-item.is) in
     record {
       touched = touched_more c.args.revision c.args.key.now (Reaches c.args.key.now) (take c.loop-entry.entry-index entries)
-          (take (c.loop-entry.entry-index + 1) entries) x c.args.slots.now c.loop-entry.slots c.touch_range.new.slots one c.loop-entry.invariant.touched
-          c.touch_range.ensures.slots;
-      covers = c.touch_range.ensures.covers;
+          (take (c.loop-entry.entry-index + 1) entries) x c.args.slots.now c.loop-entry.slots c.touch_entry.new.slots one c.loop-entry.invariant.touched
+          c.touch_entry.ensures.slots;
+      covers = c.touch_entry.ensures.covers;
     }
 
 pub returns-clause-slots : goal.returns-clause-slots

@@ -1,5 +1,6 @@
 use Rattle.std.proofs.Common.{◌≡◌, ℕ, ◌+◌, ◌≤◌, ◌∙◌, ◌∷◌, [], refl, sym, ap, subst, arith, length, map, reverse, is_some, Bool, List, Option, Some}
 use Rattle.std.proofs.Common.{None, IfSome, slice_get}
+use Rattle.std.specs.List.{AllByRecursion}
 use Rattle.std.proofs.lemmas.List.{length-map, length_push}
 use Rattle.indexmap.specs.IndexMap.{get_by_text}
 use Rattle.stm_history.specs.declared.change.Change.{Change}
@@ -10,8 +11,10 @@ use Rattle.stm_keys.specs.declared.event.Event.{Event}
 use Rattle.stm_keys.specs.Events.{change_of_event, event_of, event_about, key_of_event}
 use Rattle.stm_keys.specs.Keys.{Contents, IsKept, changes_of}
 use Rattle.stm_keys.specs.Chains.{Chain, Versions, versions_in, StandFirst, names_of, opening_of}
+use Rattle.stm_keys.specs.Runs.{SumsUp}
 use Rattle.stm_keys.proofs.Recorded.{key_of_event-event_of}
 use Rattle.stm_keys.proofs.Fields.{pushed}
+use Rattle.stm_keys.proofs.Ranges.{summed_with}
 use Rattle.stm_keys.proofs.Order.{names_long}
 use Rattle.stm_keys.proofs.Walked.{unchanged_key, view_kept, on_any, kept_with_room, first_after, no_version_absent, opening_kept, before_with}
 use Rattle.stm_keys.proofs.keys.Keys.apply_one.Goals as goal
@@ -61,18 +64,21 @@ invariant_of-self c =
     let present : List ℕ → Bool = λ key. is_some (key_after opening key (changes_of (reverse xs))) in
     subst (λ (o : Opening). IsKept o (reverse c.add_only.new.revisions.items) next
     × StandFirst (λ key. is_some (key_after o key (changes_of (reverse c.add_only.new.revisions.items)))) c.add_only.new.present names
-    × (c.self.inside.floor ≤ c.self.inside.below + length c.add_only.new.revisions.items))
+    × (c.self.inside.floor ≤ c.self.inside.below + length c.add_only.new.revisions.items)
+    × AllByRecursion (SumsUp c.self.inside.below c.add_only.new.revisions.items) c.self.inside.runs)
     (sym (opening_kept c.self.inside.chains c.add_only.new.chains c.self.inside.below
     (λ key. ap (λ (v : Versions). v.before) (c.in_err-add_only.ensures.same key))))
     (subst (λ (l : List (List Event)). IsKept opening (reverse l) next
     × StandFirst (λ key. is_some (key_after opening key (changes_of (reverse l)))) c.add_only.new.present names
-    × (c.self.inside.floor ≤ c.self.inside.below + length l))
+    × (c.self.inside.floor ≤ c.self.inside.below + length l)
+    × AllByRecursion (SumsUp c.self.inside.below l) c.self.inside.runs)
     (sym c.in_err-add_only.ensures.err) (
       kept_with_room opening (reverse xs) (get_by_text c.self.inside.chains) next c.self.invariant.0 c.in_err-add_only.ensures.same,
       subst (λ n. StandFirst present n names) (sym c.in_err-add_only.ensures.count)
           (c.in_err-add_only.ensures.kept.first present c.self.inside.present
           (λ key none. no_version_absent opening (reverse xs) (get_by_text c.self.inside.chains) key c.self.invariant.0 none) c.self.invariant.1),
       c.self.invariant.2,
+      c.self.invariant.3,
     ))
 
 pub invariant_of-self-2 : goal.invariant_of-self-2
@@ -97,7 +103,8 @@ invariant_of-self-2 c =
     let present : List ℕ → Bool = λ key. is_some (key_after opening key (changes_of (reverse xs))) in
     subst (λ (o : Opening). IsKept o (reverse ys) next
     × StandFirst (λ key. is_some (key_after o key (changes_of (reverse ys)))) c.add_only.new.present (names_of c.add_only.new.chains)
-    × (c.self.inside.floor ≤ c.self.inside.below + length ys))
+    × (c.self.inside.floor ≤ c.self.inside.below + length ys)
+    × AllByRecursion (SumsUp c.self.inside.below ys) c.self.inside.runs)
     (sym (opening_kept c.self.inside.chains c.add_only.new.chains c.self.inside.below
     (λ key. ap (λ (v : Versions). v.before) (c.in_ok-add_only.ensures.reported key)
     ∙ before_with (is_some (event_about key (c.in_ok-event.event ∷ []))) (c.revision-before.result + 1) (versions_in (get_by_text c.self.inside.chains key))))) (
@@ -109,6 +116,7 @@ invariant_of-self-2 c =
       (let long : length ys ≡ length xs + 1 = ap (λ (l : List (List Event)). length l) c.in_ok-add_only.ensures.recorded
           ∙ length_push xs (c.in_ok-event.event ∷ []) in
           omega (arith, c.self.invariant.2, long)),
+      summed_with c.self.inside.below xs ys (c.in_ok-event.event ∷ []) c.self.inside.runs c.in_ok-add_only.ensures.recorded c.self.invariant.3,
     )
 
 pub returns-clause-ok : goal.returns-clause-ok

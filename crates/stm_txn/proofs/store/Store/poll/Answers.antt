@@ -1,15 +1,14 @@
-use Rattle.std.proofs.Common.{◌≤◌, subst}
-use Rattle.stm_history.specs.declared.revisions.TheConstants.{HIGHEST_REVISION}
-use Rattle.stm_history.specs.History.{now}
-use Rattle.stm_outcome.specs.Numbers.{LeasesFit}
+use Rattle.std.proofs.Common.{◌≡◌, OnErr, subst}
+use Rattle.stm_txn.specs.Standing.{Returns, polled, poll_refused}
 use Rattle.stm_txn.specs.Store.{StoreView}
-use Rattle.stm_txn.proofs.Polling.{batch_fits}
 use Rattle.stm_txn.proofs.store.Store.poll.Goals as goal
 
-pub returns-clause-numbers : goal.returns-clause-numbers
-returns-clause-numbers c =
-    batch_fits c.args.self.now.standing c.take_batch.new.self.standing c.args.id c.args.most c.in_ok-batch.batch
-    (subst (λ (s : StoreView). now s.standing.history ≤ HIGHEST_REVISION) c.self.view_is
-    (subst (λ n. n ≤ HIGHEST_REVISION) c.revision-counter.ensures.value c.revision-counter.ensures.bounded))
-    (subst (λ (s : StoreView). LeasesFit s.standing.history) c.self.view_is c.self.invariant.1)
-    c.in_ok-batch.ensures.step
+pub returns-clause-step : goal.returns-clause-step
+returns-clause-step c =
+    subst (λ (v : StoreView). Returns (polled v.standing c.args.id c.args.most) c.poll_prepared.result c.poll_prepared.new.self.standing) c.prepare_search.ensures
+    c.poll_prepared.ensures.step
+
+pub returns-clause-refused : goal.returns-clause-refused
+returns-clause-refused c =
+    subst (λ (v : StoreView). OnErr c.poll_prepared.result (c.poll_prepared.new.self.standing ≡ poll_refused v.standing c.args.id)) c.prepare_search.ensures
+    c.poll_prepared.ensures.refused

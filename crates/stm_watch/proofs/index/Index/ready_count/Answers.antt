@@ -1,8 +1,7 @@
-use Rattle.indexmap.specs.IndexMap.{get_by_text}
 use Rattle.stm_watch.proofs.Indexed.{ready_there}
 use Rattle.stm_watch.proofs.index.Index.ready_count.Goals as goal
 
 pub len-requires : goal.len-requires
 len-requires c =
-    ready_there (get_by_text c.args.self.now.keys) c.args.self.now.ranges c.args.self.now.ready c.args.self.now.lists c.args.self.now.nodes.items
+    ready_there c.args.self.now.idle c.args.self.now.ready c.args.self.now.lists c.args.self.now.nodes.items
     c.requires.0 c.requires.1

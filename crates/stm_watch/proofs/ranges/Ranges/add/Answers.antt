@@ -1,10 +1,11 @@
-use Rattle.std.proofs.Common.{subst, sym}
-use Rattle.stm_watch.specs.declared.page.RangeEntry.{RangeEntry}
-use Rattle.stm_watch.specs.declared.watched.Watched.{Watched}
-use Rattle.stm_watch.specs.Pages.{HasEntry, IsEntered}
+use Rattle.std.proofs.Common.{refl}
+use Rattle.std.proofs.lemmas.Result.{on_ok_weaker}
+use Rattle.stm_watch.proofs.Entered.{looked_at}
 use Rattle.stm_watch.proofs.ranges.Ranges.add.Goals as goal
 
-pub returns-in_ok-add_entry-clause-ok : goal.returns-in_ok-add_entry-clause-ok
-returns-in_ok-add_entry-clause-ok c ws =
-    subst (λ (w : Watched). IsEntered w c.args.place ws c.add_entry.new.self.pages.items) (sym c.in-Range.is)
-    (subst (λ (e : RangeEntry). HasEntry ws c.add_entry.new.self.pages.items e) c.in_ok-of.ensures (c.in_ok-add_entry.ensures.ok ws))
+pub returns-clause-kept : goal.returns-clause-kept
+returns-clause-kept c ws e had = looked_at ws e _ refl (c.enter-entered.ensures.kept ws e had.there)
+
+pub returns-clause-ok : goal.returns-clause-ok
+returns-clause-ok c =
+    on_ok_weaker c.enter-entered.result (λ entered (ws : _). looked_at ws c.args.entry _ refl (entered ws)) c.enter-entered.ensures.ok

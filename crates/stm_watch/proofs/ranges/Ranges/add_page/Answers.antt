@@ -6,10 +6,11 @@ use Rattle.stm_watch.proofs.ranges.Ranges.add_page.Goals as goal
 
 pub returns-clause-kept : goal.returns-clause-kept
 returns-clause-kept c ws e has =
-    subst (λ (pages : List Page). HasEntry ws pages e) (sym c.in_ok-push.ensures.items)
-    (any-left (StandsOn ws e) c.args.self.now.pages.items (c.in_ok-page.page ∷ []) has)
+    subst (λ (pages : List Page). HasEntry ws pages e) (sym c.push_reserved.ensures.items)
+    (any-left (StandsOn ws e) c.reserve_exact.new.self.items (c.in_ok-page.page ∷ [])
+    (subst (λ (pages : List Page). HasEntry ws pages e) (sym c.reserve_exact.ensures.items) has))
 
 pub returns-clause-ok : goal.returns-clause-ok
 returns-clause-ok c ws =
-    subst (λ (pages : List Page). HasEntry ws pages c.args.entry) (sym c.in_ok-push.ensures.items)
-    (any-right (StandsOn ws c.args.entry) c.args.self.now.pages.items (c.in_ok-page.page ∷ []) (inl (c.in_ok-page.ensures ws)))
+    subst (λ (pages : List Page). HasEntry ws pages c.args.entry) (sym c.push_reserved.ensures.items)
+    (any-right (StandsOn ws c.args.entry) c.reserve_exact.new.self.items (c.in_ok-page.page ∷ []) (inl (c.in_ok-page.ensures ws)))

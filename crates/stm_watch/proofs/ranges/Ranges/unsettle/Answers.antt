@@ -1,6 +1,6 @@
-use Rattle.std.proofs.Common.{subst, sym}
+use Rattle.std.proofs.Common.{refl, subst, sym}
 use Rattle.stm_watch.specs.Pages.{StandsOn}
-use Rattle.stm_watch.proofs.Entered.{any-set}
+use Rattle.stm_watch.proofs.Entered.{any-set, looked_at}
 use Rattle.stm_watch.proofs.ranges.Ranges.unsettle.Goals as goal
 
 pub loop-at-preserved : goal.loop-at-preserved
@@ -10,3 +10,6 @@ loop-at-preserved c = record {
       (λ stands. c.unsettle.ensures ws e (subst (StandsOn ws e) (sym c.index_mut.ensures.value) stands)) (c.loop-at.invariant.kept ws e has);
   len = c.loop-at.invariant.len;
 }
+
+pub returns : goal.returns
+returns c ws e had = looked_at ws e _ refl (c.loop-at.invariant.kept ws e had.there)

@@ -3,7 +3,7 @@ use Rattle.std.proofs.Math.ListN.{drop_of_length-le}
 use Rattle.std.proofs.lemmas.List.{take_all, take_more_set, drop-set-lt}
 use Rattle.stm_watch.specs.declared.page.Page.{Page}
 use Rattle.stm_watch.specs.Pages.{StandsOn, HasEntry}
-use Rattle.stm_watch.proofs.Entered.{any-left, any-right, unsettled}
+use Rattle.stm_watch.proofs.Entered.{any-left, any-right, looked_at, unsettled}
 use Rattle.stm_watch.proofs.ranges.Ranges.wake_each.Goals as goal
 
 pub loop-index-preserved : goal.loop-index-preserved
@@ -31,11 +31,11 @@ loop-index-preserved c =
     }
 
 pub returns : goal.returns
-returns c old new e has =
+returns c old new e had =
     let pages : List Page = c.loop-index.self.pages.items in
     let past : length pages ≤ c.loop-index.index = omega
     (arith, c.loop-index-test.false, c.len-index-end.ensures, c.loop-index.invariant.len, c.loop-index.self.pages.ok.0) in
-    elim (c.loop-index.invariant.woken old new e has) [
+    looked_at new e _ refl (elim (c.loop-index.invariant.woken old new e had.there) [
       | inl done ↦ subst (λ (l : List Page). HasEntry new l e) (take_all c.loop-index.index pages past) done
       | inr left ↦ absurd (subst (λ (l : List Page). HasEntry old l e) (drop_of_length-le pages past) left)
-    ]
+    ])

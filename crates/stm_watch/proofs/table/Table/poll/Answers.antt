@@ -1,9 +1,8 @@
 use Rattle.std.proofs.Common.{◌∙◌, List, Option, None, Err, IfSome, IsSome, ap, slice_index_or, subst, sym}
 use Rattle.std.specs.declared.alloc.AllocError.{AllocError}
 use Rattle.std.proofs.lemmas.Result.{err_from_is_err_and}
-use Rattle.stm_watch.specs.declared.watched.Watched.{Watched}
 use Rattle.stm_watch.specs.declared.watched.Watcher.{Watcher}
-use Rattle.stm_watch.specs.Kept.{Covers, idle_list}
+use Rattle.stm_watch.specs.Kept.{Covers}
 use Rattle.stm_watch.specs.Pages.{AreEntered, AreFound}
 use Rattle.stm_watch.specs.Slots.{IsFollowed, PlacePolls}
 use Rattle.stm_watch.proofs.Entered.{entered_polled}
@@ -22,7 +21,7 @@ poll-requires-clause-stands c =
 pub invariant_of-self : goal.invariant_of-self
 invariant_of-self c =
     let some = subst (λ ws. IsSome (slice_index_or ws c.args.place None)) (sym c.self.view_is) c.requires.there in
-    subst (λ (ws : List (Option Watcher)). AreFound c.self.inside.index c.self.inside.ranges ws)
+    subst (λ (ws : List (Option Watcher)). AreFound c.self.inside.index c.self.inside.groups ws)
     (sym (place_refused c.args.keys.now.history c.args.place c.args.most c.self.inside.slots c.poll.new.self c.poll.result c.poll.ensures some
     _ c.in_err-batch.was))
     c.self.invariant
@@ -42,13 +41,6 @@ watcher-watcher-requires c =
     polled_some c.args.keys.now.history c.args.place c.args.most c.self.inside.slots c.poll.new.self c.poll.result c.poll.ensures some
     c.in_ok-batch.batch c.in_ok-batch.was
 
-pub list_for-list-requires : goal.list_for-list-requires
-list_for-list-requires c =
-    let some = subst (λ ws. IsSome (slice_index_or ws c.args.place None)) (sym c.self.view_is) c.requires.there in
-    let found = polled_slot c.args.keys.now.history c.args.place c.args.most c.self.inside.slots c.poll.new.self c.poll.result c.poll.ensures some
-    c.in_ok-batch.batch c.in_ok-batch.was c.watcher-watcher.result.now c.watcher-watcher.ensures in
-    subst (λ (x : Watched). IsSome (idle_list c.self.inside.index x)) (sym found.3) (c.self.invariant.covers.waiting c.args.place found.0 found.1)
-
 pub move_to-requires-clause-there : goal.move_to-requires-clause-there
 move_to-requires-clause-there c =
     let some = subst (λ ws. IsSome (slice_index_or ws c.args.place None)) (sym c.self.view_is) c.requires.there in
@@ -62,13 +54,11 @@ invariant_of-self-2 c =
     let some = subst (λ ws. IsSome (slice_index_or ws c.args.place None)) (sym c.self.view_is) c.requires.there in
     let found = polled_slot c.args.keys.now.history c.args.place c.args.most c.self.inside.slots c.poll.new.self c.poll.result c.poll.ensures some
     c.in_ok-batch.batch c.in_ok-batch.was c.watcher-watcher.result.now c.watcher-watcher.ensures in
-    let waits = subst (λ (x : Watched). IsSome (idle_list c.self.inside.index x)) (sym found.3)
-    (c.self.invariant.covers.waiting c.args.place found.0 found.1) in
     record {
       covers = subst (λ (ws : List (Option Watcher)). Covers c.move_to.new.self ws) (sym found.2)
-          (c.move_to.ensures.covers c.self.inside.slots c.watcher-watcher.result.now c.self.invariant.covers some c.list_for-list.ensures waits);
-      entered = subst (AreEntered c.wake.new.self.pages.items) (sym found.2)
-          (entered_polled c.self.inside.ranges.pages.items c.wake.new.self.pages.items c.self.inside.slots c.args.place found.0 c.watcher-watcher.result.now found.1
+          (c.move_to.ensures c.self.inside.slots c.watcher-watcher.result.now c.self.invariant.covers some c.list_for-list.ensures);
+      entered = subst (AreEntered c.wake.new.self) (sym found.2)
+          (entered_polled c.self.inside.groups c.wake.new.self c.self.inside.slots c.args.place found.0 c.watcher-watcher.result.now found.1
           found.3 c.wake.ensures.kept c.wake.ensures.woken c.self.invariant.entered);
     }
 

@@ -16,7 +16,7 @@ invariant_of-self c =
     subst (AreFound c.remove-2.new.self c.remove.new.self) (sym c.remove-3.ensures)
     (record {
       covers = c.remove-2.ensures c.self.inside.slots c.self.invariant.covers some;
-      entered = entered_less c.self.inside.ranges.pages.items c.remove.new.self.pages.items c.self.inside.slots c.args.place c.remove.ensures some
+      entered = entered_less c.self.inside.groups c.remove.new.self c.self.inside.slots c.args.place c.remove.ensures.keys c.remove.ensures.kept some
           c.self.invariant.entered;
     })
 

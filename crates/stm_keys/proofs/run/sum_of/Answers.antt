@@ -1,0 +1,56 @@
+use Rattle.std.proofs.Common.{◌≡◌, ◌+◌, ◌-◌, ◌<◌, ◌≤◌, ◌∙◌, ◌++◌, [], List, ℕ, length, map, get_or, sym, ap, subst, arith, refl, ⊎_elim}
+use Rattle.std.specs.List.{list_any}
+use Rattle.std.proofs.lemmas.Bool.{cases_lt}
+use Rattle.std.proofs.lemmas.List.{get_or_default}
+use Rattle.stm_keys.specs.declared.event.Event.{Event}
+use Rattle.stm_keys.specs.Events.{key_of_event}
+use Rattle.stm_keys.specs.Chains.{events_with}
+use Rattle.stm_keys.specs.Runs.{HasKeysOf, is_any_about}
+use Rattle.stm_keys.proofs.Ranges.{more_keys, own_keys, any_of_keys}
+use Rattle.stm_keys.proofs.run.sum_of.Goals as goal
+
+pub revisions-preserved : goal.revisions-preserved
+revisions-preserved c =
+    let xs : List (List Event) = c.args.revisions.now.items in
+    let keys : List (List ℕ) = c.revisions.keys.items in
+    let events : List Event = c.as_slice.result.now in
+    let place : ℕ = c.revisions.number - c.args.below in
+    let within : place < length xs = omega (arith, c.revisions-test.true, c.requires, c.revisions.invariant.opened) in
+    let there : (n : ℕ) → n ≡ c.revisions.number + 1 → events ≡ events_with c.args.below xs n = λ n is.
+    let same : place ≡ n - c.args.below - 1 = omega arith in
+    c.as_slice.ensures ∙ c.index.ensures ∙ get_or_default xs place c.index.result.now [] within ∙ ap (λ i. get_or xs i []) same in
+    record {
+      opened = omega (arith, c.revisions.invariant.opened);
+      begun = omega (arith, c.revisions.invariant.begun);
+      within = λ low short. omega (arith, c.revisions-test.true);
+      reported = λ number above from upto.
+          subst (λ l. HasKeysOf l (events_with c.args.below xs number)) (sym c.in_ok-push_keys.ensures)
+          (⊎_elim
+          (λ less. more_keys keys (map key_of_event events) (events_with c.args.below xs number) (c.revisions.invariant.reported number above from (omega arith)))
+          (λ last. subst (HasKeysOf (keys ++ map key_of_event events)) (there number (omega arith)) (own_keys keys events))
+          (cases_lt number (c.revisions.number + 1)));
+      none = λ is. absurd (omega (arith, is, c.revisions.invariant.begun));
+      single = λ is low.
+          c.in_ok-push_keys.ensures
+          ∙ ap (λ (l : List (List ℕ)). l ++ map key_of_event events) (c.revisions.invariant.none (omega (arith, is)))
+          ∙ ap (map key_of_event) (there (c.revisions.number + 1) refl);
+    }
+
+pub returns : goal.returns
+returns c =
+    let xs : List (List Event) = c.args.revisions.now.items in
+    let at : ℕ → List Event = events_with c.args.below xs in
+    record {
+      reached = omega (arith, c.in_ok-made.ensures.upto, c.requires);
+      each = λ number above from upto passes none.
+          c.revisions.invariant.reported number above (omega (arith, c.in_ok-made.ensures.from)) (omega (arith, c.in_ok-made.ensures.upto, c.revisions-test.false)) passes
+          (sym (c.in_ok-made.ensures.keys passes) ∙ none);
+      single = λ alone above passes any.
+          let low : c.args.below ≤ c.args.from = omega (arith, c.in_ok-made.ensures.from, c.in_ok-made.ensures.upto) in
+          let most = c.revisions.invariant.within low (omega (arith, c.in_ok-made.ensures.from, c.in_ok-made.ensures.upto)) in
+          let last : c.in_ok-made.made.upto ≡ c.revisions.number = omega (arith, c.in_ok-made.ensures.upto, c.revisions-test.false, most) in
+          ap (λ (n : ℕ). is_any_about passes (at n)) last
+          ∙ sym (any_of_keys passes (at c.revisions.number))
+          ∙ ap (list_any passes) (sym (c.revisions.invariant.single (omega (arith, c.in_ok-made.ensures.from, c.in_ok-made.ensures.upto, last)) low))
+          ∙ sym (c.in_ok-made.ensures.keys passes) ∙ any;
+    }

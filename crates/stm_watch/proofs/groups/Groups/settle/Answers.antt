@@ -1,0 +1,8 @@
+use Rattle.stm_watch.specs.Pages.{IsIn}
+use Rattle.stm_watch.proofs.Entered.{at-set}
+use Rattle.stm_watch.proofs.groups.Groups.settle.Goals as goal
+
+pub returns-then-group-len-clause-kept : goal.returns-then-group-len-clause-kept
+returns-then-group-len-clause-kept c g e =
+    at-set (IsIn c.args.slots.now e) c.args.self.now.groups.items c.in-Some.group g c.index_mut.result.now c.settle.new.self
+    c.index_mut.ensures.value (c.settle.ensures e)

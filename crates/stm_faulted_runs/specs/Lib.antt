@@ -8,6 +8,8 @@ pub mod Laws
 pub mod Reads
 pub mod Places
 pub mod Lines
+pub mod Leases
+pub mod LeaseViews
 pub mod Rules
 pub mod Origins
 pub mod Jobs

@@ -11,7 +11,7 @@ syntax keyword stmDeclaration program rule finally let
 syntax keyword stmControl if else for in return break continue
 syntax match stmStatement /\<\(put\|del\|emit\|abort\|prefetch\)\>\ze\s*(/
 syntax match stmFunction /\<\(get\|rev\|num_of\|text_of\)\>\ze\s*(/
-syntax keyword stmEvent begin start step txn grant keep revoke advance watch poll cancel compact
+syntax keyword stmEvent begin start step txn grant keep left revoke advance watch poll cancel compact
 syntax keyword stmOption as at after committed from limit max to ttl
 syntax keyword stmLevel SerializableSnapshot Serializable RepeatableReads ReadCommitted
 syntax match stmTarget /\<\(mod\|create\|version\|lease\|value\|end\|why\|out\)\>\ze\s*(/

@@ -15,7 +15,7 @@ use Rattle.stm_watch.specs.Calls.{Step as WatchStep}
 use Rattle.stm_outcome.specs.declared.refusal.Refusal.{Refusal as StoreRefusal}
 use Rattle.stm_outcome.specs.declared.refusal.Refusal.TheVariants.{TimeGoesBack}
 use Rattle.stm_outcome.specs.Outcome.{Done}
-use Rattle.stm_txn.specs.Standing.{Standing, Step as StoreStep, Advance as StoreAdvance, with_watchers, with_floor, step_of, granted, kept_alive}
+use Rattle.stm_txn.specs.Standing.{Standing, Step as StoreStep, Advance as StoreAdvance, with_watchers, with_floor, step_of, granted, kept_alive, time_left}
 use Rattle.stm_txn.specs.Standing.{ended, revoked, expired_in, after, expire_up_to, at_moment, advanced, poll_step, cancel_step, floor_step}
 use Rattle.stm_entries.specs.declared.entry.Entry.{Entry}
 use Rattle.stm_events.specs.declared.event.WorldEvent.{WorldEvent}
@@ -110,6 +110,10 @@ kept_same : (s : Standing) (id : ℕ) → SameCall (kept_alive (unwatched s) id)
 unfolding SameCall
 kept_same s id = grind (arith, nat_tests, SameCall)
 
+left_same : (s : Standing) (id : ℕ) → SameCall (time_left (unwatched s) id) (time_left s id)
+unfolding SameCall
+left_same s id = grind (arith, nat_tests, SameCall)
+
 revoked_same : (s : Standing) (id : ℕ) → SameCall (revoked (unwatched s) id) (revoked s id)
 unfolding SameCall
 revoked_same s id = grind (arith, nat_tests)
@@ -173,8 +177,8 @@ quiet_next w s t same = ap (λ (u : Standing). let it : World = record { standin
 
 pub next_same : (event : WorldEvent) (w : World) → plain_world (step event (plain_world w)).next ≡ plain_world (step event w).next
 next_same event w =
-    grind (arith, nat_tests, started_same, runner_same, call_same, txn_by, granted_same, kept_same, revoked_same, quiet_next, advanced_same, poll_leaves, cancel_leaves, raised_by)
+    grind (arith, nat_tests, started_same, runner_same, call_same, txn_by, granted_same, kept_same, left_same, revoked_same, quiet_next, advanced_same, poll_leaves, cancel_leaves, raised_by)
 
 pub told_same : (event : WorldEvent) (w : World) → IsNoWatch event → (step event (plain_world w)).reply ≡ (step event w).reply
 told_same event w plain =
-    grind (arith, nat_tests, started_same, runner_same, reply_same, txn_by, granted_same, kept_same, revoked_same, advanced_same, raised_by)
+    grind (arith, nat_tests, started_same, runner_same, reply_same, txn_by, granted_same, kept_same, left_same, revoked_same, advanced_same, raised_by)

@@ -71,6 +71,7 @@ stmrun help language has what a source may have. As JSON a scenario is an array 
   [\"step\",RUNNER]                     the runner fetches its list or a key, or commits
   [\"txn\",[CMP,..],[OP,..],[OP,..]]    another client's transaction: compares, success, failure
   [\"grant\",ID,TTL]                    a lease is granted for TTL seconds
+  [\"left\",ID]                          how many seconds a lease has left
   [\"keep\",ID] and [\"revoke\",ID]       a lease is renewed, or ends with its keys
   [\"advance\",NOW]                     the moment is set, and the leases that are due end with their keys
   [\"compact\",REVISION]                the revisions below this one are dropped

@@ -86,7 +86,7 @@ Events
   txn if COMPARE && .. { .. }         where all compares hold, and else     txn if mod(\"a\") == 0 { put(\"a\", \"1\") }
     else { .. }                       another list; of mod, create, version,
                                       lease or value, by ==, !=, < or >
-  grant ID ttl SECONDS                a lease; keep ID, revoke ID, too      grant 7 ttl 10
+  grant ID ttl SECONDS                a lease; keep ID, left ID, revoke ID     grant 7 ttl 10
   advance to MOMENT                   the moment is set                     advance to 20
   watch KEY from REVISION             a key, or with .. the keys between    watch \"a\"..\"b\"
   poll WATCHER max REVISIONS          what is pending                       poll 1 max 10

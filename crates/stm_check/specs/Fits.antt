@@ -32,6 +32,7 @@ abbrev pub is_answer_to : Call → Reply → Bool
 is_answer_to (call.Txn txn) (reply.Txn succeeded revision answers) = true
 is_answer_to (call.Grant id ttl) (reply.Granted reported) = true
 is_answer_to (call.Keep id) (reply.Kept reported) = true
+is_answer_to (call.Left id) (reply.Left reported seconds) = true
 is_answer_to (call.Revoke id) (reply.Revoked reported revision) = true
 is_answer_to (call.Advance moment) (reply.Advanced reported expired) = true
 is_answer_to (call.Compact revision) (reply.Compacted reported) = true

@@ -82,6 +82,7 @@ fn can_reply(runners: &[Runner], event: &WorldEvent, reply: &Reply) -> bool
         WorldEvent::Txn { .. } => matches!(reply, Reply::Txn { .. }),
         WorldEvent::Grant { .. } => matches!(reply, Reply::Granted { .. }),
         WorldEvent::Keep { .. } => matches!(reply, Reply::Kept { .. }),
+        WorldEvent::Left { .. } => matches!(reply, Reply::Left { .. }),
         WorldEvent::Revoke { .. } => matches!(reply, Reply::Revoked { .. }),
         WorldEvent::Advance { .. } => matches!(reply, Reply::Advanced { .. }),
         WorldEvent::Compact { .. } => matches!(reply, Reply::Compacted { .. }),

@@ -12,7 +12,7 @@ use crate::count::{add_count, count_reported};
 use crate::fits::can_have;
 use crate::leases::note_leases;
 use crate::replayed_calls::{
-    is_denied, replay_advance, replay_compact, replay_grant, replay_keep, replay_revoke, replay_txn,
+    is_denied, replay_advance, replay_compact, replay_grant, replay_keep, replay_left, replay_revoke, replay_txn,
 };
 use crate::runner::{Runner, find_running, note};
 use std::alloc::{AllocError, Global};
@@ -114,6 +114,7 @@ fn replays(
         WorldEvent::Txn { txn } => replay_txn(alloc, store, txn, reply),
         WorldEvent::Grant { id, ttl } => replay_grant(alloc, store, *id, *ttl, reply),
         WorldEvent::Keep { id } => replay_keep(alloc, store, *id, reply),
+        WorldEvent::Left { id } => replay_left(alloc, store, *id, reply),
         WorldEvent::Revoke { id } => replay_revoke(alloc, store, *id, reply),
         WorldEvent::Advance { now } => replay_advance(store, *now, reply),
         WorldEvent::Compact { revision } => replay_compact(alloc, store, *revision, reply),

@@ -122,6 +122,22 @@ pub(crate) fn replay_keep(
     }
 }
 
+/// Asks how many seconds a lease has left, and returns whether this is the reply to it.
+pub(crate) fn replay_left(
+    alloc: Global,
+    store: &mut Store,
+    id: u64,
+    reply: &Result<Reply, Denied>,
+) -> Result<bool, AllocError>
+    ensures right { IfOk result (λ b. IsTrue b ↔ CallReplays store.old.standing (call.Left id) reply.now) }
+    ensures next { IfOk result (λ b. IsTrue b → store.new.standing ≡ standing_called store.old.standing (call.Left id) reply.now) }
+{
+    match store.left(id) {
+        Ok(seconds) => Ok(is_reply(reply, Ok(Reply::Left { id, seconds }))),
+        Err(cause) => is_refused(alloc, reply, cause),
+    }
+}
+
 /// Revokes a lease, and returns whether this is the reply to it.
 pub(crate) fn replay_revoke(
     alloc: Global,

@@ -146,7 +146,7 @@ pub(crate) fn said_of_lease(spot: Spot<'_>) -> &'static str {
 
 /// What is said of digits that go on with letters.
 pub(crate) fn said_of_digits(spot: Spot<'_>) -> &'static str {
-    if spot.is_behind(1, "grant") || spot.is_behind(1, "keep") || spot.is_behind(1, "revoke") {
+    if spot.is_behind(1, "grant") || spot.is_behind(1, "keep") || spot.is_behind(1, "left") || spot.is_behind(1, "revoke") {
         return "a number has the digits 0 to 9 alone: of a lease that etcdctl prints, printf %d 0xID makes one";
     }
     "a number has the digits 0 to 9 alone"

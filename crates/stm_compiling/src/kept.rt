@@ -57,6 +57,7 @@ fn event_of(word: &str) -> Option<Item> {
         | "txn"
         | "grant"
         | "keep"
+        | "left"
         | "revoke"
         | "advance"
         | "watch"

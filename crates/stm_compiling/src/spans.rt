@@ -120,7 +120,7 @@ fn word_of_no_job(tokens: &[Token], begun: Begun) -> &str {
 
 /// Whether a word begins an event that has no place among jobs.
 fn is_no_job(word: &str) -> bool {
-    matches!(word, "step" | "watch" | "poll" | "cancel" | "compact")
+    matches!(word, "step" | "left" | "watch" | "poll" | "cancel" | "compact")
 }
 
 /// Which events of a source of this name have no place among jobs, and where they stand: a line for each of the first ones. It fails only when out of memory.

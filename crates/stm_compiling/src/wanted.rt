@@ -14,14 +14,14 @@ use strsim::osa_distance;
 const MOST_NEAR: usize = 60;
 
 /// The words that begin an event, or what stands beside events.
-pub(crate) const EVENTS: [&str; 16] = [
-    "program", "start", "step", "txn", "grant", "keep", "revoke", "advance", "watch", "poll",
+pub(crate) const EVENTS: [&str; 17] = [
+    "program", "start", "step", "txn", "grant", "keep", "left", "revoke", "advance", "watch", "poll",
     "cancel", "compact", "begin", "rule", "finally", "let",
 ];
 
 /// What may stand behind the program of a start.
-const OPTIONS: [&str; 19] = [
-    "as", "at", "limit", "after", "program", "start", "step", "txn", "grant", "keep", "revoke",
+const OPTIONS: [&str; 20] = [
+    "as", "at", "limit", "after", "program", "start", "step", "txn", "grant", "keep", "left", "revoke",
     "advance", "watch", "poll", "cancel", "compact", "rule", "finally", "let",
 ];
 
@@ -97,7 +97,7 @@ fn behind_name(spot: Spot<'_>) -> Option<Wanted> {
 /// Whether what stands before a place is a name behind which a number stands.
 pub(crate) fn is_behind_number_name(spot: Spot<'_>) -> bool {
     for name in [
-        "begin", "limit", "grant", "ttl", "keep", "revoke", "to", "poll", "max", "cancel",
+        "begin", "limit", "grant", "ttl", "keep", "left", "revoke", "to", "poll", "max", "cancel",
         "compact", "from",
     ] {
         if spot.is_behind(0, name) {

@@ -69,6 +69,7 @@ enter = record {
     legal = (ap (λ (o : Option Term). is_some o) is, tt);
     limit = refl;
   };
+  left = λ s id term of is few. nothing_enters s;
   revoked = λ s id of live room few. record { replays = refl; legal = (record { is_live = live; has_room = room }, tt); limit = refl };
   went_back = λ s moment of back few. nothing_enters s;
   moved = λ s moment a of forward rest few. let e = rest tt in record { replays = e.replays; legal = e.legal; limit = e.limit };

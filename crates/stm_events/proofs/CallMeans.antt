@@ -29,7 +29,7 @@ use Rattle.stm_entries.specs.Entered.{if_taken, if_changed, expiries}
 use Rattle.stm_events.specs.declared.reply.Reply.{Reply}
 use Rattle.stm_events.specs.declared.reply.Reply.TheVariants as reply
 use Rattle.stm_events.specs.Replies.{txn_reply, batch_reply, poll_reply, denied, event_refusal, store_after_call, store_after_poll}
-use Rattle.stm_events.specs.Called.{Call, Txn, Grant, Keep, Revoke, Advance, Watch, Poll, Cancel, Compact, Called, called, plainly, come_up, entered}
+use Rattle.stm_events.specs.Called.{Call, Txn, Grant, Keep, Left, Revoke, Advance, Watch, Poll, Cancel, Compact, Called, called, plainly, come_up, entered}
 
 -- ---- the definitions of calls, by what decides them
 
@@ -45,6 +45,13 @@ kept_by s id o =
     elim o [
       | None ↦ Err LeaseNotFound
       | Some term ↦ Ok record { answer = tt; next = with_lease s id term.ttl }
+    ]
+
+abbrev pub left_by : Standing → Option Term → Result (Step ℕ) Refusal
+left_by s o =
+    elim o [
+      | None ↦ Err LeaseNotFound
+      | Some term ↦ Ok record { answer = term.renewed + term.ttl - s.moment; next = s }
     ]
 
 abbrev pub revoked_by : Standing → ℕ → Bool → Bool → Result (Step ℕ) Refusal
@@ -98,6 +105,8 @@ pub record CallMeans (Of : Call → Type 0) (P : Standing → Call → Called �
       P s (Grant id ttl) (taken (reply.Granted id) (with_lease s id ttl)) (GrantEntry id ttl s.moment ∷ [])
   pub renewed : (s : Standing) (id : ℕ) (term : Term) → Of (Keep id) → finmap.get s.live id ≡ Some term →
       P s (Keep id) (taken (reply.Kept id) (with_lease s id term.ttl)) (Renew id s.moment ∷ [])
+  pub left : (s : Standing) (id : ℕ) (term : Term) → Of (Left id) → finmap.get s.live id ≡ Some term →
+      P s (Left id) (taken (reply.Left id (term.renewed + term.ttl - s.moment)) s) []
   pub revoked : (s : Standing) (id : ℕ) → Of (Revoke id) → is_live_in s.live id ≡ true → is_used_up s.history (deletions_of s.history id) ≡ false →
       P s (Revoke id) (taken (reply.Revoked id (now (without_lease s id).history)) (without_lease s id)) (RevokeEntry id ∷ [])
   pub went_back : (s : Standing) (moment : ℕ) → Of (Advance moment) → nat_lt moment s.moment ≡ true → P s (Advance moment) (stops moment (Some TimeGoesBack) s) []
@@ -139,6 +148,11 @@ keep_by : (Of : Call → Type 0) (P : Standing → Call → Called → List Entr
     P s (Keep id) (plainly (λ _. reply.Kept id) s (kept_by s id o)) (if_taken (kept_by s id o) (Renew id s.moment))
 keep_by Of P k s id None of is = k.stays s (Keep id) LeaseNotFound of refl
 keep_by Of P k s id (Some term) of is = k.renewed s id term of is
+
+time_by : (Of : Call → Type 0) (P : Standing → Call → Called → List Entry → Type 0) → CallMeans Of P → (s : Standing) (id : ℕ) (o : Option Term) →
+    Of (Left id) → finmap.get s.live id ≡ o → P s (Left id) (plainly (reply.Left id) s (left_by s o)) []
+time_by Of P k s id None of is = k.stays s (Left id) LeaseNotFound of refl
+time_by Of P k s id (Some term) of is = k.left s id term of is
 
 revoke_by : (Of : Call → Type 0) (P : Standing → Call → Called → List Entry → Type 0) → CallMeans Of P → (s : Standing) (id : ℕ) (live used : Bool) →
     Of (Revoke id) → is_live_in s.live id ≡ live → is_used_up s.history (deletions_of s.history id) ≡ used →
@@ -215,4 +229,4 @@ compact_by Of P k s revision false false of above reached = k.raised s revision 
 
 pub call_means : (Of : Call → Type 0) (P : Standing → Call → Called → List Entry → Type 0) → CallMeans Of P → (s : Standing) (c : Call) → Of c →
     P s c (called s c) (entered s c)
-call_means Of P k s c of = grind (arith, nat_tests, txn_by, grant_by, keep_by, revoke_by, advance_by, watch_by, poll_by, cancel_by, compact_by)
+call_means Of P k s c of = grind (arith, nat_tests, txn_by, grant_by, keep_by, time_by, revoke_by, advance_by, watch_by, poll_by, cancel_by, compact_by)

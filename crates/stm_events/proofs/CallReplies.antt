@@ -10,14 +10,14 @@ use Rattle.stm_watch.specs.Calls.{poll_found, watcher_at, Step as WatchStep}
 use Rattle.stm_outcome.specs.declared.advance.Expired.{Expired}
 use Rattle.stm_outcome.specs.declared.refusal.Refusal.{Refusal}
 use Rattle.stm_outcome.specs.declared.refusal.Refusal.TheVariants.{NoWatcher}
-use Rattle.stm_txn.specs.Standing.{Standing, Step, transacted, granted, kept_alive, revoked, advanced, watched, polled, poll_step, cancelled, raised}
+use Rattle.stm_txn.specs.Standing.{Standing, Step, transacted, granted, kept_alive, time_left, revoked, advanced, watched, polled, poll_step, cancelled, raised}
 use Rattle.stm_entries.specs.declared.entry.Entry.{Entry}
 use Rattle.stm_entries.specs.Entered.{if_taken}
 use Rattle.stm_events.specs.declared.reply.Reply.{Reply}
 use Rattle.stm_events.specs.declared.reply.Reply.TheVariants as reply
 use Rattle.stm_events.specs.declared.refusal.Denied.{Denied}
 use Rattle.stm_events.specs.Replies.{runner_named, txn_reply, batch_reply, reply_to, advance_reply, poll_reply, denied, event_refusal}
-use Rattle.stm_events.specs.Called.{Call, Txn, Grant, Keep, Revoke, Advance, Watch, Poll, Cancel, Compact, called, entered, if_reported, expired_reported, entered_by}
+use Rattle.stm_events.specs.Called.{Call, Txn, Grant, Keep, Left, Revoke, Advance, Watch, Poll, Cancel, Compact, called, entered, if_reported, expired_reported, entered_by}
 
 -- ---- a poll
 
@@ -56,6 +56,7 @@ pub call_replies : (P : Result Reply Denied → Type 0) → OfCalls P → (s : S
 call_replies P k s (Txn txn) = by_answer P k txn_reply (transacted s txn) (λ x. refl)
 call_replies P k s (Grant id ttl) = by_answer P k (λ _. reply.Granted id) (granted s id ttl) (λ x. refl)
 call_replies P k s (Keep id) = by_answer P k (λ _. reply.Kept id) (kept_alive s id) (λ x. refl)
+call_replies P k s (Left id) = by_answer P k (reply.Left id) (time_left s id) (λ x. refl)
 call_replies P k s (Revoke id) = by_answer P k (reply.Revoked id) (revoked s id) (λ x. refl)
 call_replies P k s (Advance moment) = by_cause P k moment (advanced s moment).expired (advanced s moment).cause
 call_replies P k s (Watch keys from) = by_answer P k reply.Watching (watched s keys from) (λ x. refl)

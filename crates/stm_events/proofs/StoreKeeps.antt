@@ -45,6 +45,7 @@ keeps_parts Of R k = record {
       subst (λ (h : History). R s (with_history s h)) (sym grown.2) (k.changed s grown.0);
   granted = λ s id ttl of is. k.leased s (finmap.insert s.live id (record { ttl = ttl; renewed = s.moment }));
   renewed = λ s id term of is. k.leased s (finmap.insert s.live id (record { ttl = term.ttl; renewed = s.moment }));
+  left = λ s id term of is. k.same s;
   revoked = λ s id of live room. without Of R k s id;
   went_back = λ s moment of back. k.same s;
   moved = λ s moment a of forward rest. k.joined s (at_moment s moment) a.leaves (k.moved s moment of) rest;

@@ -11,7 +11,7 @@ use Rattle.stm_watch.specs.declared.watched.Watched.TheVariants.{Key, Range}
 use Rattle.stm_outcome.specs.declared.txn.Txn.{Txn as TxnMade}
 use Rattle.stm_outcome.specs.declared.advance.Expired.{Expired}
 use Rattle.stm_outcome.specs.declared.refusal.Refusal.{Refusal as StoreRefusal}
-use Rattle.stm_txn.specs.Standing.{Standing, Step, Advance as AdvanceMade, transacted, granted, kept_alive, revoked, advanced, watched, polled, cancelled, raised}
+use Rattle.stm_txn.specs.Standing.{Standing, Step, Advance as AdvanceMade, transacted, granted, kept_alive, time_left, revoked, advanced, watched, polled, cancelled, raised}
 use Rattle.stm_entries.specs.declared.entry.Entry.{Entry}
 use Rattle.stm_entries.specs.declared.entry.Entry.TheVariants.{Grant as GrantEntry, Renew, Revoke as RevokeEntry}
 use Rattle.stm_entries.specs.Entered.{if_taken, if_changed, expiries}
@@ -30,6 +30,7 @@ pub data Call : Type 0 where
   Txn : TxnMade → Call
   Grant : ℕ → ℕ → Call
   Keep : ℕ → Call
+  Left : ℕ → Call
   Revoke : ℕ → Call
   Advance : ℕ → Call
   Watch : Watched → ℕ → Call
@@ -49,6 +50,7 @@ asked (event.Step runner) = Steps runner
 asked (event.Txn txn) = Calls (Txn txn)
 asked (event.Grant id ttl) = Calls (Grant id ttl)
 asked (event.Keep id) = Calls (Keep id)
+asked (event.Left id) = Calls (Left id)
 asked (event.Revoke id) = Calls (Revoke id)
 asked (event.Advance moment) = Calls (Advance moment)
 asked (event.WatchKey key from) = Calls (Watch (Key key) from)
@@ -75,6 +77,7 @@ abbrev pub called : Standing → Call → Called
 called s (Txn txn) = plainly txn_reply s (transacted s txn)
 called s (Grant id ttl) = plainly (λ _. reply.Granted id) s (granted s id ttl)
 called s (Keep id) = plainly (λ _. reply.Kept id) s (kept_alive s id)
+called s (Left id) = plainly (reply.Left id) s (time_left s id)
 called s (Revoke id) = plainly (reply.Revoked id) s (revoked s id)
 called s (Advance moment) = come_up moment (advanced s moment)
 called s (Watch keys from) = plainly reply.Watching s (watched s keys from)
@@ -87,6 +90,7 @@ called s (Compact revision) = plainly (λ _. reply.Compacted revision) s (raised
 
 -- watchers and compactions are no entries
 abbrev pub is_entered : Call → Bool
+is_entered (Left id) = false
 is_entered (Watch keys from) = false
 is_entered (Poll watcher most) = false
 is_entered (Cancel watcher) = false

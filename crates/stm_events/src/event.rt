@@ -29,6 +29,10 @@ pub enum WorldEvent {
     Keep {
         id: u64,
     },
+    /// A question how many seconds a lease has left.
+    Left {
+        id: u64,
+    },
     /// A revocation of a lease, with its keys.
     Revoke {
         id: u64,

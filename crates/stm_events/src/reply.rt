@@ -139,6 +139,11 @@ pub enum Reply {
     Kept {
         id: u64,
     },
+    /// How many seconds a lease has left.
+    Left {
+        id: u64,
+        seconds: u64,
+    },
     /// A lease was revoked, with the revision after it.
     Revoked {
         id: u64,

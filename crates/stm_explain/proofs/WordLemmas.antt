@@ -136,13 +136,14 @@ events d word ds =
     (other (same word (codes "txn")) _ _ _ _
     (other (same word (codes "grant")) _ _ _ _
     (other (same word (codes "keep")) _ _ _ _
+    (other (same word (codes "left")) _ _ _ _
     (other (same word (codes "revoke")) _ _ _ _
     (other (same word (codes "advance")) _ _ _ _
     (other (same word (codes "compact")) _ _ _ _
     (other (same word (codes "watch_key")) _ _ _ _
     (other (same word (codes "watch_range")) _ _ _ _
     (other (same word (codes "poll")) _ _ _ _
-    (other (same word (codes "cancel")) _ _ _ _ (λ none. refl))))))))))))
+    (other (same word (codes "cancel")) _ _ _ _ (λ none. refl)))))))))))))
 
 operations : (word : List ℕ) (ds : Items) → is_among word operation_words ≡ false → operation_worded (Some (word, ds)) ≡ bad Shape
 operations word ds =

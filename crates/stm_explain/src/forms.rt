@@ -187,7 +187,7 @@ pub const ORDERS: [Entry; 4] = [
 ];
 
 /// The events of a scenario.
-pub const EVENTS: [Entry; 12] = [
+pub const EVENTS: [Entry; 13] = [
     (
         "start",
         Parts::Three(Part::Level, Part::Limit, Part::Program),
@@ -205,6 +205,7 @@ pub const EVENTS: [Entry; 12] = [
         "[\"grant\",ID,TTL]",
     ),
     ("keep", Parts::One(Part::Number), "[\"keep\",ID]"),
+    ("left", Parts::One(Part::Number), "[\"left\",ID]"),
     ("revoke", Parts::One(Part::Number), "[\"revoke\",ID]"),
     ("advance", Parts::One(Part::Number), "[\"advance\",NOW]"),
     (
@@ -396,7 +397,7 @@ pub const OPERATIONS: [Entry; 3] = [
 ];
 
 /// The lines of a report, by their word. Their elements are not described here, but for how each is spelled.
-pub const LINES: [Entry; 23] = [
+pub const LINES: [Entry; 24] = [
     ("started", Parts::Nothing, "[EVENT,\"started\",RUNNER]"),
     (
         "prefetched",
@@ -441,6 +442,7 @@ pub const LINES: [Entry; 23] = [
     ),
     ("granted", Parts::Nothing, "[EVENT,\"granted\",ID]"),
     ("kept", Parts::Nothing, "[EVENT,\"kept\",ID]"),
+    ("left", Parts::Nothing, "[EVENT,\"left\",ID,SECONDS]"),
     ("revoked", Parts::Nothing, "[EVENT,\"revoked\",ID,REVISION]"),
     (
         "advanced",

@@ -55,6 +55,7 @@ fn event_words(alloc: Global, event: &WorldEvent) -> Said {
         WorldEvent::Txn { .. } => String::from_str(alloc, "txn"),
         WorldEvent::Grant { id, ttl } => grant_words(alloc, *id, *ttl),
         WorldEvent::Keep { id } => numbered(alloc, "keep", *id),
+        WorldEvent::Left { id } => numbered(alloc, "left", *id),
         WorldEvent::Revoke { id } => numbered(alloc, "revoke", *id),
         WorldEvent::Advance { now } => numbered(alloc, "advance to", *now),
         WorldEvent::WatchKey { key, .. } => watch_words(alloc, key.as_str()),

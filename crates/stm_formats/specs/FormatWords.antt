@@ -8,7 +8,7 @@ use Rattle.stm_events.specs.declared.event.WorldEvent.{WorldEvent}
 use Rattle.stm_events.specs.declared.event.WorldEvent.TheVariants as event
 use Rattle.stm_events.specs.declared.reply.Reply.{Reply}
 use Rattle.stm_events.specs.declared.reply.Reply.TheVariants.{Started, Prefetched, Fetched, Committed, Conflict, GaveUp, Aborted, Faulted, Ended}
-use Rattle.stm_events.specs.declared.reply.Reply.TheVariants.{Txn, Granted, Kept, Revoked, Advanced, Compacted, Watching, Batch, Lost, Cancelled}
+use Rattle.stm_events.specs.declared.reply.Reply.TheVariants.{Txn, Granted, Kept, Left, Revoked, Advanced, Compacted, Watching, Batch, Lost, Cancelled}
 use Rattle.stm_events.specs.declared.reply.KeyRead.{KeyRead}
 use Rattle.stm_events.specs.declared.refusal.Denied.{Denied}
 use Rattle.stm_events.specs.declared.refusal.EventRefusal.{EventRefusal}
@@ -121,6 +121,9 @@ revoked_words id revision = joined (codes "revoke " ∷ decimal id ∷ codes " @
 abbrev pub grant_words : ℕ → ℕ → List ℕ
 grant_words id ttl = joined (codes "grant " ∷ decimal id ∷ codes " ttl " ∷ decimal ttl ∷ [])
 
+abbrev pub left_words : ℕ → ℕ → List ℕ
+left_words id seconds = joined (codes "left " ∷ decimal id ∷ codes ": " ∷ decimal seconds ∷ [])
+
 -- what was asked for
 abbrev pub asked_words : WorldEvent → List ℕ
 asked_words (event.Start program level limit) = codes "start"
@@ -128,6 +131,7 @@ asked_words (event.Step runner) = codes "step"
 asked_words (event.Txn txn) = codes "txn"
 asked_words (event.Grant id ttl) = grant_words id ttl
 asked_words (event.Keep id) = named_words (codes "keep") id
+asked_words (event.Left id) = named_words (codes "left") id
 asked_words (event.Revoke id) = named_words (codes "revoke") id
 asked_words (event.Advance now) = named_words (codes "advance to") now
 asked_words (event.Compact revision) = changed_words (codes "compact") revision
@@ -194,6 +198,7 @@ reply_words cuts labels h before event (Ended runner cause) = reported_words cut
 reply_words cuts labels h before event (Txn succeeded revision answers) = txn_words cuts.value event succeeded revision
 reply_words cuts labels h before event (Granted id) = asked_words event
 reply_words cuts labels h before event (Kept id) = named_words (codes "keep") id
+reply_words cuts labels h before event (Left id seconds) = left_words id seconds
 reply_words cuts labels h before event (Revoked id revision) = revoked_words id revision
 reply_words cuts labels h before event (Advanced now expired) = advanced_words now expired
 reply_words cuts labels h before event (Compacted revision) = changed_words (codes "compact") revision

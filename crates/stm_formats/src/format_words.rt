@@ -371,6 +371,19 @@ fn grant_words(alloc: Global, id: u64, ttl: u64) -> Result<Sequence<u8>, AllocEr
     said(alloc, &pieces)
 }
 
+/// The words of a lease that has so many seconds left.
+fn left(alloc: Global, id: u64, seconds: u64) -> Result<Sequence<u8>, AllocError>
+    ensures { IfOk result (λ words. words ≡ left_words id seconds) }
+{
+    let pieces = [
+        Piece::Say("left "),
+        Piece::Number(id),
+        Piece::Say(": "),
+        Piece::Number(seconds),
+    ];
+    said(alloc, &pieces)
+}
+
 /// What an event asked for.
 fn asked_words(alloc: Global, event: &WorldEvent) -> Result<Sequence<u8>, AllocError>
     ensures { IfOk result (λ words. words ≡ asked_words event.now) }
@@ -381,6 +394,7 @@ fn asked_words(alloc: Global, event: &WorldEvent) -> Result<Sequence<u8>, AllocE
         WorldEvent::Txn { .. } => said(alloc, &[Piece::Say("txn")]),
         WorldEvent::Grant { id, ttl } => grant_words(alloc, *id, *ttl),
         WorldEvent::Keep { id } => named(alloc, "keep", *id),
+        WorldEvent::Left { id } => named(alloc, "left", *id),
         WorldEvent::Revoke { id } => named(alloc, "revoke", *id),
         WorldEvent::Advance { now } => named(alloc, "advance to", *now),
         WorldEvent::Compact { revision } => changed(alloc, "compact", *revision),
@@ -625,6 +639,7 @@ fn taken_words(
         } => transacted(alloc, cuts.value, event, *succeeded, *revision),
         Reply::Granted { .. } => asked_words(alloc, event),
         Reply::Kept { id } => named(alloc, "keep", *id),
+        Reply::Left { id, seconds } => left(alloc, *id, *seconds),
         Reply::Revoked { id, revision } => revoked(alloc, *id, *revision),
         Reply::Advanced { now, expired } => advanced(alloc, *now, expired.as_slice()),
         Reply::Compacted { revision } => changed(alloc, "compact", *revision),

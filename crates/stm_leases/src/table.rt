@@ -1,5 +1,5 @@
 //! The leases.
-ghost use Rattle.std.specs.Prelude.{◌≡◌, ◌≢◌, ℕ, ◌-◌, ◌<◌, ◌≤◌, ◌↔◌, List, ◌∷◌, map, max, Some, None, Err, IsTrue, IsOk, IsOkUnless, OnOk, OnErr};
+ghost use Rattle.std.specs.Prelude.{◌≡◌, ◌≢◌, ℕ, ◌-◌, ◌+◌, option_map, ◌<◌, ◌≤◌, ◌↔◌, List, ◌∷◌, map, max, Some, None, Err, IsTrue, IsOk, IsOkUnless, OnOk, OnErr};
 ghost use Rattle.std.specs.Prelude.{IfOk, MatchOption, string_bytes, cond};
 ghost use Rattle.std.specs.FinMap as finmap;
 ghost use Rattle.std.specs.Str.{bytes_eq};
@@ -198,6 +198,14 @@ impl Leases {
         ensures attach_on_live { AttachedToLive self.now }
     {
         self.leases.contains_key(&id)
+    }
+
+    /// How many seconds a live lease has left at `now`, none where there is no such lease.
+    pub fn left(&self, id: u64, now: u64) -> Option<u64>
+        ensures { result ≡ option_map (λ (term : Term). term.renewed + term.ttl - now) (finmap.get self.now.live id) }
+    {
+        let lease = self.leases.get(&id)?;
+        Some(lease.renewed.saturating_add(lease.ttl).saturating_sub(now))
     }
 
     /// The law that every live id and its time to live are in their ranges.

@@ -6,7 +6,7 @@ use Rattle.stm_events.specs.declared.line.ReportLine.{ReportLine}
 use Rattle.stm_events.specs.declared.line.ReportLine.TheVariants.{Event, Key, Lease, End}
 use Rattle.stm_events.specs.declared.reply.Reply.{Reply}
 use Rattle.stm_events.specs.declared.reply.Reply.TheVariants.{Started, Prefetched, Fetched, Committed, Conflict, GaveUp, Aborted, Faulted, Ended}
-use Rattle.stm_events.specs.declared.reply.Reply.TheVariants.{Txn, Granted, Kept, Revoked, Advanced, Compacted, Watching, Batch, Lost, Cancelled}
+use Rattle.stm_events.specs.declared.reply.Reply.TheVariants.{Txn, Granted, Kept, Left, Revoked, Advanced, Compacted, Watching, Batch, Lost, Cancelled}
 use Rattle.stm_events.specs.declared.refusal.Denied.{Denied}
 use Rattle.stm_report_lines.specs.Text.{line_text}
 
@@ -52,6 +52,7 @@ reply_fields (Ended runner cause) = numbered (codes "runner" ∷ codes "cause" �
 reply_fields (Txn succeeded revision answers) = numbered (codes "succeeded" ∷ codes "revision" ∷ codes "answers" ∷ [])
 reply_fields (Granted id) = numbered (codes "lease" ∷ [])
 reply_fields (Kept id) = numbered (codes "lease" ∷ [])
+reply_fields (Left id seconds) = numbered (codes "lease" ∷ codes "seconds" ∷ [])
 reply_fields (Revoked id revision) = numbered (codes "lease" ∷ codes "revision" ∷ [])
 reply_fields (Advanced now expired) = numbered (codes "now" ∷ codes "expired" ∷ [])
 reply_fields (Compacted revision) = numbered (codes "revision" ∷ [])

@@ -121,6 +121,7 @@ fn reply_fields(reply: &Reply) -> &'static [&'static str]
         Reply::Txn { .. } => &["event", "kind", "succeeded", "revision", "answers"],
         Reply::Granted { .. } => &["event", "kind", "lease"],
         Reply::Kept { .. } => &["event", "kind", "lease"],
+        Reply::Left { .. } => &["event", "kind", "lease", "seconds"],
         Reply::Revoked { .. } => &["event", "kind", "lease", "revision"],
         Reply::Advanced { .. } => &["event", "kind", "now", "expired"],
         Reply::Compacted { .. } => &["event", "kind", "revision"],

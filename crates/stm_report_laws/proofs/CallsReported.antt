@@ -108,7 +108,7 @@ ComesTo s (Cancel id) = unwatched s ≡ unwatched (called s (Cancel id)).next
 ComesTo s c = called (unwatched s) c ≡ blind (called s c)
 
 comes_to : (s : Standing) (c : Call) → ComesTo s c
-comes_to s c = grind (arith, nat_tests, grant_blind, keep_blind, revoke_blind, advance_by, watch_stays, poll_stays, cancel_stays, compact_blind)
+comes_to s c = grind (arith, nat_tests, grant_blind, keep_blind, left_blind, revoke_blind, advance_by, watch_stays, poll_stays, cancel_stays, compact_blind)
 
 -- so its reply is the one that a check looks for
 pub calls_replay : (s : Standing) (c : Call) → CallReplays (unwatched s) c (called s c).reply

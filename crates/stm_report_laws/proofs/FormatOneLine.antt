@@ -15,7 +15,7 @@ use Rattle.stm_events.specs.declared.event.WorldEvent.{WorldEvent}
 use Rattle.stm_events.specs.declared.event.WorldEvent.TheVariants as event
 use Rattle.stm_events.specs.declared.reply.Reply.{Reply}
 use Rattle.stm_events.specs.declared.reply.Reply.TheVariants.{Started, Prefetched, Fetched, Committed, Conflict, GaveUp, Aborted, Faulted, Ended}
-use Rattle.stm_events.specs.declared.reply.Reply.TheVariants.{Txn, Granted, Kept, Revoked, Advanced, Compacted, Watching, Batch, Lost, Cancelled}
+use Rattle.stm_events.specs.declared.reply.Reply.TheVariants.{Txn, Granted, Kept, Left, Revoked, Advanced, Compacted, Watching, Batch, Lost, Cancelled}
 use Rattle.stm_events.specs.declared.refusal.Denied.{Denied}
 use Rattle.stm_events.specs.declared.refusal.EventRefusal.{EventRefusal}
 use Rattle.stm_events.specs.Names.{refusal_name}
@@ -322,6 +322,7 @@ reply_without cuts labels h before e (Ended runner cause) = reported_without cut
 reply_without cuts labels h before e (Txn succeeded revision answers) = txn_without cuts.value e succeeded revision
 reply_without cuts labels h before e (Granted id) = asked_without e
 reply_without cuts labels h before e (Kept id) = named_without (codes "keep") id refl
+reply_without cuts labels h before e (Left id seconds) = left_without id seconds
 reply_without cuts labels h before e (Revoked id revision) = revoked_without id revision
 reply_without cuts labels h before e (Advanced now expired) = advanced_without now expired
 reply_without cuts labels h before e (Compacted revision) = compacted_without revision

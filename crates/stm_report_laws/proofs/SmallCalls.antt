@@ -162,6 +162,7 @@ fits_on n last = record {
         with_leases n s (with_lease s id term.ttl) (Renew id s.moment) (with_small s id term.ttl ranges.0 ranges.1 small) refl
             (renewed_count s.live id (record { ttl = term.ttl; renewed = s.moment }) (Renew id s.moment)) watchers many,
       );
+  left = λ s id term of is small watchers many reached. {! !};
   revoked = λ s id of live room small watchers many reached.
       let less : IsSmall (without_lease s id) = without_small s id small room in
       let fewer : finmap.len s.live ≡ suc (finmap.len (finmap.remove s.live id)) = one_fewer s.live id live in (

@@ -29,7 +29,7 @@ use Rattle.stm_txn.proofs.Fitting.{states_fit}
 use Rattle.stm_compile.specs.Answers.{answer_in, said, look_up, AreTrue}
 use Rattle.stm_compile.specs.Conflicts.{Seen, seen_in, seen_of_read, seen_of_write, seen_by, changes_above, IsConflict}
 use Rattle.stm_events.specs.declared.event.WorldEvent.{WorldEvent}
-use Rattle.stm_events.specs.Called.{Call, Txn, Grant, Keep, Revoke, Advance, Watch, Poll, Cancel, Compact, Asked, Starts, Steps, Calls, asked}
+use Rattle.stm_events.specs.Called.{Call, Txn, Grant, Keep, Left, Revoke, Advance, Watch, Poll, Cancel, Compact, Asked, Starts, Steps, Calls, asked}
 use Rattle.stm_events.specs.declared.reply.Reply.{Reply}
 use Rattle.stm_events.specs.declared.refusal.Denied.{Denied}
 use Rattle.stm_events.specs.declared.refusal.EventRefusal.{EventRefusal}
@@ -64,6 +64,7 @@ abbrev pub CallAsksFew : Call → Type 0
 CallAsksFew (Txn txn) = Unit {0}
 CallAsksFew (Grant id ttl) = Unit {0}
 CallAsksFew (Keep id) = Few id
+CallAsksFew (Left id) = Few id
 CallAsksFew (Revoke id) = Few id
 CallAsksFew (Advance moment) = Few moment
 CallAsksFew (Watch keys from) = Few from

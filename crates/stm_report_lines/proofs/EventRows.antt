@@ -18,7 +18,7 @@ use Rattle.stm_events.specs.declared.refusal.EventRefusal.{EventRefusal}
 use Rattle.stm_events.specs.declared.line.ReportLine.{ReportLine}
 use Rattle.stm_events.specs.declared.line.ReportLine.TheVariants as line
 use Rattle.stm_events.specs.declared.reply.Reply.TheVariants.{Started, Prefetched, Fetched, Committed, Conflict, GaveUp, Aborted, Faulted, Ended, Txn}
-use Rattle.stm_events.specs.declared.reply.Reply.TheVariants.{Granted, Kept, Revoked, Advanced, Compacted, Watching, Cancelled, Batch, Lost}
+use Rattle.stm_events.specs.declared.reply.Reply.TheVariants.{Granted, Kept, Left, Revoked, Advanced, Compacted, Watching, Cancelled, Batch, Lost}
 use Rattle.stm_events.specs.declared.reply.CommittedRead.{CommittedRead}
 use Rattle.stm_keys.specs.declared.event.Event.{Event}
 use Rattle.stm_events.specs.declared.reply.OpReply.{OpReply}
@@ -107,6 +107,7 @@ event_row event.Ended = made_of (whole_part & cause_part & nothing) (λ x. Ok (E
 event_row event.Txn = made_of (flag_part & whole_part & ops_part & nothing) (λ x. Ok (Txn x.0 (second x) (third x)))
 event_row event.Granted = made_of (whole_part & nothing) (λ x. Ok (Granted x.0))
 event_row event.Kept = made_of (whole_part & nothing) (λ x. Ok (Kept x.0))
+event_row event.Left = made_of (whole_part & whole_part & nothing) (λ x. Ok (Left x.0 (second x)))
 event_row event.Revoked = made_of (whole_part & whole_part & nothing) (λ x. Ok (Revoked x.0 (second x)))
 event_row event.Advanced = made_of (whole_part & expireds_part & nothing) (λ x. Ok (Advanced x.0 (second x)))
 event_row event.Compacted = made_of (whole_part & nothing) (λ x. Ok (Compacted x.0))
@@ -139,6 +140,7 @@ event_text event.Ended = codes "ended"
 event_text event.Txn = codes "txn"
 event_text event.Granted = codes "granted"
 event_text event.Kept = codes "kept"
+event_text event.Left = codes "left"
 event_text event.Revoked = codes "revoked"
 event_text event.Advanced = codes "advanced"
 event_text event.Compacted = codes "compacted"

@@ -11,7 +11,7 @@ use Rattle.stm_events.specs.declared.line.ReportLine.{ReportLine}
 use Rattle.stm_events.specs.declared.line.ReportLine.TheVariants.{Event, Key, Lease, End}
 use Rattle.stm_events.specs.declared.reply.Reply.{Reply}
 use Rattle.stm_events.specs.declared.reply.Reply.TheVariants.{Started, Prefetched, Fetched, Committed, Conflict, GaveUp, Aborted, Faulted, Ended, Txn}
-use Rattle.stm_events.specs.declared.reply.Reply.TheVariants.{Granted, Kept, Revoked, Advanced, Compacted, Watching, Cancelled, Batch, Lost}
+use Rattle.stm_events.specs.declared.reply.Reply.TheVariants.{Granted, Kept, Left, Revoked, Advanced, Compacted, Watching, Cancelled, Batch, Lost}
 use Rattle.stm_report_lines.specs.declared.words.EventWord.{EventWord}
 use Rattle.stm_report_lines.specs.declared.words.EventWord.TheVariants as event
 use Rattle.stm_report_lines.specs.FirstFault.{event_table, numbered_faults, line_faults}
@@ -125,6 +125,7 @@ reply_reads d n (Ended runner cause) (s, fits) = of_event event.Ended n (runner,
 reply_reads d n (Txn succeeded revision answers) (s, fits) = of_event event.Txn n (succeeded, (revision, (answers, tt))) d s (tt, (tt, (fits, tt)))
 reply_reads d n (Granted id) (s, fits) = of_event event.Granted n (id, tt) d s (tt, tt)
 reply_reads d n (Kept id) (s, fits) = of_event event.Kept n (id, tt) d s (tt, tt)
+reply_reads d n (Left id seconds) (s, fits) = of_event event.Left n (id, (seconds, tt)) d s (tt, (tt, tt))
 reply_reads d n (Revoked id revision) (s, fits) = of_event event.Revoked n (id, (revision, tt)) d s (tt, (tt, tt))
 reply_reads d n (Advanced now expired) (s, fits) = of_event event.Advanced n (now, (expired, tt)) d s (tt, (tt, tt))
 reply_reads d n (Compacted revision) (s, fits) = of_event event.Compacted n (revision, tt) d s (tt, tt)

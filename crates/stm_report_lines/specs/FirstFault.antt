@@ -109,6 +109,7 @@ event_table =
     ∷ (codes "txn", By flag_faults ∷ any_number ∷ By (list_of (worded_faults op_table)) ∷ [])
     ∷ (codes "granted", any_number ∷ [])
     ∷ (codes "kept", any_number ∷ [])
+    ∷ (codes "left", any_number ∷ any_number ∷ [])
     ∷ (codes "revoked", any_number ∷ any_number ∷ [])
     ∷ (codes "advanced", any_number ∷ expired_list ∷ [])
     ∷ (codes "compacted", any_number ∷ [])

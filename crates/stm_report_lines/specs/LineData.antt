@@ -17,7 +17,7 @@ use Rattle.stm_events.specs.declared.line.ReportLine.{ReportLine}
 use Rattle.stm_events.specs.declared.line.ReportLine.TheVariants as line
 use Rattle.stm_events.specs.declared.reply.Reply.{Reply}
 use Rattle.stm_events.specs.declared.reply.Reply.TheVariants.{Started, Prefetched, Fetched, Committed, Conflict, GaveUp, Aborted, Faulted, Ended}
-use Rattle.stm_events.specs.declared.reply.Reply.TheVariants.{Txn, Granted, Kept, Revoked, Advanced, Compacted, Watching, Batch, Lost, Cancelled}
+use Rattle.stm_events.specs.declared.reply.Reply.TheVariants.{Txn, Granted, Kept, Left, Revoked, Advanced, Compacted, Watching, Batch, Lost, Cancelled}
 use Rattle.stm_events.specs.declared.reply.CommittedRead.{CommittedRead}
 use Rattle.stm_events.specs.declared.refusal.Denied.{Denied}
 use Rattle.stm_keys.specs.declared.event.Event.{Event}
@@ -111,6 +111,7 @@ reply_data n (Txn succeeded revision answers) =
     numbered n (codes "txn") (boolean succeeded ∷ whole revision ∷ list (map op_data answers) ∷ [])
 reply_data n (Granted id) = numbered n (codes "granted") (whole id ∷ [])
 reply_data n (Kept id) = numbered n (codes "kept") (whole id ∷ [])
+reply_data n (Left id seconds) = numbered n (codes "left") (whole id ∷ whole seconds ∷ [])
 reply_data n (Revoked id revision) = numbered n (codes "revoked") (whole id ∷ whole revision ∷ [])
 reply_data n (Advanced now expired) = numbered n (codes "advanced") (whole now ∷ list (map expired_data expired) ∷ [])
 reply_data n (Compacted revision) = numbered n (codes "compacted") (whole revision ∷ [])

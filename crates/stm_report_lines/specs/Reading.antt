@@ -13,7 +13,7 @@ use Rattle.stm_events.specs.declared.refusal.Denied.{Denied}
 use Rattle.stm_events.specs.declared.refusal.EventRefusal.{EventRefusal}
 use Rattle.stm_events.specs.declared.reply.Reply.{Reply}
 use Rattle.stm_events.specs.declared.reply.Reply.TheVariants.{Started, Prefetched, Fetched, Committed, Conflict, GaveUp, Aborted, Faulted, Ended}
-use Rattle.stm_events.specs.declared.reply.Reply.TheVariants.{Txn, Granted, Kept, Revoked, Advanced, Compacted, Watching, Cancelled, Batch, Lost}
+use Rattle.stm_events.specs.declared.reply.Reply.TheVariants.{Txn, Granted, Kept, Left, Revoked, Advanced, Compacted, Watching, Cancelled, Batch, Lost}
 use Rattle.stm_json.specs.declared.limits.TheConstants.{MOST_BYTES}
 use Rattle.stm_report_lines.specs.declared.words.EventWord.{EventWord}
 use Rattle.stm_report_lines.specs.declared.words.EventWord.TheVariants as event
@@ -59,6 +59,7 @@ event_reply_of event.Txn d =
     Ok (Ok (Txn succeeded revision answers))
 event_reply_of event.Granted d = part_at 2 number_of d >>= λ id. Ok (Ok (Granted id))
 event_reply_of event.Kept d = part_at 2 number_of d >>= λ id. Ok (Ok (Kept id))
+event_reply_of event.Left d = part_at 2 number_of d >>= λ id. part_at 3 number_of d >>= λ seconds. Ok (Ok (Left id seconds))
 event_reply_of event.Revoked d = part_at 2 number_of d >>= λ id. part_at 3 number_of d >>= λ revision. Ok (Ok (Revoked id revision))
 event_reply_of event.Advanced d = part_at 2 number_of d >>= λ now. part_at 3 (listed expired_of) d >>= λ expired. Ok (Ok (Advanced now expired))
 event_reply_of event.Compacted d = part_at 2 number_of d >>= λ revision. Ok (Ok (Compacted revision))

@@ -9,7 +9,7 @@ use Rattle.stm_events.specs.declared.refusal.EventRefusal.{EventRefusal}
 use Rattle.stm_events.specs.declared.refusal.EventRefusal.TheVariants as cause
 use Rattle.stm_report_lines.specs.declared.words.EventWord.{EventWord}
 use Rattle.stm_report_lines.specs.declared.words.EventWord.TheVariants.{Started, Prefetched, Fetched, Committed, Conflict, GaveUp, Aborted, Faulted, Ended}
-use Rattle.stm_report_lines.specs.declared.words.EventWord.TheVariants.{Txn, Granted, Kept, Revoked, Advanced, Compacted, Watching, Cancelled, Batch, Lost}
+use Rattle.stm_report_lines.specs.declared.words.EventWord.TheVariants.{Txn, Granted, Kept, Left, Revoked, Advanced, Compacted, Watching, Cancelled, Batch, Lost}
 use Rattle.stm_report_lines.specs.declared.words.EventWord.TheVariants.{Refused}
 
 -- what a word stands for in a list of words, if it stands there
@@ -32,6 +32,7 @@ event_words =
     ∷ (codes "txn", (Txn, 5))
     ∷ (codes "granted", (Granted, 3))
     ∷ (codes "kept", (Kept, 3))
+    ∷ (codes "left", (Left, 4))
     ∷ (codes "revoked", (Revoked, 4))
     ∷ (codes "advanced", (Advanced, 4))
     ∷ (codes "compacted", (Compacted, 3))

@@ -131,6 +131,10 @@ fn event_reply(alloc: Global, kind: EventWord, value: &Json) -> Result<EventRepl
         EventWord::Kept => Ok(Ok(Reply::Kept {
             id: part(alloc, value, 2)?,
         })),
+        EventWord::Left => Ok(Ok(Reply::Left {
+            id: part(alloc, value, 2)?,
+            seconds: part(alloc, value, 3)?,
+        })),
         EventWord::Revoked => Ok(Ok(Reply::Revoked {
             id: part(alloc, value, 2)?,
             revision: part(alloc, value, 3)?,

@@ -19,6 +19,7 @@ pub enum EventWord {
     Txn,
     Granted,
     Kept,
+    Left,
     Revoked,
     Advanced,
     Compacted,
@@ -46,7 +47,7 @@ fn found<W: Copy>(rows: &[(&str, W)], word: &str) -> Option<W>
 }
 
 /// The words of the lines of events: the kind of the line, and how many elements it has.
-static EVENT_WORDS: [(&str, (EventWord, usize)); 20] = [
+static EVENT_WORDS: [(&str, (EventWord, usize)); 21] = [
     ("started", (EventWord::Started, 3)),
     ("prefetched", (EventWord::Prefetched, 5)),
     ("fetched", (EventWord::Fetched, 7)),
@@ -59,6 +60,7 @@ static EVENT_WORDS: [(&str, (EventWord, usize)); 20] = [
     ("txn", (EventWord::Txn, 5)),
     ("granted", (EventWord::Granted, 3)),
     ("kept", (EventWord::Kept, 3)),
+    ("left", (EventWord::Left, 4)),
     ("revoked", (EventWord::Revoked, 4)),
     ("advanced", (EventWord::Advanced, 4)),
     ("compacted", (EventWord::Compacted, 3)),

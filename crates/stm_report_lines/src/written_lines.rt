@@ -84,6 +84,7 @@ fn reply_json(alloc: Global, number: u64, reply: &Reply) -> Result<Json, AllocEr
         } => line(alloc, number, "txn", &[succeeded, revision, answers]),
         Reply::Granted { id } => line(alloc, number, "granted", &[id]),
         Reply::Kept { id } => line(alloc, number, "kept", &[id]),
+        Reply::Left { id, seconds } => line(alloc, number, "left", &[id, seconds]),
         Reply::Revoked { id, revision } => line(alloc, number, "revoked", &[id, revision]),
         Reply::Advanced { now, expired } => line(alloc, number, "advanced", &[now, expired]),
         Reply::Compacted { revision } => line(alloc, number, "compacted", &[revision]),

@@ -23,7 +23,7 @@ use Rattle.stm_outcome.specs.declared.refusal.Refusal.{Refusal as StoreRefusal}
 use Rattle.stm_outcome.specs.declared.refusal.Refusal.TheVariants.{OutOfMemory, TooManyOps}
 use Rattle.stm_outcome.specs.Outcome.{Done}
 use Rattle.stm_txn.specs.Standing.{Standing, Step as StoreStep, Advance as StoreAdvance, HasKept, kept, terms_of, transacted, granted}
-use Rattle.stm_txn.specs.Standing.{kept_alive, revoked, advanced, watched, polled, cancelled, raised, IsStopped, IsCutShort as StoreCutShort, Setup}
+use Rattle.stm_txn.specs.Standing.{kept_alive, time_left, revoked, advanced, watched, polled, cancelled, raised, IsStopped, IsCutShort as StoreCutShort, Setup}
 use Rattle.stm_compile.specs.CommitTxn.{reread_keys}
 use Rattle.stm_compile.specs.Committed.{committed}
 use Rattle.stm_compile.specs.Conflicts.{Seen}
@@ -49,9 +49,9 @@ use Rattle.stm_compaction.proofs.Expiring.{advanced_kept, cut_short_too}
 use Rattle.stm_compaction.proofs.Watching.{watched_kept, polled_kept, cancelled_kept}
 use Rattle.stm_compaction.proofs.Compacting.{compacted_kept}
 use Rattle.stm_events.specs.declared.event.WorldEvent.{WorldEvent}
-use Rattle.stm_events.specs.declared.event.WorldEvent.TheVariants.{Start, Step, Txn, Grant, Keep, Revoke, Advance, WatchKey, WatchRange, Poll, Cancel, Compact}
+use Rattle.stm_events.specs.declared.event.WorldEvent.TheVariants.{Start, Step, Txn, Grant, Keep, Left, Revoke, Advance, WatchKey, WatchRange, Poll, Cancel, Compact}
 use Rattle.stm_events.specs.declared.reply.Reply.{Reply}
-use Rattle.stm_events.specs.declared.reply.Reply.TheVariants.{Committed, Conflict, GaveUp, Granted, Kept, Revoked, Watching, Cancelled, Compacted}
+use Rattle.stm_events.specs.declared.reply.Reply.TheVariants.{Committed, Conflict, GaveUp, Granted, Kept, Left as LeftReply, Revoked, Watching, Cancelled, Compacted}
 use Rattle.stm_events.specs.declared.refusal.EventRefusal.{EventRefusal}
 use Rattle.stm_events.specs.declared.refusal.Denied.{Denied}
 use Rattle.stm_events.specs.Called.{Txn as TxnCall}
@@ -253,6 +253,7 @@ step_kept (Keep id) w k =
     ap (λ (o : Result (StoreStep (Unit {0})) StoreRefusal).
     after_call (reply_to (λ _. Kept id) o) (store_after_call (kept s) o) (if_taken o (Renew id s.moment)) (kept_world w)) (kept_alive_kept s id)
     ∙ call_kept (λ _. Kept id) (Renew id s.moment) (kept_alive s id) w
+step_kept (Left id) w k = quiet_kept (LeftReply id) (time_left w.standing id) w
 step_kept (Revoke id) w k =
     let s : Standing = w.standing in
     ap (λ (o : Result (StoreStep ℕ) StoreRefusal).

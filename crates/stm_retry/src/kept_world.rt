@@ -11,7 +11,7 @@ ghost use Rattle.stm_retry.specs.Kept.{KeptReturns, BasesAreReached};
 ghost use Rattle.stm_retry.specs.WorldOf.{with_places};
 
 use crate::slots::Slot;
-use crate::store_calls::{advance, grant, keep, reply_to_txn, revoke};
+use crate::store_calls::{advance, grant, keep, left, reply_to_txn, revoke};
 use crate::watch_calls::{cancel, compact, poll, watch_key, watch_range};
 use std::alloc::{AllocError, Global};
 use std::marker::Model;
@@ -136,6 +136,7 @@ impl KeptWorld {
             WorldEvent::Txn { txn } => reply_to_txn(alloc, &mut self.journal, txn),
             WorldEvent::Grant { id, ttl } => grant(alloc, &mut self.journal, *id, *ttl),
             WorldEvent::Keep { id } => keep(alloc, &mut self.journal, *id),
+            WorldEvent::Left { id } => left(alloc, &mut self.journal, *id),
             WorldEvent::Revoke { id } => revoke(alloc, &mut self.journal, *id),
             WorldEvent::Advance { now } => advance(alloc, &mut self.journal, *now),
             WorldEvent::WatchKey { key, from } => {

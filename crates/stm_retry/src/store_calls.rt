@@ -2,7 +2,7 @@
 ghost use Rattle.std.specs.Prelude.{◌≡◌, ◌+◌, ◌≤◌, [], ◌++◌, map, length, reverse, vec_len, vec_capacity, IfOk};
 ghost use Rattle.stm_txn.specs.Standing.{transacted, refusal_of};
 ghost use Rattle.stm_journal.specs.Entering.{or_out_of_memory};
-ghost use Rattle.stm_events.specs.declared.event.WorldEvent.TheVariants.{Txn as TxnEvent, Grant as GrantEvent, Keep as KeepEvent, Revoke as RevokeEvent, Advance as AdvanceEvent};
+ghost use Rattle.stm_events.specs.declared.event.WorldEvent.TheVariants.{Txn as TxnEvent, Grant as GrantEvent, Keep as KeepEvent, Left as LeftEvent, Revoke as RevokeEvent, Advance as AdvanceEvent};
 ghost use Rattle.stm_events.specs.Replies.{denied as denied_for, event_refusal, op_reply, txn_reply};
 ghost use Rattle.stm_retry.specs.CallReturns.{CallReturns};
 
@@ -108,6 +108,16 @@ pub(crate) fn keep(alloc: Global, journal: &mut Journal, id: u64) -> Result<Repl
 {
     match journal.keep_alive(id) {
         Ok(()) => Ok(Reply::Kept { id }),
+        Err(cause) => refuse(alloc, cause),
+    }
+}
+
+/// Says how many seconds a lease has left.
+pub(crate) fn left(alloc: Global, journal: &mut Journal, id: u64) -> Result<Reply, Denied>
+    ensures { CallReturns (LeftEvent id) result journal.old journal.new }
+{
+    match journal.store().left(id) {
+        Ok(seconds) => Ok(Reply::Left { id, seconds }),
         Err(cause) => refuse(alloc, cause),
     }
 }

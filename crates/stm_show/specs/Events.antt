@@ -4,7 +4,7 @@ use Rattle.json.specs.Print.{quoted}
 use Rattle.stm_program.specs.Syntax.{ProgramTree}
 use Rattle.stm_program.specs.declared.level.Level.{Level}
 use Rattle.stm_events.specs.declared.event.WorldEvent.{WorldEvent}
-use Rattle.stm_events.specs.declared.event.WorldEvent.TheVariants.{Start, Step, Txn, Grant, Keep, Revoke, Advance, Compact, WatchKey, WatchRange, Poll, Cancel}
+use Rattle.stm_events.specs.declared.event.WorldEvent.TheVariants.{Start, Step, Txn, Grant, Keep, Left, Revoke, Advance, Compact, WatchKey, WatchRange, Poll, Cancel}
 use Rattle.stm_program_source.specs.Program.{shown_body}
 use Rattle.stm_texts.specs.Grammar.{level_text}
 use Rattle.stm_show.specs.declared.events.TheConstants.{MOST_STEPS}
@@ -38,6 +38,7 @@ shown_event steps (Step runner) = step_word steps ++ codes " " ++ decimal runner
 shown_event steps (Txn t) = shown_txn t
 shown_event steps (Grant id ttl) = numbered (codes "grant") id ++ numbered (codes " ttl") ttl
 shown_event steps (Keep id) = numbered (codes "keep") id
+shown_event steps (Left id) = numbered (codes "left") id
 shown_event steps (Revoke id) = numbered (codes "revoke") id
 shown_event steps (Advance now) = numbered (codes "advance to") now
 shown_event steps (Compact revision) = numbered (codes "compact") revision

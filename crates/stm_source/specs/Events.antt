@@ -10,7 +10,7 @@ use Rattle.stm_program.specs.Syntax.{ProgramTree}
 use Rattle.stm_program.specs.declared.level.Level.{Level}
 use Rattle.stm_program.specs.declared.level.Level.TheVariants.{SerializableSnapshot}
 use Rattle.stm_events.specs.declared.event.WorldEvent.{WorldEvent}
-use Rattle.stm_events.specs.declared.event.WorldEvent.TheVariants.{Start, Step, Txn, Grant, Keep, Revoke, Advance, WatchKey, WatchRange, Poll, Cancel, Compact}
+use Rattle.stm_events.specs.declared.event.WorldEvent.TheVariants.{Start, Step, Txn, Grant, Keep, Left, Revoke, Advance, WatchKey, WatchRange, Poll, Cancel, Compact}
 use Rattle.stm_txn.specs.Standing.{Setup}
 use Rattle.stm_texts.specs.Opens.{setup_at}
 use Rattle.stm_terms.specs.declared.faults.SourceCause.TheVariants as cause
@@ -50,6 +50,9 @@ grant_at constants tokens =
 
 abbrev pub keep_at : Constants → List Token → Read WorldEvent
 keep_at constants tokens = number_at constants tokens >>= λ id. Ok (Keep id.0, id.1)
+
+abbrev pub left_at : Constants → List Token → Read WorldEvent
+left_at constants tokens = number_at constants tokens >>= λ id. Ok (Left id.0, id.1)
 
 abbrev pub revoke_at : Constants → List Token → Read WorldEvent
 revoke_at constants tokens = number_at constants tokens >>= λ id. Ok (Revoke id.0, id.1)
@@ -361,6 +364,7 @@ abbrev pub store_event_at : Constants → EventWord → List Token → Read Worl
 store_event_at constants event.Txn tokens = txn_event_at constants tokens
 store_event_at constants event.Grant tokens = grant_at constants tokens
 store_event_at constants event.Keep tokens = keep_at constants tokens
+store_event_at constants event.Left tokens = left_at constants tokens
 store_event_at constants event.Revoke tokens = revoke_at constants tokens
 store_event_at constants event.Advance tokens = advance_at constants tokens
 store_event_at constants event.Watch tokens = watch_at constants tokens

@@ -20,12 +20,13 @@ unfoldable pub other_event_word : List ℕ → Option EventWord
 other_event_word w =
     if same w (codes "grant") then Some event.Grant
     else (if same w (codes "keep") then Some event.Keep
+    else (if same w (codes "left") then Some event.Left
     else (if same w (codes "revoke") then Some event.Revoke
     else (if same w (codes "watch") then Some event.Watch
     else (if same w (codes "poll") then Some event.Poll
     else (if same w (codes "cancel") then Some event.Cancel
     else (if same w (codes "compact") then Some event.Compact
-    else None))))))
+    else None)))))))
 
 -- the event that begins with a word
 unfoldable pub event_word : List ℕ → Option EventWord

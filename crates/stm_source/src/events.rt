@@ -53,6 +53,16 @@ fn keep<'a>(
     Ok((WorldEvent::Keep { id }, rest))
 }
 
+fn left<'a>(
+    constants: &Constants,
+    tokens: &'a [Token],
+) -> Result<(WorldEvent, &'a [Token]), SourceError>
+    ensures { Returns (λ x. (x.0, x.1.now)) result (spec.left_at constants.now tokens.now) }
+{
+    let (id, rest) = number(constants, tokens)?;
+    Ok((WorldEvent::Left { id }, rest))
+}
+
 fn revoke<'a>(
     constants: &Constants,
     tokens: &'a [Token],
@@ -167,6 +177,7 @@ pub(crate) fn store_event<'a>(
         EventWord::Txn => txn_event(alloc, constants, tokens),
         EventWord::Grant => grant(constants, tokens),
         EventWord::Keep => keep(constants, tokens),
+        EventWord::Left => left(constants, tokens),
         EventWord::Revoke => revoke(constants, tokens),
         EventWord::Advance => advance(constants, tokens),
         EventWord::Watch => watch(constants, tokens),

@@ -21,6 +21,8 @@ pub(crate) enum EventWord {
     Grant,
     /// `keep`
     Keep,
+    /// `left`
+    Left,
     /// `revoke`
     Revoke,
     /// `advance`
@@ -79,6 +81,8 @@ fn other_event_word(word: &str) -> Option<EventWord>
         Some(EventWord::Grant)
     } else if word == "keep" {
         Some(EventWord::Keep)
+    } else if word == "left" {
+        Some(EventWord::Left)
     } else if word == "revoke" {
         Some(EventWord::Revoke)
     } else if word == "watch" {

@@ -12,7 +12,7 @@ use Rattle.stm_txn_json.specs.Reading.{txn_of}
 use Rattle.stm_txn_json.proofs.GrammarComplete.{txn_reads}
 use Rattle.stm_json.proofs.PartLemmas.{text_reads, number_reads, up_to_reads}
 use Rattle.stm_events.specs.declared.event.WorldEvent.{WorldEvent}
-use Rattle.stm_events.specs.declared.event.WorldEvent.TheVariants.{Start, Step, Txn, Grant, Keep, Revoke, Advance, Compact, WatchKey, WatchRange, Poll, Cancel}
+use Rattle.stm_events.specs.declared.event.WorldEvent.TheVariants.{Start, Step, Txn, Grant, Keep, Left, Revoke, Advance, Compact, WatchKey, WatchRange, Poll, Cancel}
 use Rattle.stm_outcome.specs.Terms.{most_operations}
 use Rattle.stm_txn.specs.Standing.{Setup}
 use Rattle.stm_texts.specs.declared.scenario.Scenario.{Scenario}
@@ -58,6 +58,7 @@ event_reads d (Grant id ttl) (a, b, is, of_id, of_ttl) =
     let t = up_to_reads HIGHEST_NUMBER b ttl (omega arith) of_ttl in
     ap event_of is ∙ rw (i, t) refl
 event_reads d (Keep id) s = numbered_reads (codes "keep") Keep (λ a n e. rw e refl) d id s
+event_reads d (Left id) s = numbered_reads (codes "left") Left (λ a n e. rw e refl) d id s
 event_reads d (Revoke id) s = numbered_reads (codes "revoke") Revoke (λ a n e. rw e refl) d id s
 event_reads d (Advance now) s = numbered_reads (codes "advance") Advance (λ a n e. rw e refl) d now s
 event_reads d (Compact revision) s = numbered_reads (codes "compact") Compact (λ a n e. rw e refl) d revision s

@@ -18,7 +18,7 @@ use Rattle.stm_txn_json.proofs.GrammarSound.{txn_sound}
 use Rattle.stm_json.proofs.PartLemmas.{on_text-is, list_is, number_is, up_to_is, word_and}
 use Rattle.stm_txn_json.proofs.WordLemmas.{chosen, no_word}
 use Rattle.stm_events.specs.declared.event.WorldEvent.{WorldEvent}
-use Rattle.stm_events.specs.declared.event.WorldEvent.TheVariants.{Start, Step, Keep, Revoke, Advance, Compact}
+use Rattle.stm_events.specs.declared.event.WorldEvent.TheVariants.{Start, Step, Keep, Left, Revoke, Advance, Compact}
 use Rattle.stm_txn.specs.Standing.{Setup}
 use Rattle.stm_texts.specs.declared.scenario.Scenario.{Scenario}
 use Rattle.stm_texts.specs.declared.events.TheConstants.{HIGHEST_LIMIT, MOST_EVENTS}
@@ -87,29 +87,31 @@ numbered_sound word make spells d p e w t h =
 txn_event-sound : (d : Data) (e : WorldEvent) → txn_event d ≡ Ok e → SpellsEvent d e
 txn_event-sound d e h = grind (arith, nat_tests, bind_ok, txn_sound)
 
-word_sound : (d : Data) (p : List ℕ × Items) (e : WorldEvent) (start step txn grant keep revoke advance compact : Bool) → worded d ≡ Some p
+word_sound : (d : Data) (p : List ℕ × Items) (e : WorldEvent) (start step txn grant keep left revoke advance compact : Bool) → worded d ≡ Some p
     → same p.0 (codes "start") ≡ start → same p.0 (codes "step") ≡ step → same p.0 (codes "txn") ≡ txn → same p.0 (codes "grant") ≡ grant
-    → same p.0 (codes "keep") ≡ keep → same p.0 (codes "revoke") ≡ revoke → same p.0 (codes "advance") ≡ advance → same p.0 (codes "compact") ≡ compact
+    → same p.0 (codes "keep") ≡ keep → same p.0 (codes "left") ≡ left → same p.0 (codes "revoke") ≡ revoke → same p.0 (codes "advance") ≡ advance → same p.0 (codes "compact") ≡ compact
     → cond start (start_of (three_of p.1)) (cond step (step_of (one_of p.1)) (cond txn (txn_event d) (cond grant (grant_of (two_of p.1))
-    (cond keep (keep_of (one_of p.1)) (cond revoke (revoke_of (one_of p.1)) (cond advance (advance_of (one_of p.1)) (cond compact (compact_of (one_of p.1))
-    (watcher_event p.0 p.1)))))))) ≡ Ok e
+    (cond keep (keep_of (one_of p.1)) (cond left (left_of (one_of p.1)) (cond revoke (revoke_of (one_of p.1)) (cond advance (advance_of (one_of p.1)) (cond compact (compact_of (one_of p.1))
+    (watcher_event p.0 p.1))))))))) ≡ Ok e
     → SpellsEvent d e
-word_sound d p e true step txn grant keep revoke advance compact w s1 s2 s3 s4 s5 s6 s7 s8 h =
+word_sound d p e true step txn grant keep left revoke advance compact w s1 s2 s3 s4 s5 sl s6 s7 s8 h =
     start_sound d p (three_of p.1) e w ((bytes_eq-Decides p.0 (codes "start")).0 s1) refl h
-word_sound d p e false true txn grant keep revoke advance compact w s1 s2 s3 s4 s5 s6 s7 s8 h =
+word_sound d p e false true txn grant keep left revoke advance compact w s1 s2 s3 s4 s5 sl s6 s7 s8 h =
     numbered_sound (codes "step") Step (λ x n s. s) d p e w ((bytes_eq-Decides p.0 (codes "step")).0 s2) h
-word_sound d p e false false true grant keep revoke advance compact w s1 s2 s3 s4 s5 s6 s7 s8 h = txn_event-sound d e h
-word_sound d p e false false false true keep revoke advance compact w s1 s2 s3 s4 s5 s6 s7 s8 h =
+word_sound d p e false false true grant keep left revoke advance compact w s1 s2 s3 s4 s5 sl s6 s7 s8 h = txn_event-sound d e h
+word_sound d p e false false false true keep left revoke advance compact w s1 s2 s3 s4 s5 sl s6 s7 s8 h =
     grant_sound d p (two_of p.1) e w ((bytes_eq-Decides p.0 (codes "grant")).0 s4) refl h
-word_sound d p e false false false false true revoke advance compact w s1 s2 s3 s4 s5 s6 s7 s8 h =
+word_sound d p e false false false false true left revoke advance compact w s1 s2 s3 s4 s5 sl s6 s7 s8 h =
     numbered_sound (codes "keep") Keep (λ x n s. s) d p e w ((bytes_eq-Decides p.0 (codes "keep")).0 s5) h
-word_sound d p e false false false false false true advance compact w s1 s2 s3 s4 s5 s6 s7 s8 h =
+word_sound d p e false false false false false true revoke advance compact w s1 s2 s3 s4 s5 sl s6 s7 s8 h =
+    numbered_sound (codes "left") Left (λ x n s. s) d p e w ((bytes_eq-Decides p.0 (codes "left")).0 sl) h
+word_sound d p e false false false false false false true advance compact w s1 s2 s3 s4 s5 sl s6 s7 s8 h =
     numbered_sound (codes "revoke") Revoke (λ x n s. s) d p e w ((bytes_eq-Decides p.0 (codes "revoke")).0 s6) h
-word_sound d p e false false false false false false true compact w s1 s2 s3 s4 s5 s6 s7 s8 h =
+word_sound d p e false false false false false false false true compact w s1 s2 s3 s4 s5 sl s6 s7 s8 h =
     numbered_sound (codes "advance") Advance (λ x n s. s) d p e w ((bytes_eq-Decides p.0 (codes "advance")).0 s7) h
-word_sound d p e false false false false false false false true w s1 s2 s3 s4 s5 s6 s7 s8 h =
+word_sound d p e false false false false false false false false true w s1 s2 s3 s4 s5 sl s6 s7 s8 h =
     numbered_sound (codes "compact") Compact (λ x n s. s) d p e w ((bytes_eq-Decides p.0 (codes "compact")).0 s8) h
-word_sound d p e false false false false false false false false w s1 s2 s3 s4 s5 s6 s7 s8 h = watcher_sound d p e w h
+word_sound d p e false false false false false false false false false w s1 s2 s3 s4 s5 sl s6 s7 s8 h = watcher_sound d p e w h
 
 array_sound : (d : Data) (o : Option (List ℕ × Items)) (e : WorldEvent) → worded d ≡ o → event_worded d o ≡ Ok e → SpellsEvent d e
 array_sound d o e w h = grind (arith, nat_tests, word_sound)

@@ -18,7 +18,7 @@ use Rattle.stm_txn_json.specs.Reading.{txn_of}
 use Rattle.stm_json.proofs.FaultLemmas.{fault_of, wrong_is, part_then, inside_of, made, number_faulted, number_up_faulted, number_reported}
 use Rattle.stm_txn_json.proofs.TxnFaults.{txn_faulted}
 use Rattle.stm_events.specs.declared.event.WorldEvent.{WorldEvent}
-use Rattle.stm_events.specs.declared.event.WorldEvent.TheVariants.{Start, Step, Txn, Keep, Revoke, Advance, Compact}
+use Rattle.stm_events.specs.declared.event.WorldEvent.TheVariants.{Start, Step, Txn, Keep, Left, Revoke, Advance, Compact}
 use Rattle.stm_txn.specs.Standing.{Setup}
 use Rattle.stm_texts.specs.declared.scenario.Scenario.{Scenario}
 use Rattle.stm_texts.specs.declared.events.TheConstants.{HIGHEST_LIMIT, MOST_EVENTS}
@@ -98,28 +98,29 @@ txn_event-faulted p w ds is =
     (subst (λ (b : Bool). first_of (sorted_faults p (cond b (Some txn_sorts) None) ds) ≡ fault_of p (txn_of (txn_array w ds))) is
     (txn_faulted p (txn_array w ds)))
 
-word_tested : (p w : List ℕ) (ds : Items) (start step txn grant keep revoke advance compact : Bool) → same w (codes "txn") ≡ txn
+word_tested : (p w : List ℕ) (ds : Items) (start step txn grant keep left revoke advance compact : Bool) → same w (codes "txn") ≡ txn
     → first_of (sorted_faults p (cond start (Some start_sorts) (cond step (Some numbered_sorts) (cond txn (Some txn_sorts) (cond grant (Some grant_sorts)
-    (cond keep (Some numbered_sorts) (cond revoke (Some numbered_sorts) (cond advance (Some numbered_sorts) (cond compact (Some numbered_sorts)
-    (watcher_rows w))))))))) ds)
+    (cond keep (Some numbered_sorts) (cond left (Some numbered_sorts) (cond revoke (Some numbered_sorts) (cond advance (Some numbered_sorts) (cond compact (Some numbered_sorts)
+    (watcher_rows w)))))))))) ds)
     ≡ fault_of p (cond start (start_of (three_of ds)) (cond step (step_of (one_of ds)) (cond txn (txn_event (txn_array w ds)) (cond grant (grant_of (two_of ds))
-    (cond keep (keep_of (one_of ds)) (cond revoke (revoke_of (one_of ds)) (cond advance (advance_of (one_of ds)) (cond compact (compact_of (one_of ds))
-    (watcher_event w ds)))))))))
-word_tested p w ds true step txn grant keep revoke advance compact is = start_faulted p ds
-word_tested p w ds false true txn grant keep revoke advance compact is = numbered_faulted Step p ds
-word_tested p w ds false false true grant keep revoke advance compact is = txn_event-faulted p w ds is
-word_tested p w ds false false false true keep revoke advance compact is = grant_faulted p ds
-word_tested p w ds false false false false true revoke advance compact is = numbered_faulted Keep p ds
-word_tested p w ds false false false false false true advance compact is = numbered_faulted Revoke p ds
-word_tested p w ds false false false false false false true compact is = numbered_faulted Advance p ds
-word_tested p w ds false false false false false false false true is = numbered_faulted Compact p ds
-word_tested p w ds false false false false false false false false is = watcher_faulted p w ds
+    (cond keep (keep_of (one_of ds)) (cond left (left_of (one_of ds)) (cond revoke (revoke_of (one_of ds)) (cond advance (advance_of (one_of ds)) (cond compact (compact_of (one_of ds))
+    (watcher_event w ds))))))))))
+word_tested p w ds true step txn grant keep left revoke advance compact is = start_faulted p ds
+word_tested p w ds false true txn grant keep left revoke advance compact is = numbered_faulted Step p ds
+word_tested p w ds false false true grant keep left revoke advance compact is = txn_event-faulted p w ds is
+word_tested p w ds false false false true keep left revoke advance compact is = grant_faulted p ds
+word_tested p w ds false false false false true left revoke advance compact is = numbered_faulted Keep p ds
+word_tested p w ds false false false false false true revoke advance compact is = numbered_faulted Left p ds
+word_tested p w ds false false false false false false true advance compact is = numbered_faulted Revoke p ds
+word_tested p w ds false false false false false false false true compact is = numbered_faulted Advance p ds
+word_tested p w ds false false false false false false false false true is = numbered_faulted Compact p ds
+word_tested p w ds false false false false false false false false false is = watcher_faulted p w ds
 
 worded_faulted : (p : List ℕ) (d : Data) → first_of (worded_faults event_table p d) ≡ fault_of p (event_of d)
 unfolding event_of
 worded_faulted p (array (item (string w) ds)) =
     word_tested p w ds (same w (codes "start")) (same w (codes "step")) (same w (codes "txn")) (same w (codes "grant")) (same w (codes "keep"))
-    (same w (codes "revoke")) (same w (codes "advance")) (same w (codes "compact")) refl
+    (same w (codes "left")) (same w (codes "revoke")) (same w (codes "advance")) (same w (codes "compact")) refl
 worded_faulted p _ = wrong_is {A = WorldEvent} p Shape (bad Shape) refl
 
 count_tested : (p : List ℕ) (d : Data) (b : Bool) → first_of (cond b (worded_faults event_table p d) (wrong p TooMany)) ≡ fault_of p

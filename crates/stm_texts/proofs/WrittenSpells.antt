@@ -16,7 +16,7 @@ use Rattle.stm_outcome.specs.declared.txn.Txn.{Txn}
 use Rattle.stm_json.specs.Parts.{spelled, SpellsNumberIn, SpellsEach}
 use Rattle.stm_txn_json.specs.Grammar.{SpellsTarget, SpellsCompare, SpellsOperation, SpellsTxn}
 use Rattle.stm_events.specs.declared.event.WorldEvent.{WorldEvent}
-use Rattle.stm_events.specs.declared.event.WorldEvent.TheVariants.{Start, Step, Txn as TxnEvent, Grant, Keep, Revoke, Advance, WatchKey, WatchRange, Poll}
+use Rattle.stm_events.specs.declared.event.WorldEvent.TheVariants.{Start, Step, Txn as TxnEvent, Grant, Keep, Left, Revoke, Advance, WatchKey, WatchRange, Poll}
 use Rattle.stm_events.specs.declared.event.WorldEvent.TheVariants.{Cancel, Compact}
 use Rattle.stm_texts.specs.Writing.{target_text, written_side, written_compare, written_operation, written_txn, written_event}
 
@@ -67,6 +67,7 @@ event_spells d (Step runner) s = numbered_spells _ d runner s
 event_spells d (TxnEvent t) s = txn_spells d t s
 event_spells d (Grant id ttl) (a, b, is, of_id, of_ttl) = grind (arith, nat_tests, number_spells)
 event_spells d (Keep id) s = numbered_spells _ d id s
+event_spells d (Left id) s = numbered_spells _ d id s
 event_spells d (Revoke id) s = numbered_spells _ d id s
 event_spells d (Advance now) s = numbered_spells _ d now s
 event_spells d (Compact revision) s = numbered_spells _ d revision s

@@ -37,6 +37,7 @@ event_table =
     ∷ txn_row
     ∷ (codes "grant", any_number ∷ any_number ∷ [])
     ∷ (codes "keep", any_number ∷ [])
+    ∷ (codes "left", any_number ∷ [])
     ∷ (codes "revoke", any_number ∷ [])
     ∷ (codes "advance", any_number ∷ [])
     ∷ (codes "compact", any_number ∷ [])

@@ -8,7 +8,7 @@ use Rattle.stm_program_json.specs.Grammar.{SpellsProgram}
 use Rattle.stm_json.specs.Parts.{spelled, SpellsNumberIn, SpellsEach}
 use Rattle.stm_txn_json.specs.Grammar.{SpellsTxn}
 use Rattle.stm_events.specs.declared.event.WorldEvent.{WorldEvent}
-use Rattle.stm_events.specs.declared.event.WorldEvent.TheVariants.{Start, Step, Txn, Grant, Keep, Revoke, Advance, Compact, WatchKey, WatchRange, Poll, Cancel}
+use Rattle.stm_events.specs.declared.event.WorldEvent.TheVariants.{Start, Step, Txn, Grant, Keep, Left, Revoke, Advance, Compact, WatchKey, WatchRange, Poll, Cancel}
 use Rattle.stm_outcome.specs.Terms.{most_operations}
 use Rattle.stm_txn.specs.Standing.{Setup}
 use Rattle.stm_texts.specs.declared.scenario.Scenario.{Scenario}
@@ -37,6 +37,7 @@ SpellsEvent d (Txn txn) = SpellsTxn d txn
 SpellsEvent d (Grant id ttl) = (a : Data) × (b : Data) × (d ≡ spelled (codes "grant") (a ∷ b ∷ []))
     × SpellsNumberIn 0 HIGHEST_NUMBER a id × SpellsNumberIn 0 HIGHEST_NUMBER b ttl
 SpellsEvent d (Keep id) = SpellsNumbered (codes "keep") d id
+SpellsEvent d (Left id) = SpellsNumbered (codes "left") d id
 SpellsEvent d (Revoke id) = SpellsNumbered (codes "revoke") d id
 SpellsEvent d (Advance now) = SpellsNumbered (codes "advance") d now
 SpellsEvent d (Compact revision) = SpellsNumbered (codes "compact") d revision

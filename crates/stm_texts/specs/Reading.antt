@@ -11,7 +11,7 @@ use Rattle.stm_program_json.specs.Reading.{program_of}
 use Rattle.stm_json.specs.Parts.{on_text, text_of, same}
 use Rattle.stm_txn_json.specs.Reading.{txn_of}
 use Rattle.stm_events.specs.declared.event.WorldEvent.{WorldEvent}
-use Rattle.stm_events.specs.declared.event.WorldEvent.TheVariants.{Start, Step, Txn, Grant, Keep, Revoke, Advance, Compact, WatchKey, WatchRange, Poll, Cancel}
+use Rattle.stm_events.specs.declared.event.WorldEvent.TheVariants.{Start, Step, Txn, Grant, Keep, Left, Revoke, Advance, Compact, WatchKey, WatchRange, Poll, Cancel}
 use Rattle.stm_json.specs.declared.cause.Cause.TheVariants.{NotJson, Shape, TooLong, TooMany}
 use Rattle.stm_texts.specs.declared.events.TheConstants.{HIGHEST_LIMIT, MOST_EVENTS}
 use Rattle.stm_json.specs.declared.limits.TheConstants.{MOST_BYTES}
@@ -58,6 +58,9 @@ step_of o = number_alone o >>= λ runner. Ok (Step runner)
 
 abbrev pub keep_of : Option Data → Outcome WorldEvent
 keep_of o = number_alone o >>= λ id. Ok (Keep id)
+
+abbrev pub left_of : Option Data → Outcome WorldEvent
+left_of o = number_alone o >>= λ id. Ok (Left id)
 
 abbrev pub revoke_of : Option Data → Outcome WorldEvent
 revoke_of o = number_alone o >>= λ id. Ok (Revoke id)
@@ -113,10 +116,11 @@ event_worded d (Some p) =
     else (if same p.0 (codes "txn") then txn_event d
     else (if same p.0 (codes "grant") then grant_of (two_of p.1)
     else (if same p.0 (codes "keep") then keep_of (one_of p.1)
+    else (if same p.0 (codes "left") then left_of (one_of p.1)
     else (if same p.0 (codes "revoke") then revoke_of (one_of p.1)
     else (if same p.0 (codes "advance") then advance_of (one_of p.1)
     else (if same p.0 (codes "compact") then compact_of (one_of p.1)
-    else watcher_event p.0 p.1)))))))
+    else watcher_event p.0 p.1))))))))
 
 unfoldable pub event_of : Data → Outcome WorldEvent
 event_of d = event_worded d (worded d)

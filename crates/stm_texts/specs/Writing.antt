@@ -16,7 +16,7 @@ use Rattle.stm_outcome.specs.declared.txn.Txn.{Txn}
 use Rattle.stm_json.specs.Parts.{spelled}
 use Rattle.stm_txn_json.specs.Grammar.{order_text}
 use Rattle.stm_events.specs.declared.event.WorldEvent.{WorldEvent}
-use Rattle.stm_events.specs.declared.event.WorldEvent.TheVariants.{Start, Step, Txn as TxnEvent, Grant, Keep, Revoke, Advance, WatchKey, WatchRange, Poll}
+use Rattle.stm_events.specs.declared.event.WorldEvent.TheVariants.{Start, Step, Txn as TxnEvent, Grant, Keep, Left, Revoke, Advance, WatchKey, WatchRange, Poll}
 use Rattle.stm_events.specs.declared.event.WorldEvent.TheVariants.{Cancel, Compact}
 
 -- a list, each element written in this way
@@ -63,6 +63,7 @@ written_event (Step runner) = spelled (codes "step") (written_number runner ∷ 
 written_event (TxnEvent t) = written_txn t
 written_event (Grant id ttl) = spelled (codes "grant") (written_number id ∷ written_number ttl ∷ [])
 written_event (Keep id) = spelled (codes "keep") (written_number id ∷ [])
+written_event (Left id) = spelled (codes "left") (written_number id ∷ [])
 written_event (Revoke id) = spelled (codes "revoke") (written_number id ∷ [])
 written_event (Advance now) = spelled (codes "advance") (written_number now ∷ [])
 written_event (Compact revision) = spelled (codes "compact") (written_number revision ∷ [])

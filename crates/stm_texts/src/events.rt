@@ -1,7 +1,7 @@
 //! Reading events.
 ghost use Rattle.std.specs.Prelude.{◌<◌, ◌+◌, ◌^◌, length};
 ghost use Rattle.serde_json.specs.View.{view, items_view};
-ghost use Rattle.stm_texts.specs.Reading.{level_named, level_of, start_of, grant_of, number_alone, step_of, keep_of, revoke_of, advance_of, compact_of};
+ghost use Rattle.stm_texts.specs.Reading.{level_named, level_of, start_of, grant_of, number_alone, step_of, keep_of, left_of, revoke_of, advance_of, compact_of};
 ghost use Rattle.stm_texts.specs.Reading.{txn_event, event_of, event_after, events_from};
 ghost use Rattle.stm_json.specs.Elements.{number_up_to, one_of, two_of, three_of};
 ghost use Rattle.stm_json.specs.Outcome.{within as within_list};
@@ -110,6 +110,13 @@ fn keep(alloc: Global, elements: &[Value]) -> Result<WorldEvent, ReadError>
     Ok(WorldEvent::Keep { id })
 }
 
+fn left(alloc: Global, elements: &[Value]) -> Result<WorldEvent, ReadError>
+    ensures { Returns (λ e. e) result (left_of (one_of (items_view elements.now))) }
+{
+    let id = one_number(alloc, elements)?;
+    Ok(WorldEvent::Left { id })
+}
+
 fn revoke(alloc: Global, elements: &[Value]) -> Result<WorldEvent, ReadError>
     ensures { Returns (λ e. e) result (revoke_of (one_of (items_view elements.now))) }
 {
@@ -156,6 +163,8 @@ fn event(alloc: Global, value: &Value) -> Result<WorldEvent, ReadError>
         grant(alloc, elements)
     } else if word == "keep" {
         keep(alloc, elements)
+    } else if word == "left" {
+        left(alloc, elements)
     } else if word == "revoke" {
         revoke(alloc, elements)
     } else if word == "advance" {

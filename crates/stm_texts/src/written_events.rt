@@ -62,6 +62,7 @@ fn event_value(alloc: Global, event: &WorldEvent) -> Result<Json, AllocError>
         WorldEvent::Txn { txn } => txn_json(alloc, txn),
         WorldEvent::Grant { id, ttl } => worded_json(alloc, "grant", &[id, ttl]),
         WorldEvent::Keep { id } => worded_json(alloc, "keep", &[id]),
+        WorldEvent::Left { id } => worded_json(alloc, "left", &[id]),
         WorldEvent::Revoke { id } => worded_json(alloc, "revoke", &[id]),
         WorldEvent::Advance { now } => worded_json(alloc, "advance", &[now]),
         WorldEvent::Compact { revision } => worded_json(alloc, "compact", &[revision]),

@@ -6,7 +6,7 @@
 -- watcher that was not notified of them yet is cancelled. This store's own choices are that the keys of a lease go in one
 -- revision, ascending by bytes, that due leases end by the moment when they were due, then by id, and that watchers are
 -- polled, so that a poll is what cancels a watcher that is lost.
-use Rattle.std.specs.Prelude.{◌≡◌, ◌≤◌, ◌⊎◌, ℕ, zero, suc, ◌-◌, false, nat_le, nat_lt, if◌then◌else◌, List, [], ◌∷◌, ◌++◌, length, map}
+use Rattle.std.specs.Prelude.{◌≡◌, ◌≤◌, ◌⊎◌, ℕ, zero, suc, ◌+◌, ◌-◌, false, nat_le, nat_lt, if◌then◌else◌, List, [], ◌∷◌, ◌++◌, length, map}
 use Rattle.std.specs.Prelude.{Option, Some, None, IfSome, IsOk, Result, Ok, Err, min}
 use Rattle.std.specs.FinMap as finmap
 use Rattle.stm_history.specs.declared.change.Change.{Change}
@@ -139,6 +139,14 @@ kept_alive s id =
     elim (finmap.get s.live id) [
       | None ↦ Err LeaseNotFound
       | Some term ↦ Ok record { answer = tt; next = with_lease s id term.ttl }
+    ]
+
+-- how many seconds a live lease has left
+abbrev pub time_left : Standing → ℕ → Result (Step ℕ) Refusal
+time_left s id =
+    elim (finmap.get s.live id) [
+      | None ↦ Err LeaseNotFound
+      | Some term ↦ Ok record { answer = term.renewed + term.ttl - s.moment; next = s }
     ]
 
 -- a lease without its keys, which are deleted in one revision; with no revision where it has none

@@ -53,7 +53,7 @@ fn deletions(alloc: Global, keys: Vec<String>) -> Result<Vec<Change>, AllocError
 impl Store {
     ghost use Rattle.stm_txn.specs.LeaseKeys.{deletions_of};
     ghost use Rattle.stm_outcome.specs.Numbers.{ExpiredFits, AllExpiredFit};
-    ghost use Rattle.stm_txn.specs.Standing.{IsRefusalOf, Returns, refusal_of, granted, kept_alive, as_defined, ended, revoked};
+    ghost use Rattle.stm_txn.specs.Standing.{IsRefusalOf, Returns, refusal_of, granted, kept_alive, time_left, as_defined, ended, revoked};
     ghost use Rattle.stm_txn.specs.Standing.{expired_in, expire_all, at_moment, advanced, HasCome, IsCutShort, with_expiries};
 
     /// Grants a lease of the caller's id, for `ttl` seconds from the store's moment on.
@@ -83,6 +83,16 @@ impl Store {
         match self.leases.keep_alive(id, self.moment) {
             Ok(()) => Ok(()),
             Err(_) => Err(Refusal::LeaseNotFound),
+        }
+    }
+
+    /// How many seconds a live lease has left, 0 where it is due. `LeaseNotFound` is its only refusal. (etcd's API reference, "Lease": `LeaseTimeToLive`.)
+    pub fn left(&self, id: u64) -> Result<u64, Refusal>
+        ensures { time_left self.now.standing id ≡ as_defined result self.now.standing }
+    {
+        match self.leases.left(id, self.moment) {
+            Some(seconds) => Ok(seconds),
+            None => Err(Refusal::LeaseNotFound),
         }
     }
 

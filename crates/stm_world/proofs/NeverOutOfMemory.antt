@@ -11,7 +11,7 @@ use Rattle.stm_outcome.specs.declared.answer.FailedCompare.{FailedCompare}
 use Rattle.stm_outcome.specs.declared.advance.Expired.{Expired}
 use Rattle.stm_outcome.specs.declared.refusal.Refusal.{Refusal}
 use Rattle.stm_outcome.specs.declared.refusal.Refusal.TheVariants.{OutOfMemory}
-use Rattle.stm_txn.specs.Standing.{Standing, poll_step, granted, kept_alive, revoked, watched, polled, cancelled, raised, Setup}
+use Rattle.stm_txn.specs.Standing.{Standing, poll_step, granted, kept_alive, time_left, revoked, watched, polled, cancelled, raised, Setup}
 use Rattle.stm_outcome.specs.Terms.{Terms}
 use Rattle.stm_compile.specs.Committed.{judged, committed}
 use Rattle.stm_events.specs.declared.event.WorldEvent.{WorldEvent}
@@ -55,6 +55,9 @@ granted_never s id ttl = grind (arith, nat_tests)
 pub kept_never : (s : Standing) (id : ℕ) → NeverWants (kept_alive s id)
 kept_never s id = grind (arith, nat_tests)
 
+pub left_never : (s : Standing) (id : ℕ) → NeverWants (time_left s id)
+left_never s id = grind (arith, nat_tests)
+
 pub revoked_never : (s : Standing) (id : ℕ) → NeverWants (revoked s id)
 revoked_never s id = grind (arith, nat_tests)
 
@@ -89,7 +92,7 @@ runner_for_want start log id o expired right = grind (arith, nat_tests)
 
 call_never : (s : Standing) (c : Call) → OutOfMemoryEvent ≡ cause_of (called s c).reply → ⊥
 call_never s c =
-    grind (arith, nat_tests, transacted_never, granted_never, kept_never, revoked_never, advance_for, advanced_never, watched_never, poll_reported, cancelled_never, raised_never, one_cause)
+    grind (arith, nat_tests, transacted_never, granted_never, kept_never, left_never, revoked_never, advance_for, advanced_never, watched_never, poll_reported, cancelled_never, raised_never, one_cause)
 
 asked_never : (start : Setup) (log : List Line) (a : Asked) (expired : List Expired) → IsRightAsked start log a (wanting expired) → ⊥
 asked_never start log (Starts program level limit) expired right = grind (arith, nat_tests)
@@ -107,4 +110,4 @@ end_for start log id runner o right = grind (arith, nat_tests, refused_for, one_
 
 pub never_out_of_memory : NeverOutOfMemory
 never_out_of_memory =
-    grind (arith, nat_tests, not_want, transacted_never, granted_never, kept_never, revoked_never, advanced_never, watched_never, polled_never, cancelled_never, raised_never, committed_never, refusal, end_for)
+    grind (arith, nat_tests, not_want, transacted_never, granted_never, kept_never, left_never, revoked_never, advanced_never, watched_never, polled_never, cancelled_never, raised_never, committed_never, refusal, end_for)

@@ -7,7 +7,7 @@ use Rattle.stm_watch.specs.declared.watched.Watched.{Watched}
 use Rattle.stm_outcome.specs.declared.txn.Txn.{Txn}
 use Rattle.stm_outcome.specs.declared.advance.Expired.{Expired}
 use Rattle.stm_outcome.specs.declared.refusal.Refusal.TheVariants.{OutOfMemory}
-use Rattle.stm_txn.specs.Standing.{Standing, transacted, granted, kept_alive, revoked, advanced, watched, polled, cancelled, raised, Setup}
+use Rattle.stm_txn.specs.Standing.{Standing, transacted, granted, kept_alive, time_left, revoked, advanced, watched, polled, cancelled, raised, Setup}
 use Rattle.stm_outcome.specs.Terms.{Terms}
 use Rattle.stm_compile.specs.Committed.{committed}
 use Rattle.stm_events.specs.declared.event.WorldEvent.{WorldEvent}
@@ -22,6 +22,7 @@ pub record NeverOutOfMemory : Type 0 where
   pub txn : (s : Standing) (txn : Txn) → transacted s txn ≢ Err OutOfMemory
   pub grant : (s : Standing) (id ttl : ℕ) → granted s id ttl ≢ Err OutOfMemory
   pub keep : (s : Standing) (id : ℕ) → kept_alive s id ≢ Err OutOfMemory
+  pub left : (s : Standing) (id : ℕ) → time_left s id ≢ Err OutOfMemory
   pub revoke : (s : Standing) (id : ℕ) → revoked s id ≢ Err OutOfMemory
   pub advance : (s : Standing) (moment : ℕ) → (advanced s moment).cause ≢ Some OutOfMemory
   pub watch : (s : Standing) (keys : Watched) (from : ℕ) → watched s keys from ≢ Err OutOfMemory

@@ -2,7 +2,7 @@
 
 /// The words with which a source begins behind its comments, and nothing that is JSON.
 const BEGINNINGS: &[&str] = &[
-    "program", "rule", "let", "finally", "begin", "start", "step", "txn", "grant", "keep",
+    "program", "rule", "let", "finally", "begin", "start", "step", "txn", "grant", "keep", "left",
     "revoke", "advance", "watch", "poll", "cancel", "compact",
 ];
 

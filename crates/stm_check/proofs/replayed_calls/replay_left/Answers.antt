@@ -1,0 +1,5 @@
+use Rattle.stm_check.proofs.replayed_calls.replay_left.Goals as goal
+pub returns-in-Ok : goal.returns-in-Ok
+returns-in-Ok c = {! !}
+pub returns-in-Err : goal.returns-in-Err
+returns-in-Err c = {! !}

@@ -7,7 +7,7 @@ use Rattle.stm_watch.specs.declared.watched.Watched.{Watched}
 use Rattle.stm_outcome.specs.declared.txn.Txn.{Txn}
 use Rattle.stm_outcome.specs.declared.advance.Expired.{Expired}
 use Rattle.stm_outcome.specs.declared.refusal.Refusal.{Refusal}
-use Rattle.stm_txn.specs.Standing.{Standing, HasKept, kept, transacted, written, granted, kept_alive, time_left, revoked, at_moment, expire_up_to, advanced, HasCome}
+use Rattle.stm_txn.specs.Standing.{Standing, HasKept, kept, transacted, written, granted, kept_alive, revoked, at_moment, expire_up_to, advanced, HasCome}
 use Rattle.stm_txn.specs.Standing.{IsCutShort, watched, polled, poll_refused, cancelled, raised, compacted}
 use Rattle.stm_attempt.specs.ReadyRun.{ReadyRun}
 use Rattle.stm_journal.specs.JournalState.{JournalState}

@@ -90,7 +90,6 @@ called s (Compact revision) = plainly (λ _. reply.Compacted revision) s (raised
 
 -- watchers and compactions are no entries
 abbrev pub is_entered : Call → Bool
-is_entered (Left id) = false
 is_entered (Watch keys from) = false
 is_entered (Poll watcher most) = false
 is_entered (Cancel watcher) = false

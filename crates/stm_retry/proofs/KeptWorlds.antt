@@ -253,7 +253,7 @@ step_kept (Keep id) w k =
     ap (λ (o : Result (StoreStep (Unit {0})) StoreRefusal).
     after_call (reply_to (λ _. Kept id) o) (store_after_call (kept s) o) (if_taken o (Renew id s.moment)) (kept_world w)) (kept_alive_kept s id)
     ∙ call_kept (λ _. Kept id) (Renew id s.moment) (kept_alive s id) w
-step_kept (Left id) w k = quiet_kept (LeftReply id) (time_left w.standing id) w
+step_kept (Left id) w k = {! the same of a call without an entry !}
 step_kept (Revoke id) w k =
     let s : Standing = w.standing in
     ap (λ (o : Result (StoreStep ℕ) StoreRefusal).

@@ -50,7 +50,6 @@ watchers_kept = grind (arith, nat_tests)
 
 -- a start, a step or a call that is entered
 abbrev is_about_none : Asked → Bool
-is_about_none (Calls (call.Left id)) = true
 is_about_none (Calls c) = call.is_entered c
 is_about_none other = true
 

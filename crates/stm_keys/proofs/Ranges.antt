@@ -22,7 +22,7 @@ use Rattle.stm_history.specs.Opening.{Opening}
 use Rattle.stm_history.specs.History.{number_of_last, key_after}
 use Rattle.stm_keys.specs.declared.event.Event.{Event}
 use Rattle.stm_keys.specs.declared.run.Ahead.{Ahead}
-use Rattle.stm_keys.specs.declared.run.Ahead.TheVariants.{Idle, Next, Unknown}
+use Rattle.stm_keys.specs.declared.run.Ahead.TheVariants.{Idle, Unknown}
 use Rattle.stm_keys.specs.Events.{event_of, events_above, events_numbered, key_of_event, change_of_event}
 use Rattle.stm_keys.specs.Keys.{changes_of, IsKept}
 use Rattle.stm_keys.specs.Chains.{Chain, events_with}
@@ -53,7 +53,7 @@ parted bound keys sorted i j d le within before =
     (ordered.chain (get_or keys j d) (get_or keys i d) bound (sorted_far comes_before ordered keys sorted i j d le within) not)))
     (cases_Bool (comes_before (get_or keys i d) bound))
 
-turned : (o : Ordering) → is_lt o ≡ true → is_le (ordering_reverse o) ≡ false
+pub turned : (o : Ordering) → is_lt o ≡ true → is_le (ordering_reverse o) ≡ false
 turned Less before = refl
 turned Equal before = cc
 turned Greater before = cc
@@ -66,7 +66,7 @@ too_low first end key before =
 too_high : (first end key : List ℕ) → is_lt (slice_cmp nat_cmp key end) ≡ false → is_between first end key ≡ false
 too_high first end key past = grind (arith, nat_tests, cases_Bool)
 
-unturned : (o : Ordering) → is_lt o ≡ false → is_le (ordering_reverse o) ≡ true
+pub unturned : (o : Ordering) → is_lt o ≡ false → is_le (ordering_reverse o) ≡ true
 unturned Less past = cc
 unturned Equal past = refl
 unturned Greater past = refl
@@ -145,10 +145,6 @@ summed_with below xs ys events runs is =
           (sym (ap (λ (l : List (List Event)). events_with below l number) is
           ∙ get_or_append_left xs (events ∷ []) [] (number - below - 1) (omega (arith, sums.reached))))
           (sums.each number above from upto);
-      single = λ alone above passes any.
-          ap (λ (l : List (List Event)). is_any_about passes (events_with below l run.upto)) is
-          ∙ ap (is_any_about passes) (get_or_append_left xs (events ∷ []) [] (run.upto - below - 1) (omega (arith, sums.reached)))
-          ∙ sums.single alone above passes any;
     }) runs
 
 -- and without the oldest
@@ -162,11 +158,6 @@ summed_without below xs rest events runs is =
           subst (HasKeysOf run.keys)
           (ap (λ (l : List (List Event)). events_with below l number) is ∙ ap (λ (i : ℕ). get_or (events ∷ rest) i []) place)
           (sums.each number (omega arith) from upto);
-      single = λ alone above passes any.
-          let place : run.upto - below - 1 ≡ suc (run.upto - (below + 1) - 1) = omega arith in
-          sym (ap (λ (l : List (List Event)). is_any_about passes (events_with below l run.upto)) is
-          ∙ ap (λ (i : ℕ). is_any_about passes (get_or (events ∷ rest) i [])) place)
-          ∙ sums.single alone (omega arith) passes any;
     }) runs
 
 -- ---- the next change of a range
@@ -270,11 +261,4 @@ module _ (opening : Opening) (xs : List (List Event)) (chains : List ℕ → Opt
     idle_passed opening passed upto passes (changes_of (reverse xs)) (omega (arith, idle.later))
         (λ n later reached. same_events n later (omega (arith, idle.reached)) ∙ idle.none n (omega arith) later reached),
   )
-  ahead_in (Next number) next =
-      let is : number ≡ suc passed = omega (arith, next.is) in
-      next_is opening passed passes (changes_of (reverse xs)) opened
-      (omega (arith, next.reached, length-map (reverse xs) (map change_of_event), length-reverse xs))
-      (ap (λ (n : ℕ). is_any_about passes (events_numbered opening n (changes_of (reverse xs)))) (sym is)
-      ∙ same_events number (omega arith) next.reached ∙ next.any)
-      ∙ ap (λ (n : ℕ). Some n) (sym is)
   ahead_in (Unknown upto) known = tt

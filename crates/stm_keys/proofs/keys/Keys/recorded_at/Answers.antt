@@ -9,7 +9,7 @@ use Rattle.stm_keys.specs.Keys.{Contents, changes_of}
 use Rattle.stm_keys.specs.Chains.{opening_of}
 use Rattle.stm_keys.proofs.Recorded.{none_numbered}
 use Rattle.stm_keys.proofs.Fields.{events_at}
-use Rattle.stm_keys.proofs.keys.Keys.events_at.Goals as goal
+use Rattle.stm_keys.proofs.keys.Keys.recorded_at.Goals as goal
 
 pub returns-then-revision-self : goal.returns-then-revision-self
 returns-then-revision-self c =

@@ -1,10 +1,10 @@
 -- What runs tell of a range of keys, and the next change of a range.
-use Rattle.std.proofs.Common.{◌≡◌, ℕ, ◌+◌, ◌-◌, ◌≤◌, ◌<◌, max, Bool, true, false, cond, ◌&&◌, ◌||◌, List, [], ◌∷◌, ◌++◌, length, map, reverse, get_or, drop, suc}
+use Rattle.std.proofs.Common.{◌≡◌, ℕ, ◌+◌, ◌-◌, ◌≤◌, ◌<◌, max, Bool, true, false, cond, not, ◌&&◌, ◌||◌, List, [], ◌∷◌, ◌++◌, length, map, reverse, get_or, drop, suc}
 use Rattle.std.proofs.Common.{Option, Some, None, zero, refl, sym, ◌∙◌, ap, subst, arith, ⊎_elim, eqb-true, eq-eqb}
 use Rattle.std.specs.Prelude.{nat_eq}
 use Rattle.std.specs.Option.{option_or}
 use Rattle.std.specs.List.{list_any, AllByRecursion}
-use Rattle.std.specs.List.Sorted.{IsSorted, IsPartitionedBy, IsPartitionPoint}
+use Rattle.std.specs.List.Sorted.{IsSorted, IsSortedByKey, IsPartitionedBy, IsPartitionPoint}
 use Rattle.std.specs.Ordering.{nat_cmp, is_lt, is_le, ordering_reverse}
 use Rattle.std.specs.declared.cmp.Ordering.{Ordering}
 use Rattle.std.specs.declared.cmp.Ordering.TheVariants.{Less, Equal, Greater}
@@ -44,14 +44,30 @@ ordered = ranks_by nat_list_cmp_total (λ (x : List ℕ). x)
 not_both : (b : Bool) → b ≡ true → b ≡ false → ⊥
 not_both b is not = grind (arith, nat_tests)
 
--- keys in order are parted by whether they come before a bound
-pub parted : (bound : List ℕ) (keys : List (List ℕ)) → IsSorted (slice_cmp nat_cmp) keys → IsPartitionedBy (λ key. is_lt (slice_cmp nat_cmp key bound)) keys
-unfolding comes_before
-parted bound keys sorted i j d le within before =
-    ⊎_elim (λ is. is)
-    (λ not. absurd (not_both (comes_before (get_or keys j d) bound) before
-    (ordered.chain (get_or keys j d) (get_or keys i d) bound (sorted_far comes_before ordered keys sorted i j d le within) not)))
-    (cases_Bool (comes_before (get_or keys i d) bound))
+pub not_true : (b : Bool) → not b ≡ true → b ≡ false
+not_true b is = grind (arith, nat_tests)
+
+module _ {X : Type 0} (key : X → List ℕ) (bound : List ℕ) (xs : List X) (sorted : IsSortedByKey key (slice_cmp nat_cmp) xs) where
+  -- what stands behind does not come before
+  far : (i j : ℕ) (d : X) → i ≤ j → j < length xs → comes_before (key (get_or xs j d)) (key (get_or xs i d)) ≡ false
+  unfolding comes_before
+  far = sorted_far (λ x y. is_lt (slice_cmp nat_cmp (key x) (key y))) (ranks_by nat_list_cmp_total key) xs sorted
+
+  -- what is in order is parted by whether it comes before a bound
+  pub parted : IsPartitionedBy (λ x. is_lt (slice_cmp nat_cmp (key x) bound)) xs
+  unfolding comes_before
+  parted i j d le within before =
+      ⊎_elim (λ is. is)
+      (λ not. absurd (not_both (comes_before (key (get_or xs j d)) bound) before
+      (ordered.chain (key (get_or xs j d)) (key (get_or xs i d)) bound (far i j d le within) not)))
+      (cases_Bool (comes_before (key (get_or xs i d)) bound))
+
+  -- and by whether it does not come behind one
+  pub parted_behind : IsPartitionedBy (λ x. not (is_lt (slice_cmp nat_cmp bound (key x)))) xs
+  unfolding comes_before
+  parted_behind i j d le within is =
+      ap not (ordered.chain bound (key (get_or xs j d)) (key (get_or xs i d))
+      (not_true (comes_before bound (key (get_or xs j d))) is) (far i j d le within))
 
 pub turned : (o : Ordering) → is_lt o ≡ true → is_le (ordering_reverse o) ≡ false
 turned Less before = refl
@@ -66,7 +82,7 @@ too_low first end key before =
 too_high : (first end key : List ℕ) → is_lt (slice_cmp nat_cmp key end) ≡ false → is_between first end key ≡ false
 too_high first end key past = grind (arith, nat_tests, cases_Bool)
 
-pub unturned : (o : Ordering) → is_lt o ≡ false → is_le (ordering_reverse o) ≡ true
+unturned : (o : Ordering) → is_lt o ≡ false → is_le (ordering_reverse o) ≡ true
 unturned Less past = cc
 unturned Equal past = refl
 unturned Greater past = refl

@@ -2,18 +2,15 @@
 use Rattle.std.proofs.Common.{◌≡◌, ℕ, ◌+◌, ◌<◌, ◌≤◌, Bool, true, false, cond, not, ◌&&◌, List, [], ◌∷◌, length, get_or, take, drop, zero, suc}
 use Rattle.std.proofs.Common.{refl, sym, ◌∙◌, ap, arith}
 use Rattle.std.specs.List.{filter, list_any}
-use Rattle.std.specs.List.Sorted.{IsSortedBy, IsPartitionedBy}
 use Rattle.std.specs.Ordering.{nat_cmp, is_lt, is_le}
-use Rattle.std.specs.Cmp.{IsStrictWeakOrder}
 use Rattle.std.specs.Cmp.Lexicographic.{slice_cmp, nat_list_cmp_total}
 use Rattle.std.proofs.lemmas.Bool.{cases_Bool, Decides.nat_tests}
-use Rattle.std.proofs.lemmas.List.Sorted.{ranks_by, sorted_far}
 use Rattle.stm_keys.specs.declared.event.Event.{Event}
 use Rattle.stm_keys.specs.Events.{key_of_event}
 use Rattle.stm_keys.specs.NextChange.{is_between}
 use Rattle.stm_keys.specs.Runs.{is_any_about}
 use Rattle.stm_keys.specs.Within.{is_within, those_within, Ascend}
-use Rattle.stm_keys.proofs.Ranges.{turned, unturned}
+use Rattle.stm_keys.proofs.Ranges.{not_true, turned}
 
 -- ---- parts of a list
 
@@ -37,11 +34,6 @@ module _ {X : Type 0} where
   without_back p (suc n) (x ∷ xs) none =
       ap (λ l. cond (p x) (x ∷ l) l) (without_back p n xs (λ k d more within. none (suc k) d (omega arith) (omega arith)))
 
-  pub sorted_rest : (lt : X → X → Bool) (n : ℕ) (xs : List X) → IsSortedBy lt xs → IsSortedBy lt (drop n xs)
-  sorted_rest lt zero xs sorted = sorted
-  sorted_rest lt (suc n) [] sorted = sorted
-  sorted_rest lt (suc n) (x ∷ xs) sorted = sorted_rest lt n xs (λ k d low within. sorted (suc k) d (omega arith) (omega arith))
-
   -- those that pass a test are among those that pass a weaker one
   pub filter_weaker : (p q : X → Bool) → ((x : X) → p x ≡ true → q x ≡ true) → (xs : List X) → filter p (filter q xs) ≡ filter p xs
   filter_weaker p q weaker [] = refl
@@ -53,38 +45,10 @@ module _ {X : Type 0} where
 
 -- ---- ascending events
 
-comes_before : Event → Event → Bool
-comes_before a b = is_lt (slice_cmp nat_cmp (key_of_event a) (key_of_event b))
-
-key_before : List ℕ → List ℕ → Bool
-key_before a b = is_lt (slice_cmp nat_cmp a b)
-
-ordered : IsStrictWeakOrder key_before
-unfolding key_before
-ordered = ranks_by nat_list_cmp_total (λ (x : List ℕ). x)
-
-events_ordered : IsStrictWeakOrder comes_before
-unfolding comes_before
-events_ordered = ranks_by nat_list_cmp_total key_of_event
-
-module _ (events : List Event) (ascend : Ascend events) where
-  -- an event is not before one that stands before it
-  far : (i j : ℕ) (d : Event) → i ≤ j → j < length events → key_before (key_of_event (get_or events j d)) (key_of_event (get_or events i d)) ≡ false
-  unfolding comes_before key_before
-  far i j d le within = sorted_far comes_before events_ordered events ascend i j d le within
-
-  -- they are parted by whether they come before a key, and by whether they do not come behind one
-  pub parted_before : (bound : List ℕ) → IsPartitionedBy (λ e. is_lt (slice_cmp nat_cmp (key_of_event e) bound)) events
-  unfolding key_before
-  parted_before bound i j d le within before = grind (arith, nat_tests, cases_Bool, ordered.chain, far)
-
-  pub parted_behind : (bound : List ℕ) → IsPartitionedBy (λ e. not (is_lt (slice_cmp nat_cmp bound (key_of_event e)))) events
-  unfolding key_before
-  parted_behind bound i j d le within before = grind (arith, nat_tests, cases_Bool, ordered.chain, far)
-
 pub ascending : (events : List Event) → ((k : ℕ) (d : Event) → k + 1 < length events →
     true ≡ not (is_lt (slice_cmp nat_cmp (key_of_event (get_or events (k + 1) d)) (key_of_event (get_or events k d))))) → Ascend events
-ascending events neighbours k d low within = grind (arith, nat_tests, cases_Bool, neighbours k d within)
+ascending events neighbours k d low within =
+    not_true (is_lt (slice_cmp nat_cmp (key_of_event (get_or events (k + 1) d)) (key_of_event (get_or events k d)))) (sym (neighbours k d within))
 
 -- ---- keys between two
 
@@ -92,11 +56,16 @@ pub too_low : (first last key : List ℕ) → is_lt (slice_cmp nat_cmp key first
 too_low first last key before =
     ap (λ b. b && is_le (slice_cmp nat_cmp key last)) (ap is_le (nat_list_cmp_total.antisymm first key) ∙ turned (slice_cmp nat_cmp key first) before)
 
-pub too_high : (first last key : List ℕ) → is_lt (slice_cmp nat_cmp last key) ≡ true → is_within first last key ≡ false
+not_false : (b : Bool) → not b ≡ false → b ≡ true
+not_false b is = grind (arith, nat_tests)
+
+and_false : (a b : Bool) → b ≡ false → (a && b) ≡ false
+and_false a b is = grind (arith, nat_tests)
+
+pub too_high : (first last key : List ℕ) → not (is_lt (slice_cmp nat_cmp last key)) ≡ false → is_within first last key ≡ false
 too_high first last key behind =
-    let past : is_le (slice_cmp nat_cmp key last) ≡ false =
-    ap is_le (nat_list_cmp_total.antisymm key last) ∙ turned (slice_cmp nat_cmp last key) behind in
-    grind (arith, nat_tests, cases_Bool)
+    and_false (is_le (slice_cmp nat_cmp first key)) (is_le (slice_cmp nat_cmp key last))
+    (ap is_le (nat_list_cmp_total.antisymm key last) ∙ turned (slice_cmp nat_cmp last key) (not_false (is_lt (slice_cmp nat_cmp last key)) behind))
 
 -- a key of a range is within its ends
 between_within : (first end key : List ℕ) → is_between first end key ≡ true → is_within first end key ≡ true

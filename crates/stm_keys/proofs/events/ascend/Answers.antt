@@ -12,4 +12,4 @@ use Rattle.stm_keys.proofs.events.ascend.Goals as goal
 pub returns : goal.returns
 returns c is =
     let in_order : Event → Event → Bool = λ a b. not (is_lt (slice_cmp nat_cmp (key_of_event b) (key_of_event a))) in
-    ascending c.args.events.now (MatchBool-at_true _ _ is (c.is_sorted_by.ensures in_order (answers_always _ _ _ (λ f a r f' called. search rules))))
+    ascending c.args.events.now (MatchBool-at_true _ _ is (c.is_sorted_by.ensures.cases in_order (answers_always _ _ _ (λ f a r f' called. search rules))))

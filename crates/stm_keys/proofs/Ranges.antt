@@ -11,7 +11,7 @@ use Rattle.std.specs.declared.cmp.Ordering.TheVariants.{Less, Equal, Greater}
 use Rattle.std.specs.Cmp.{IsStrictWeakOrder}
 use Rattle.std.specs.Cmp.Lexicographic.{slice_cmp, nat_list_cmp_total}
 use Rattle.std.proofs.lemmas.Bool.{cases_Bool, cases_lt, eqb-false, lt-ltb, le-ltb, Decides.nat_tests}
-use Rattle.std.proofs.lemmas.List.{get_or_append_left, get_or_default, length_push, length-map, length-reverse}
+use Rattle.std.proofs.lemmas.List.{get_or_append_left, get_or_default, length_push}
 use Rattle.std.proofs.lemmas.List.Elements.{All-from_get_or}
 use Rattle.std.proofs.lemmas.List.Folds.{list_any_none, list_any_at, list_any-append}
 use Rattle.std.proofs.lemmas.List.MinMax.{ranks_by}
@@ -23,7 +23,7 @@ use Rattle.stm_history.specs.History.{number_of_last, key_after}
 use Rattle.stm_keys.specs.declared.event.Event.{Event}
 use Rattle.stm_keys.specs.declared.run.Ahead.{Ahead}
 use Rattle.stm_keys.specs.declared.run.Ahead.TheVariants.{Idle, Unknown}
-use Rattle.stm_keys.specs.Events.{event_of, events_above, events_numbered, key_of_event, change_of_event}
+use Rattle.stm_keys.specs.Events.{event_of, events_above, events_numbered, key_of_event}
 use Rattle.stm_keys.specs.Keys.{changes_of, IsKept}
 use Rattle.stm_keys.specs.Chains.{Chain, events_with}
 use Rattle.stm_keys.specs.NextChange.{changed_above, first_change, changes_any, is_between}

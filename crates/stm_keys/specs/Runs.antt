@@ -1,5 +1,5 @@
 -- Runs of revisions, and which keys they change.
-use Rattle.std.specs.Prelude.{◌≡◌, ℕ, ◌+◌, ◌<◌, ◌≤◌, Bool, true, false, List, length, Some}
+use Rattle.std.specs.Prelude.{◌≡◌, ℕ, ◌+◌, ◌<◌, ◌≤◌, Bool, false, List, length}
 use Rattle.std.specs.List.{list_any}
 use Rattle.stm_history.specs.History.{History}
 use Rattle.stm_keys.specs.declared.event.Event.{Event}

@@ -1,12 +1,11 @@
-use Rattle.std.proofs.Common.{◌≡◌, ◌+◌, ◌-◌, ◌<◌, ◌≤◌, ◌∙◌, ◌++◌, [], List, ℕ, length, map, get_or, sym, ap, subst, arith, refl, ⊎_elim}
-use Rattle.std.specs.List.{list_any}
+use Rattle.std.proofs.Common.{◌≡◌, ◌+◌, ◌-◌, ◌<◌, ◌∙◌, ◌++◌, [], List, ℕ, length, map, get_or, sym, ap, subst, arith, ⊎_elim}
 use Rattle.std.proofs.lemmas.Bool.{cases_lt}
 use Rattle.std.proofs.lemmas.List.{get_or_default}
 use Rattle.stm_keys.specs.declared.event.Event.{Event}
 use Rattle.stm_keys.specs.Events.{key_of_event}
 use Rattle.stm_keys.specs.Chains.{events_with}
-use Rattle.stm_keys.specs.Runs.{HasKeysOf, is_any_about}
-use Rattle.stm_keys.proofs.Ranges.{more_keys, own_keys, any_of_keys}
+use Rattle.stm_keys.specs.Runs.{HasKeysOf}
+use Rattle.stm_keys.proofs.Ranges.{more_keys, own_keys}
 use Rattle.stm_keys.proofs.run.sum_of.Goals as goal
 
 pub revisions-preserved : goal.revisions-preserved

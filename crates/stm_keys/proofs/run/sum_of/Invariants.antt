@@ -1,5 +1,4 @@
-use Rattle.std.proofs.Common.{◌≡◌, ◌+◌, ◌-◌, ◌<◌, ◌≤◌, ℕ, [], map}
-use Rattle.stm_keys.specs.Events.{key_of_event}
+use Rattle.std.proofs.Common.{◌-◌, ◌<◌, ◌≤◌, ℕ}
 use Rattle.stm_keys.specs.Chains.{events_with}
 use Rattle.stm_keys.specs.Runs.{HasKeysOf}
 use Rattle.stm_keys.proofs.run.sum_of.Given as goal

@@ -10,8 +10,8 @@ use Rattle.stm_watch.proofs.Notifying.{head_is}
 use Rattle.stm_watch.proofs.Giving.{above_of, none_is, one_more, none_after}
 use Rattle.stm_watch.proofs.gather.gather.Goals as goal
 
-pub copy_pending-reported-requires : goal.copy_pending-reported-requires
-copy_pending-reported-requires c =
+pub copy_pending-requires : goal.copy_pending-requires
+copy_pending-requires c =
     let h : History = c.args.keys.now.history in
     let w : Watching = followed c.args.watcher.now in
     (head_is h.opening c.loop-count.upto w.watched h.revisions c.in-Some.number (sym c.loop-count.invariant.next_is ∙ c.in-Some.is)).reached

@@ -1,10 +1,9 @@
-use Rattle.std.proofs.Common.{◌≡◌, ◌∙◌, ◌||◌, sym, ap, arith, ℕ, List, Bool, Option, is_some}
+use Rattle.std.proofs.Common.{◌≡◌, ◌∙◌, ◌||◌, sym, ap, arith, ℕ, List, Option, is_some}
 use Rattle.std.specs.Prelude.{nat_lt, option_copied}
 use Rattle.stm_history.specs.declared.key_state.KeyState.{KeyState}
 use Rattle.stm_history.specs.Opening.{opened_state}
 use Rattle.stm_history.specs.History.{History, key_at, mod_of}
 use Rattle.stm_keys.specs.NextChange.{next_change}
-use Rattle.stm_compile.specs.Conflicts.{changes_above}
 use Rattle.stm_hall.proofs.ChangedAbove.{at_the_opening, by_next}
 use Rattle.stm_hall.proofs.changed.is_changed_above.Goals as goal
 

@@ -21,3 +21,6 @@ returns-clause-answer g c =
     (subst (λ (w : World). AreCompared (record { world = w; others = c.args.others.now }) c.args.ends.now c.args.outcomes c.in_ok-compared.compared) c.in_ok-world.ensures
     (subst (λ (os : List Outcome). AreCompared (record { world = c.in_ok-world.world; others = c.args.others.now }) c.args.ends.now os c.in_ok-compared.compared)
     c.as_slice.ensures c.in_ok-compared.ensures.compared))
+
+pub returns-clause-spent : goal.returns-clause-spent
+returns-clause-spent g c = c.answer_of.ensures.spent c.compare.new.budget.left c.in_ok-compared.ensures.spent

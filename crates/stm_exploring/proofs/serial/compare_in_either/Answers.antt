@@ -10,7 +10,7 @@ use Rattle.stm_exploring.proofs.serial.compare_in_either.Goals as goal
 
 pub returns-in-None : goal.returns-in-None
 returns-in-None g c =
-    subst (λ (ends : Ends). IfOk c.find_anomaly.result (IsSerialAnswer (whole_place c.args.begun.now) ends)) c.as_slice-ends.ensures.value c.find_anomaly.ensures
+    subst (λ (ends : Ends). IfOk c.find_anomaly.result (IsSerialAnswer (whole_place c.args.begun.now) ends)) c.as_slice-ends.ensures.value c.find_anomaly.ensures.answer
 
 pub returns-in_ok-there-in-Some : goal.returns-in_ok-there-in-Some
 returns-in_ok-there-in-Some g c =
@@ -20,4 +20,4 @@ returns-in_ok-there-in-Some g c =
     subst (λ (o : Option World). IfSome o (λ w. StandsFor [] (place_in begun w) whole)) c.in-Some.is c.requires.small in
     subst (λ (ends : Ends). IsSerialAnswer whole ends c.in_ok-there-in-Some.there) c.as_slice-ends.ensures.value
     (subst (IsSerialAnswer whole c.as_slice-ends.result.now) (sym c.in_ok-there-in-Some.ensures)
-    (stands.serial c.as_slice-ends.result.now c.in_ok-answer-in-Some.answer c.in_ok-answer-in-Some.ensures))
+    (stands.serial c.as_slice-ends.result.now c.in_ok-answer-in-Some.answer c.in_ok-answer-in-Some.ensures.answer))

@@ -1,7 +1,6 @@
 //! What an input is, by its lines: a source, JSON, a report in some form, or what explore answers.
 
 use crate::naming::digits_of;
-
 use stm_compiling::EVENTS;
 
 /// With this begins a comment.

@@ -12,7 +12,7 @@ use Rattle.stm_serial_search.proofs.Comparisons.{started_are_those}
 use Rattle.stm_texts.specs.declared.scenario.Scenario.{Scenario}
 use Rattle.stm_texts.specs.Opens.{setup_of}
 use Rattle.stm_exploring.specs.declared.rules.Rule.{Rule}
-use Rattle.stm_exploring.specs.declared.setup.Begun.{Begun}
+use Rattle.stm_exploring.specs.declared.beginning.Begun.{Begun}
 use Rattle.stm_exploring.specs.Asking.{place_of, ends_of, opening_of}
 use Rattle.stm_exploring.specs.Beginnings.{HasBegun, whole_place}
 

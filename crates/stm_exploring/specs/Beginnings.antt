@@ -7,8 +7,8 @@ use Rattle.stm_texts.specs.declared.scenario.Scenario.{Scenario}
 use Rattle.stm_world.specs.World.{World}
 use Rattle.stm_exploring.specs.declared.rules.Rule.{Rule}
 use Rattle.stm_exploring.specs.declared.rules.RuleAnswer.{RuleAnswer}
-use Rattle.stm_exploring.specs.declared.searching.Searched.{Searched}
-use Rattle.stm_exploring.specs.declared.setup.Begun.{Begun}
+use Rattle.stm_exploring.specs.declared.judging.Searched.{Searched}
+use Rattle.stm_exploring.specs.declared.beginning.Begun.{Begun}
 use Rattle.stm_exploring.specs.Asking.{ends_of, place_of}
 use Rattle.stm_exploring.specs.Judging.{AreFoundFrom}
 use Rattle.stm_exploring.specs.Narrowing.{StandsFor}

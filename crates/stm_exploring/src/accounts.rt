@@ -7,6 +7,7 @@ use crate::asked_keys::{rule_word, tell_of_rules, tell_of_runners};
 use crate::audience::Audience;
 use crate::counted_ends::{Came, count_end, push_ends};
 use crate::final_words::{AskedOutput, outputs_asked, wrong_ends};
+use crate::judging::Searched;
 use crate::key_use::{KeyUse, VaryingRule, varying_rules};
 use crate::lost_leases::tell_lost_leases;
 use crate::rules::{RuleAnswer, has_kept};
@@ -195,32 +196,6 @@ impl<'a> Account<'a> {
     /// The same of a key that no program puts by its spelling, either.
     pub(crate) fn is_strange(&self, key: &Text) -> bool {
         self.is_unput(key) && !self.keys.is_spelled(key)
-    }
-
-    /// Nothing is known of the runs of so many runners, and this of keys and outputs.
-    fn new(
-        alloc: Global,
-        count: usize,
-        keys: KeyUse,
-        outputs: Vec<AskedOutput>,
-        varying: Vec<VaryingRule<'a>>,
-        programs: &'a [Program],
-        told: Told,
-    ) -> Result<Account<'a>, AllocError> {
-        let runners = no_account(alloc, count)?;
-        Ok(Account {
-            alloc,
-            varying,
-            programs,
-            runners,
-            keys,
-            outputs,
-            told,
-            waiting: count,
-            left: MOST_MOVES,
-            is_whole: true,
-            is_cut: false,
-        })
     }
 
     /// Notes what the rules ask for at a place that make keys of variables.
@@ -511,38 +486,24 @@ fn tell_orders<O: Audience>(
 fn note_keys(
     alloc: Global,
     keys: &mut KeyUse,
-    others: &[WorldEvent],
-    programs: &[Program],
+    at: &Searched<'_>,
     answers: &[RuleAnswer],
 ) -> Result<(), AllocError> {
     keys.note_rules(alloc, answers)?;
-    keys.note_programs(alloc, programs)?;
-    keys.note_events(others)
+    keys.note_programs(alloc, at.programs)?;
+    keys.note_events(at.others)
 }
 
-/// The outputs that rules ask for, and the rules that may ask for another key at each place.
-fn asked_by(
+/// What is known of keys before any run, where the whole world is this one.
+fn keys_of(
     alloc: Global,
+    at: &Searched<'_>,
+    whole: &World,
     answers: &[RuleAnswer],
-) -> Result<(Vec<AskedOutput>, Vec<VaryingRule<'_>>), AllocError> {
-    let outputs = outputs_asked(alloc, answers)?;
-    let varying = varying_rules(alloc, answers)?;
-    Ok((outputs, varying))
-}
-
-/// The account of no run of so many runners, of which this is known of keys.
-fn account_of<'a>(
-    alloc: Global,
-    count: usize,
-    keys: KeyUse,
-    programs: &'a [Program],
-    answers: &'a [RuleAnswer],
-    told: Told,
-) -> Result<Account<'a>, AllocError> {
-    match asked_by(alloc, answers) {
-        Ok((outputs, varying)) => {
-            Account::new(alloc, count, keys, outputs, varying, programs, told)
-        }
+) -> Result<KeyUse, AllocError> {
+    let mut keys = KeyUse::new(alloc, whole)?;
+    match note_keys(alloc, &mut keys, at, answers) {
+        Ok(()) => Ok(keys),
         Err(_) => {
             drop(keys);
             Err(AllocError)
@@ -553,62 +514,65 @@ fn account_of<'a>(
 /// The account of no run, about rules.
 fn account_before<'a>(
     alloc: Global,
-    world: &World,
-    others: &[WorldEvent],
-    programs: &'a [Program],
+    at: &Searched<'a>,
+    whole: &World,
     answers: &'a [RuleAnswer],
     told: Told,
 ) -> Result<Account<'a>, AllocError> {
-    let mut keys = KeyUse::new(alloc, world)?;
-    match note_keys(alloc, &mut keys, others, programs, answers) {
-        Ok(()) => account_of(alloc, world.runner_count(), keys, programs, answers, told),
-        Err(_) => {
-            drop(keys);
-            Err(AllocError)
-        }
-    }
+    let outputs = outputs_asked(alloc, answers)?;
+    let varying = varying_rules(alloc, answers)?;
+    let waiting = whole.runner_count();
+    let runners = no_account(alloc, waiting)?;
+    let keys = keys_of(alloc, at, whole, answers)?;
+    Ok(Account {
+        alloc,
+        varying,
+        programs: at.programs,
+        runners,
+        keys,
+        outputs,
+        told,
+        waiting,
+        left: MOST_MOVES,
+        is_whole: true,
+        is_cut: false,
+    })
 }
 
 /// Makes an account, and says it. The orders are gone through in a world that stands for the whole one.
 fn make_account<O: Audience>(
     alloc: Global,
-    world: &World,
+    at: &Searched<'_>,
     whole: &World,
-    others: &[WorldEvent],
-    programs: &[Program],
     answers: &[RuleAnswer],
     seen: Option<&SeenEnds>,
     told: Told,
     audience: &mut O,
 ) -> Result<(), AllocError>
-    requires { AreProgramsOf programs.now world.now.runners }
+    requires { AreProgramsOf at.now.programs.now at.now.world.now.runners }
 {
-    let mut account = account_before(alloc, whole, others, programs, answers, told)?;
-    go_through_orders(alloc, world, others, programs, &mut account)?;
+    let mut account = account_before(alloc, at, whole, answers, told)?;
+    go_through_orders(alloc, at.world, at.others, at.programs, &mut account)?;
     if account.is_cut {
         return Err(AllocError);
     }
-    tell_orders(&account, whole, others, answers, seen, audience)
+    tell_orders(&account, whole, at.others, answers, seen, audience)
 }
 
 /// Says how the runs ended of the runners of which it is told, each program run alone in every serial order, or at the ends of schedules, where these
 /// were seen, and which keys the rules ask for that are not there in the whole world and that nothing puts. Or it says that an allocation failed for it.
 pub(crate) fn tell_account<O: Audience>(
     alloc: Global,
-    world: &World,
+    at: &Searched<'_>,
     whole: &World,
-    others: &[WorldEvent],
-    programs: &[Program],
     answers: &[RuleAnswer],
     seen: Option<&SeenEnds>,
     audience: &mut O,
 )
-    requires { AreProgramsOf programs.now world.now.runners }
+    requires { AreProgramsOf at.now.programs.now at.now.world.now.runners }
 {
     let told = told_of(audience.wants_all(), has_kept(answers));
-    if let Err(_) = make_account(
-        alloc, world, whole, others, programs, answers, seen, told, audience,
-    ) {
+    if let Err(_) = make_account(alloc, at, whole, answers, seen, told, audience) {
         audience.hear(NO_MEMORY);
     }
 }

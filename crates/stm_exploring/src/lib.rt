@@ -11,6 +11,7 @@ mod advice;
 mod asked_keys;
 mod asking;
 mod audience;
+mod beginning;
 mod command;
 mod counted_ends;
 mod enough;
@@ -51,7 +52,6 @@ mod serial_levels;
 mod setup;
 mod touched;
 mod waits;
-mod watching;
 
 pub use audience::Audience;
 pub use command::{explore_levels_to, explore_rules_to, explore_to, outcomes_to, read_rule_to};

@@ -8,6 +8,7 @@ ghost use Rattle.stm_exploring.specs.Questions.{AreGathered, AreListed, ArePrint
 
 use crate::advice::tell_if_open;
 use crate::audience::Audience;
+use crate::beginning::{Begun, begin};
 use crate::outcome_lines::{counted_text, each_line, each_witness};
 use crate::printed::{Printed, SearchAnswer};
 use crate::question::Question;
@@ -15,7 +16,6 @@ use crate::reading::{ExploreFault, scenario_of};
 use crate::replaying::outcomes_there;
 use crate::serial::compare;
 use crate::serial_levels::compare_at_levels;
-use crate::setup::{Begun, begin};
 use std::alloc::{AllocError, Global};
 use std::collections::BTreeSet;
 use stm_devices::Source;

@@ -2,7 +2,7 @@
 
 use crate::accounts::{NO_MEMORY, shown_text};
 use crate::audience::Audience;
-use crate::searching::world_of;
+use crate::beginning::world_of;
 use crate::setup::{is_start, setup_and_others};
 use std::alloc::{AllocError, Global};
 use stm_events::EventRefusal;

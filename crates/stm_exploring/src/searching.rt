@@ -1,65 +1,27 @@
 //! A search about a scenario and rules, and what is printed of it.
 ghost use Rattle.std.specs.Prelude.{◌≡◌, ◌++◌, List, All, IfOk, OnOk};
-ghost use Rattle.stm_world.specs.World.{opened};
-ghost use Rattle.stm_serial_search.specs.Search.{AreProgramsOf};
 ghost use Rattle.stm_serial_search.specs.Started.{HaveNoStep};
 ghost use Rattle.stm_exploring.specs.declared.rules.Rule.{Rule as RuleValue};
-ghost use Rattle.stm_exploring.specs.Asking.{opening_of, place_of};
 ghost use Rattle.stm_exploring.specs.Beginnings.{AreFoundThere, CanSearch, IsReady, place_at, whole_place};
 ghost use Rattle.stm_exploring.specs.Exploring.{IsPrinted};
-ghost use Rattle.stm_exploring.specs.Judging.{AreAnswers, AreFound, AreFoundBeside, AreFoundFrom, AreFoundWhen};
+ghost use Rattle.stm_exploring.specs.Judging.{AreFound, AreFoundBeside, AreFoundFrom, AreFoundWhen};
 
 use crate::accounts::tell_account;
 use crate::advice::tell_open;
 use crate::audience::Audience;
+use crate::beginning::{Begun, begin};
 use crate::faulted::tell_faults;
 use crate::grouping::{asked_by, end_of_group, group_of, push_answers};
-use crate::judging::{Answer, judge_comparing, judge_schedules};
+use crate::judging::{Answer, Searched, judge, judge_waiting};
 use crate::printed::Printed;
 use crate::printing::print;
 use crate::rules::{Rule, RuleAnswer};
 use crate::seen_ends::SeenEnds;
-use crate::setup::{Begun, begin, setup_and_others};
-use crate::watching::judge_waiting;
 use std::alloc::{AllocError, Global};
-use stm_explore::{Budget, Observer, RunnerEnd, Wait, When};
+use stm_explore::{Budget, Observer, Wait, When};
 use stm_program::Program;
 use stm_retry::World;
-use stm_serial_search::programs_started;
-use stm_texts::{Scenario, WorldEvent, opens_with};
-
-/// What a search for rules goes through: where it begins, and which runners wait.
-#[derive(Clone, Copy)]
-pub(crate) struct Searched<'a> {
-    /// The world from which all schedules go.
-    pub(crate) world: &'a World,
-    /// What the others have yet to bring.
-    pub(crate) others: &'a [WorldEvent],
-    /// What is known of the runners' ends.
-    pub(crate) ends: &'a [Option<RunnerEnd>],
-    /// The runners' programs.
-    pub(crate) programs: &'a [Program],
-    /// Whether it is known that they all commit at levels that compare their reads.
-    pub(crate) comparing: bool,
-    /// Which runners wait.
-    pub(crate) waits: &'a [Wait],
-}
-
-/// Whether each of these rules is kept after every schedule, where no runner waits: by serial orders, too, where all commit at levels that compare.
-fn judge<O: Observer>(
-    alloc: Global,
-    at: &Searched<'_>,
-    rules: &[Program],
-    budget: &mut Budget<O>,
-) -> Result<Vec<Answer>, AllocError>
-    requires { CanSearch at.now }
-    ensures { IfOk result (λ answers. AreAnswers rules.now (place_at at.now) answers.items) }
-{
-    if at.comparing {
-        return judge_comparing(alloc, at.world, at.others, at.programs, rules, budget);
-    }
-    judge_schedules(alloc, at.world, at.others, rules, budget)
-}
+use stm_texts::Scenario;
 
 /// Whether each is kept after every schedule in which the runners wait.
 fn judge_beside<O: Observer>(
@@ -167,16 +129,9 @@ fn judge_seen<O: Audience>(
     ensures { IfOk result (λ answers. AreFoundThere at.now rules.now answers.items) }
 {
     let answers = judge_rules(alloc, at, rules, seen, budget)?;
-    tell_account(
-        alloc,
-        at.world,
-        whole,
-        at.others,
-        at.programs,
-        answers.as_slice(),
-        seen_if_waiting(at.waits, seen),
-        &mut budget.observer,
-    );
+    let seen = seen_if_waiting(at.waits, seen);
+    let audience = &mut budget.observer;
+    tell_account(alloc, at, whole, answers.as_slice(), seen, audience);
     Ok(answers)
 }
 
@@ -226,25 +181,6 @@ fn judge_in_either<O: Audience>(
             judge_and_tell(alloc, &at, &begun.world, rules, budget)
         }
     }
-}
-
-/// The world of a scenario before its first event.
-pub(crate) fn world_of(alloc: Global, scenario: &Scenario) -> Result<World, AllocError>
-    ensures { IfOk result (λ world. world ≡ opened (opening_of scenario.now)) }
-{
-    let opening = opens_with(scenario.opening);
-    let world = World::with_limits(alloc, opening.revision(), opening.operations())?;
-    Ok(world)
-}
-
-/// The programs of a scenario's runners, by their numbers.
-pub(crate) fn programs_of(alloc: Global, scenario: &Scenario) -> Result<Vec<Program>, AllocError>
-    requires { HaveNoStep scenario.now.events }
-    ensures { IfOk result (λ programs. AreProgramsOf programs.items (place_of scenario.now).world.runners) }
-{
-    let (setup, _) = setup_and_others(scenario.events.as_slice());
-    let programs = programs_started(alloc, setup)?;
-    Ok(programs)
 }
 
 /// Whether each rule is kept after every schedule of a scenario in which these runners wait.

@@ -9,13 +9,13 @@ ghost use Rattle.stm_exploring.specs.Anomalies.{anomaly_parts, printed_serial, s
 ghost use Rattle.stm_exploring.specs.Beginnings.{IsReady, whole_place};
 
 use crate::audience::Audience;
+use crate::beginning::{Begun, begin};
 use crate::lines::count_parts;
 use crate::lists::list_json;
 use crate::naming::tell_name;
 use crate::printed::{Printed, SearchAnswer};
 use crate::replaying::answer_there;
 use crate::schedule_lines::push_scheduled;
-use crate::setup::{Begun, begin};
 use serde_json::Value as Json;
 use std::alloc::{AllocError, Global};
 use stm_explain::Said;

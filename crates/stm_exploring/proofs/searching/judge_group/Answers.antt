@@ -2,7 +2,7 @@ use Rattle.std.proofs.Common.{List, length, ap, ◌∙◌, subst}
 use Rattle.std.proofs.lemmas.List.{length-map}
 use Rattle.stm_program.specs.Syntax.{ProgramTree}
 use Rattle.stm_exploring.specs.declared.rules.Rule.{Rule}
-use Rattle.stm_exploring.specs.declared.searching.Searched.{Searched}
+use Rattle.stm_exploring.specs.declared.judging.Searched.{Searched}
 use Rattle.stm_exploring.specs.Beginnings.{place_at}
 use Rattle.stm_exploring.specs.Judging.{AreFoundEach, IsFoundWhen}
 use Rattle.stm_serial_search.proofs.Judges.{as_many}

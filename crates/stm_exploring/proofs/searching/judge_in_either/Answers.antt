@@ -4,7 +4,7 @@ use Rattle.stm_program.specs.Syntax.{ProgramTree}
 use Rattle.stm_schedules.specs.Outcomes.{Ends}
 use Rattle.stm_serial_search.specs.Search.{AreProgramsOf}
 use Rattle.stm_world.specs.World.{World}
-use Rattle.stm_exploring.specs.declared.setup.Begun.{Begun}
+use Rattle.stm_exploring.specs.declared.beginning.Begun.{Begun}
 use Rattle.stm_exploring.specs.Beginnings.{place_in, whole_place}
 use Rattle.stm_exploring.specs.Judging.{AreFoundFrom}
 use Rattle.stm_exploring.specs.Narrowing.{StandsFor}

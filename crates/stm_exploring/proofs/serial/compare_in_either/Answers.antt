@@ -3,7 +3,7 @@ use Rattle.std.specs.Prelude.{IfOk, IfSome, Option}
 use Rattle.stm_schedules.specs.Outcomes.{Ends}
 use Rattle.stm_world.specs.World.{World}
 use Rattle.stm_explore.specs.Orders.{IsSerialAnswer}
-use Rattle.stm_exploring.specs.declared.setup.Begun.{Begun}
+use Rattle.stm_exploring.specs.declared.beginning.Begun.{Begun}
 use Rattle.stm_exploring.specs.Beginnings.{place_in, whole_place}
 use Rattle.stm_exploring.specs.Narrowing.{StandsFor}
 use Rattle.stm_exploring.proofs.serial.compare_in_either.Goals as goal

@@ -1,10 +1,10 @@
 use Rattle.std.proofs.Common.{List, sym, subst}
 use Rattle.stm_exploring.specs.declared.judging.Answer.{Answer}
-use Rattle.stm_exploring.specs.declared.searching.Searched.{Searched}
+use Rattle.stm_exploring.specs.declared.judging.Searched.{Searched}
 use Rattle.stm_exploring.specs.Beginnings.{place_at}
 use Rattle.stm_exploring.specs.Judging.{AreFoundPatiently}
 use Rattle.stm_exploring.proofs.AnswerLemmas.{are_patient}
-use Rattle.stm_exploring.proofs.watching.judge_waiting.Goals as goal
+use Rattle.stm_exploring.proofs.judging.judge_waiting.Goals as goal
 
 pub returns : goal.returns
 returns g c =

@@ -23,7 +23,6 @@ use stm_meaning::{End, Run};
 use stm_program::Program;
 use stm_retry::World;
 use stm_serial_search::{Follower, go_through_orders};
-use stm_texts::WorldEvent;
 
 /// At most this many moves are made for an account of serial orders.
 const MOST_MOVES: u64 = 10000;
@@ -37,6 +36,17 @@ pub(crate) enum Told {
     Never,
     /// Of none. It is only said which keys the rules ask for in vain.
     None,
+}
+
+impl Told {
+    /// Whether it tells of a runner that has committed, or never has.
+    pub(crate) fn is_of(self, has_committed: bool) -> bool {
+        match self {
+            Told::All => true,
+            Told::Never => !has_committed,
+            Told::None => false,
+        }
+    }
 }
 
 /// What is said at the end of a search: all where that is wanted, and where a rule is always kept which runners never committed.
@@ -320,14 +330,7 @@ fn line_of(alloc: Global, runner: usize, runs: &Runs, of: &str, is_kept: bool) -
 
 /// Whether it is to be said how the runs of a runner ended, if there were any.
 pub(crate) fn is_said(runs: &Runs, told: Told) -> bool {
-    if runs.ends.is_empty() {
-        return false;
-    }
-    match told {
-        Told::All => true,
-        Told::Never => !runs.has_committed,
-        Told::None => false,
-    }
+    !runs.ends.is_empty() && told.is_of(runs.has_committed)
 }
 
 /// Says to which fault the program of a runner first comes, where that was noted.
@@ -463,17 +466,16 @@ fn tell_ended<O: Audience>(
     }
 }
 
-/// Says what an account of serial orders has, which begin in this world, with these events of the others.
+/// Says what an account of serial orders has.
 fn tell_orders<O: Audience>(
     account: &Account<'_>,
-    world: &World,
-    others: &[WorldEvent],
+    at: &Searched<'_>,
     answers: &[RuleAnswer],
     seen: Option<&SeenEnds>,
     audience: &mut O,
 ) -> Result<(), AllocError> {
     tell_ended(account, answers, seen, audience)?;
-    tell_lost_leases(account, world, others, audience)?;
+    tell_lost_leases(account, at.whole, at.others, audience)?;
     tell_of_runners(account, audience)?;
     tell_without_abort(account.alloc, answers, audience)?;
     tell_of_rules(account, answers, audience)?;
@@ -494,14 +496,9 @@ fn note_keys(
     keys.note_events(at.others)
 }
 
-/// What is known of keys before any run, where the whole world is this one.
-fn keys_of(
-    alloc: Global,
-    at: &Searched<'_>,
-    whole: &World,
-    answers: &[RuleAnswer],
-) -> Result<KeyUse, AllocError> {
-    let mut keys = KeyUse::new(alloc, whole)?;
+/// What is known of keys before any run.
+fn keys_of(alloc: Global, at: &Searched<'_>, answers: &[RuleAnswer]) -> Result<KeyUse, AllocError> {
+    let mut keys = KeyUse::new(alloc, at.whole)?;
     match note_keys(alloc, &mut keys, at, answers) {
         Ok(()) => Ok(keys),
         Err(_) => {
@@ -515,15 +512,14 @@ fn keys_of(
 fn account_before<'a>(
     alloc: Global,
     at: &Searched<'a>,
-    whole: &World,
     answers: &'a [RuleAnswer],
     told: Told,
 ) -> Result<Account<'a>, AllocError> {
     let outputs = outputs_asked(alloc, answers)?;
     let varying = varying_rules(alloc, answers)?;
-    let waiting = whole.runner_count();
+    let waiting = at.whole.runner_count();
     let runners = no_account(alloc, waiting)?;
-    let keys = keys_of(alloc, at, whole, answers)?;
+    let keys = keys_of(alloc, at, answers)?;
     Ok(Account {
         alloc,
         varying,
@@ -543,7 +539,6 @@ fn account_before<'a>(
 fn make_account<O: Audience>(
     alloc: Global,
     at: &Searched<'_>,
-    whole: &World,
     answers: &[RuleAnswer],
     seen: Option<&SeenEnds>,
     told: Told,
@@ -551,12 +546,12 @@ fn make_account<O: Audience>(
 ) -> Result<(), AllocError>
     requires { AreProgramsOf at.now.programs.now at.now.world.now.runners }
 {
-    let mut account = account_before(alloc, at, whole, answers, told)?;
+    let mut account = account_before(alloc, at, answers, told)?;
     go_through_orders(alloc, at.world, at.others, at.programs, &mut account)?;
     if account.is_cut {
         return Err(AllocError);
     }
-    tell_orders(&account, whole, at.others, answers, seen, audience)
+    tell_orders(&account, at, answers, seen, audience)
 }
 
 /// Says how the runs ended of the runners of which it is told, each program run alone in every serial order, or at the ends of schedules, where these
@@ -564,7 +559,6 @@ fn make_account<O: Audience>(
 pub(crate) fn tell_account<O: Audience>(
     alloc: Global,
     at: &Searched<'_>,
-    whole: &World,
     answers: &[RuleAnswer],
     seen: Option<&SeenEnds>,
     audience: &mut O,
@@ -572,7 +566,7 @@ pub(crate) fn tell_account<O: Audience>(
     requires { AreProgramsOf at.now.programs.now at.now.world.now.runners }
 {
     let told = told_of(audience.wants_all(), has_kept(answers));
-    if let Err(_) = make_account(alloc, at, whole, answers, seen, told, audience) {
+    if let Err(_) = make_account(alloc, at, answers, seen, told, audience) {
         audience.hear(NO_MEMORY);
     }
 }

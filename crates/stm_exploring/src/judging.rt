@@ -43,6 +43,8 @@ pub(crate) enum Answer {
 pub(crate) struct Searched<'a> {
     /// The world from which all schedules go.
     pub(crate) world: &'a World,
+    /// That in the place of which it is searched: the same, or a larger one.
+    pub(crate) whole: &'a World,
     /// What the others have yet to bring.
     pub(crate) others: &'a [WorldEvent],
     /// What is known of the runners' ends.

@@ -318,21 +318,6 @@ fn tell_compared<O: Audience>(
     }
 }
 
-/// The same of each of these comparisons.
-fn tell_all<O: Audience>(
-    alloc: Global,
-    answers: &[RuleAnswer],
-    place: usize,
-    programs: &[Program],
-    all: &[Compared],
-    audience: &mut O,
-) -> Result<(), AllocError> {
-    for compared in all {
-        tell_compared(alloc, answers, place, programs, compared, audience)?;
-    }
-    Ok(())
-}
-
 /// Says of finals which texts they compare with one of a runner to which no run of its program comes. The runners have these programs.
 pub(crate) fn tell_texts<O: Audience>(
     alloc: Global,
@@ -343,7 +328,9 @@ pub(crate) fn tell_texts<O: Audience>(
     for (place, a) in answers.iter().enumerate() {
         if a.rule.when == When::Last {
             let all = values_compared(alloc, &a.rule.program)?;
-            tell_all(alloc, answers, place, programs, all.as_slice(), audience)?;
+            for compared in all.as_slice() {
+                tell_compared(alloc, answers, place, programs, compared, audience)?;
+            }
         }
     }
     Ok(())

@@ -20,7 +20,6 @@ use crate::seen_ends::SeenEnds;
 use std::alloc::{AllocError, Global};
 use stm_explore::{Budget, Observer, Wait, When};
 use stm_program::Program;
-use stm_retry::World;
 use stm_texts::Scenario;
 
 /// Whether each is kept after every schedule in which the runners wait.
@@ -116,11 +115,10 @@ fn seen_if_waiting<'a>(waits: &[Wait], seen: &'a SeenEnds) -> Option<&'a SeenEnd
     Some(seen)
 }
 
-/// The same, and it is said what that covers, of the whole world in the place of which this one is searched. These ends are seen.
+/// The same, and it is said what that covers. These ends are seen.
 fn judge_seen<O: Audience>(
     alloc: Global,
     at: &Searched<'_>,
-    whole: &World,
     rules: &[Rule],
     seen: &SeenEnds,
     budget: &mut Budget<O>,
@@ -131,7 +129,7 @@ fn judge_seen<O: Audience>(
     let answers = judge_rules(alloc, at, rules, seen, budget)?;
     let seen = seen_if_waiting(at.waits, seen);
     let audience = &mut budget.observer;
-    tell_account(alloc, at, whole, answers.as_slice(), seen, audience);
+    tell_account(alloc, at, answers.as_slice(), seen, audience);
     Ok(answers)
 }
 
@@ -139,7 +137,6 @@ fn judge_seen<O: Audience>(
 fn judge_and_tell<O: Audience>(
     alloc: Global,
     at: &Searched<'_>,
-    whole: &World,
     rules: &[Rule],
     budget: &mut Budget<O>,
 ) -> Result<Vec<RuleAnswer>, AllocError>
@@ -147,7 +144,7 @@ fn judge_and_tell<O: Audience>(
     ensures { IfOk result (λ answers. AreFoundThere at.now rules.now answers.items) }
 {
     let seen = SeenEnds::new(alloc, at.world.runner_count())?;
-    let answers = judge_seen(alloc, at, whole, rules, &seen, budget);
+    let answers = judge_seen(alloc, at, rules, &seen, budget);
     drop(seen);
     answers
 }
@@ -165,6 +162,7 @@ fn judge_in_either<O: Audience>(
 {
     let whole = Searched {
         world: &begun.world,
+        whole: &begun.world,
         others: begun.others,
         ends: begun.ends.as_slice(),
         programs: begun.programs.as_slice(),
@@ -172,13 +170,13 @@ fn judge_in_either<O: Audience>(
         waits,
     };
     match &begun.small {
-        None => judge_and_tell(alloc, &whole, &begun.world, rules, budget),
+        None => judge_and_tell(alloc, &whole, rules, budget),
         Some(small) => {
             let at = Searched {
                 world: small,
                 ..whole
             };
-            judge_and_tell(alloc, &at, &begun.world, rules, budget)
+            judge_and_tell(alloc, &at, rules, budget)
         }
     }
 }

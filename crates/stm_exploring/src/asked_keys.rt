@@ -1,4 +1,5 @@
 //! What is said of keys that rules and runners ask for and that nothing puts: most are misspelt, and some are to stay absent.
+ghost use Rattle.std.specs.Prelude.{◌<◌};
 
 use crate::accounts::{Account, Runs, is_said, shown_text};
 use crate::audience::Audience;
@@ -62,18 +63,25 @@ fn key_line(alloc: Global, who: &str, key: &Text, is_sure: bool, near: &str) -> 
     )
 }
 
-/// A key that is so near to one which nothing puts that this is most likely misspelt; an empty text where there is none.
-fn meant<'a>(account: &'a Account<'_>, key: &Text) -> Result<&'a str, AllocError> {
+/// The nearest key to one, not further than that part of it, unless the two are of a list, of which one may well ask for more than is there; an empty text where
+/// there is none.
+fn near_one<'a>(account: &'a Account<'_>, key: &Text, part: usize) -> Result<&'a str, AllocError>
+    requires { 0 < part }
+{
     let alloc = account.alloc;
-    if !account.is_strange(key) {
-        return Ok("");
-    }
-    let keys = &account.keys;
-    let near = nearest(alloc, keys, key, MEANT)?;
+    let near = nearest(alloc, &account.keys, key, part)?;
     if are_of_a_list(alloc, key.as_str(), near)? {
         return Ok("");
     }
     Ok(near)
+}
+
+/// A key that is so near to one which nothing puts that this is most likely misspelt; an empty text where there is none.
+fn meant<'a>(account: &'a Account<'_>, key: &Text) -> Result<&'a str, AllocError> {
+    if !account.is_strange(key) {
+        return Ok("");
+    }
+    near_one(account, key, MEANT)
 }
 
 /// The line of a key that a runner asks for and that nothing puts.
@@ -215,17 +223,6 @@ fn tell_of_made<O: Audience>(
     Ok(())
 }
 
-/// The key for which one is most likely misspelt that a rule asks for: a near one, unless the two are of a list, of which a rule may well ask for more than is
-/// there; an empty text where there is none.
-fn likely<'a>(account: &'a Account<'_>, key: &Text) -> Result<&'a str, AllocError> {
-    let alloc = account.alloc;
-    let near = nearest(alloc, &account.keys, key, NEAR)?;
-    if are_of_a_list(alloc, key.as_str(), near)? {
-        return Ok("");
-    }
-    Ok(near)
-}
-
 /// What is said first of keys that rules ask for, that nothing puts and to which none is near.
 const HINT: &str =
     "hint: these keys are not there, and nothing puts them, which is right if they are to be absent: ";
@@ -278,7 +275,7 @@ fn tell_or_add<O: Audience>(
     hint: &mut Hint,
     audience: &mut O,
 ) -> Result<(), AllocError> {
-    if !likely(account, &asked.key)?.is_empty() {
+    if !near_one(account, &asked.key, NEAR)?.is_empty() {
         return tell_of_rule(account, answers, asked, audience);
     }
     let is_sure = !account.keys.may_be_put(&asked.key);

@@ -10,7 +10,7 @@ use strsim::levenshtein;
 const END_KEY: &str = "#end/";
 
 /// What the key of an output begins with, before the runner's number, a slash and the output's place.
-const OUTPUT_KEY: &str = "#out/";
+pub(crate) const OUTPUT_KEY: &str = "#out/";
 
 /// How a runner ends.
 const ENDS: [&str; 5] = ["committed", "aborted", "faulted", "gaveup", "ended"];

@@ -47,11 +47,11 @@ fn is_unset(condition: &Cond, variable: Variable) -> bool {
     }
 }
 
-/// Whether the first statement of a block sets a variable.
+/// Whether the last statement of a block sets a variable: what it is set to may be looked up before.
 fn sets(block: &Block, variable: Variable) -> bool {
     let statements: &Vec<Stmt> = &block.statements;
-    match statements.first() {
-        Some(first) => match &first.node {
+    match statements.last() {
+        Some(last) => match &last.node {
             StmtNode::Set(other, _) => other.number() == variable.number(),
             _ => false,
         },

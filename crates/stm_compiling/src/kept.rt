@@ -1,5 +1,6 @@
 //! The text of a source without what a schedule stands for: its steps, and the events of the others, which stand behind the last start.
 
+use crate::wanted::EVENTS;
 use crate::whole::compiled_source;
 use std::alloc::{AllocError, Global};
 use stm_explain::Said;
@@ -53,16 +54,7 @@ fn event_of(word: &str) -> Option<Item> {
     match word {
         "start" => Some(Item::Start),
         "step" => Some(Item::Step),
-        "begin"
-        | "txn"
-        | "grant"
-        | "keep"
-        | "revoke"
-        | "advance"
-        | "watch"
-        | "poll"
-        | "cancel"
-        | "compact" => Some(Item::Event),
+        _ if EVENTS.contains(&word) => Some(Item::Event),
         _ => None,
     }
 }

@@ -51,4 +51,5 @@ pub use spans::{event_lines, events_without_jobs};
 pub use stm_devices::{Sink, Source};
 pub use stm_source::{Names, Rule, Wait};
 pub use titles::unknown_in;
+pub use wanted::EVENTS;
 pub use whole::{Beside, Compiled};

@@ -2,12 +2,18 @@
 
 use crate::fault::position_in;
 use crate::kept::{Begun, Item, items_of};
+use crate::wanted::EVENTS;
 use std::alloc::Global;
 use stm_explain::Said;
 use stm_tokens::{Position, Token, TokenKind, tokens_of};
 
 /// At most so many events are named that are no jobs.
 const MOST_NAMED: usize = 10;
+
+/// The words of the events that have a place among jobs.
+const OF_JOBS: [&str; 7] = [
+    "begin", "start", "txn", "grant", "keep", "revoke", "advance",
+];
 
 /// From one token of a source to another: the bytes at which they begin.
 #[derive(Clone, Copy)]
@@ -120,7 +126,7 @@ fn word_of_no_job(tokens: &[Token], begun: Begun) -> &str {
 
 /// Whether a word begins an event that has no place among jobs.
 fn is_no_job(word: &str) -> bool {
-    matches!(word, "step" | "watch" | "poll" | "cancel" | "compact")
+    EVENTS.contains(&word) && !OF_JOBS.contains(&word)
 }
 
 /// Which events of a source of this name have no place among jobs, and where they stand: a line for each of the first ones. It fails only when out of memory.

@@ -14,7 +14,7 @@ use strsim::osa_distance;
 const MOST_NEAR: usize = 60;
 
 /// The words that begin an event, or what stands beside events.
-pub(crate) const EVENTS: [&str; 16] = [
+pub const EVENTS: [&str; 16] = [
     "program", "start", "step", "txn", "grant", "keep", "revoke", "advance", "watch", "poll",
     "cancel", "compact", "begin", "rule", "finally", "let",
 ];

@@ -483,33 +483,31 @@ fn first_character(text: &str) -> &str {
     }
 }
 
-/// What the first of these ways out of a turn or a run, in the program whose name or brace stands in a place, makes of what follows it, in words; nothing where there is none.
-fn said_of_copies(alloc: Global, spot: Spot<'_>, words: &[&str], made: &str) -> Said {
+/// What the first of these ways out of a turn or a run makes of what follows it, in the program whose name or brace stands in a place, and what does without it;
+/// nothing where there is none.
+fn said_of_way_out(alloc: Global, spot: Spot<'_>, words: &[&str], made: &str) -> Said {
     let items = items_of(alloc, spot.from)?;
     let end = match items.as_slice().first() {
         Some(next) => next.at,
         None => spot.source.len(),
     };
-    match first_from(spot.from, words).first() {
-        Some(token) if token.at < end => {
-            let word = spelled(token);
-            let line = spot.position(token.at).line;
-            format!(in alloc;
-                ": the {word} in line {line} {made}; an if round what follows, or a variable that says so, does not"
-            )
-        }
-        _ => Ok(String::new(alloc)),
-    }
+    let found = first_from(spot.from, words).first();
+    let Some(token) = found.filter(|token| token.at < end) else {
+        return Ok(String::new(alloc));
+    };
+    let word = spelled(token);
+    let line = spot.position(token.at).line;
+    let other = match word {
+        "continue" => "an if round the rest of the block, in its place,",
+        _ => "a variable that is set in its place, and asked by an if round what else is done,",
+    };
+    format!(in alloc; ": the {word} in line {line} {made}; {other} does not")
 }
 
 /// What is said of a program that is too deep.
 fn depth_words(alloc: Global, spot: Spot<'_>) -> Said {
-    let said = said_of_copies(
-        alloc,
-        spot,
-        &["continue", "break", "return"],
-        "puts all that follows one level deeper, and in a for once for each item",
-    )?;
+    let made = "puts what follows one level deeper, in a for with each item";
+    let said = said_of_way_out(alloc, spot, &["continue", "break", "return"], made)?;
     format!(in alloc; "the program is nested deeper than 32{said}")
 }
 
@@ -521,12 +519,8 @@ fn node_words(alloc: Global, spot: Spot<'_>) -> Said {
             "with what names stand for the source has more than 16777215 nodes and bytes of text",
         );
     }
-    let said = said_of_copies(
-        alloc,
-        spot,
-        &["continue", "break"],
-        "makes a copy of all that follows, and in a for can double the program with each item",
-    )?;
+    let made = "can make two ways on, each with a copy of what follows, and so double the program with each item of the for";
+    let said = said_of_way_out(alloc, spot, &["continue", "break"], made)?;
     format!(in alloc; "the program has more than 4096 nodes{said}")
 }
 

@@ -95,7 +95,7 @@ fn line_at(text: &str, at: usize) -> (usize, usize) {
 fn left_open(text: &str) -> Option<usize> {
     let mut open = 0usize;
     for byte in text.as_bytes() {
-        open = match byte {
+        open = match *byte {
             b'{' | b'(' => open.saturating_add(1),
             b'}' | b')' => open.checked_sub(1)?,
             _ => open,
@@ -171,36 +171,28 @@ fn cut_at(text: &str, bad: BadSource) -> Cut {
         Some((head, _)) => part.saturating_add(head.len()),
         None => to,
     };
-    match whole.starts_with(START) {
-        true if whole.len() > EMPTY_START.len() => Cut {
-            from: part,
-            to,
-            sign: EMPTY_START,
-        },
-        _ if head < at => Cut {
-            from: head,
-            to,
-            sign: "{}",
-        },
-        _ => Cut {
-            from: part,
-            to,
-            sign: "",
-        },
-    }
+    let (from, sign) = if whole.starts_with(START) && whole.len() > EMPTY_START.len() {
+        (part, EMPTY_START)
+    } else if head < at {
+        (head, "{}")
+    } else {
+        (part, "")
+    };
+    Cut { from, to, sign }
 }
 
-/// Adds to a text what is left out and may have been named elsewhere: what stands before its braces and behind them, of a start all.
+/// Adds to a text what is left out and may have been named elsewhere: what stands before its braces and behind them in their last line, of a start all.
 fn push_gone(gone: &mut String, left_out: &str) -> Result<(), AllocError> {
     let head = match left_out.split_once('{') {
         Some((head, _)) if !left_out.starts_with(START) => head,
         _ => left_out,
     };
-    gone.push_str(" ")?;
-    gone.push_str(head)?;
-    if let Some((_, behind)) = left_out.rsplit_once('}') {
-        gone.push_str(" ")?;
-        gone.push_str(behind)?;
+    let behind = match left_out.rsplit_once('}') {
+        Some((_, behind)) => behind.lines().next().unwrap_or(""),
+        None => "",
+    };
+    for text in [" ", head, " ", behind] {
+        gone.push_str(text)?;
     }
     Ok(())
 }

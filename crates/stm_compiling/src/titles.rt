@@ -133,17 +133,23 @@ fn waiting(spot: Spot<'_>) -> &[Token] {
     last_from(spot.before, &["start"])
 }
 
-/// What is said of a name for which a start cannot wait, though a start gives it, or it is no name; nothing of others.
-fn said_of_waiting(alloc: Global, spot: Spot<'_>) -> Result<&'static str, AllocError> {
+/// What is said of a name that is none of the runners above a place outside of programs, and is given elsewhere, or is a word of waiting; nothing of others.
+fn said_of_other_place(
+    alloc: Global,
+    spot: Spot<'_>,
+    waits: bool,
+) -> Result<&'static str, AllocError> {
     let name = spot.name();
     let own = names_of(alloc, waiting(spot))?;
     let below = names_of(alloc, spot.from)?;
     Ok(match name {
-        "committed" => "stands behind the runner that is waited for: after RUNNER committed",
-        _ if own.as_slice().contains(&name) =>
-            "is what is started here, and no runner waits for itself",
+        "committed" => "stands behind the runner that a start waits for: after RUNNER committed",
+        "after" => "stands in a start alone: start NAME(ARGUMENT, ..) after RUNNER",
+        _ if waits && own.as_slice().contains(&name) => {
+            "is started here, and no runner waits for itself"
+        }
         _ if below.as_slice().contains(&name) => {
-            "is started below, and a start waits for a runner of those above it"
+            "is started below, and a runner is named below its start"
         }
         _ => "",
     })
@@ -166,8 +172,7 @@ fn said_of_runner(
         _ if names.as_slice().contains(&spot.name()) => {
             "makes no steps: a start with limit 0 is refused, and no runner waits for itself"
         }
-        Place::Events if waits => said_of_waiting(alloc, spot)?,
-        Place::Events => "",
+        Place::Events => said_of_other_place(alloc, spot, waits)?,
         _ if names.is_empty() => {
             "is no runner above: a finally stands behind the starts of the runners that it asks for"
         }

@@ -519,7 +519,8 @@ fn node_words(alloc: Global, spot: Spot<'_>) -> Said {
             "with what names stand for the source has more than 16777215 nodes and bytes of text",
         );
     }
-    let made = "can make two ways on, each with a copy of what follows, and so double the program with each item of the for";
+    let made =
+        "can make two ways on, each with a copy of what follows, and so double the program with each item of the for";
     let said = said_of_way_out(alloc, spot, &["continue", "break"], made)?;
     format!(in alloc; "the program has more than 4096 nodes{said}")
 }

@@ -1,7 +1,7 @@
 //! What is said of words and signs that people bring along from other languages.
 
 use crate::spots::{Place, Spot, open_behind};
-use crate::wanted::{is_behind_number_name, is_level};
+use crate::wanted::{begins_anew_at, is_behind_number_name, is_level};
 
 /// The first of these that says something; nothing where none does.
 pub(crate) fn first_said(all: &[&'static str]) -> &'static str {
@@ -76,7 +76,7 @@ pub(crate) fn said_of_waiting(spot: Spot<'_>) -> &'static str {
         _ => spot.back(1) == "after",
     };
     match spot.ahead(0) {
-        _ if spot.place != Place::Events => "",
+        _ if spot.place != Place::Events || !begins_anew_at(spot) => "",
         "," | "and" | "or" | "&&" | "||" | "after" if is_behind_runner => {
             "a start waits for one runner: after RUNNER, or after RUNNER committed"
         }

@@ -37,6 +37,9 @@ pub(crate) const STATEMENT: &str = "statement";
 
 const STATEMENTS: [&str; 8] = ["put", "del", "emit", "abort", "let", "if", "for", "return"];
 
+/// What is wanted in a program behind a whole statement, where no word stands.
+const STATEMENT_OR_END: &str = "an operator, a statement, or the } that ends the block";
+
 /// The words behind which the parentheses of a value stand.
 pub(crate) const FUNCTIONS: [&str; 4] = ["get", "rev", "num_of", "text_of"];
 
@@ -185,7 +188,7 @@ fn statement_or_more(spot: Spot<'_>) -> Wanted {
         Some(TokenKind::Name(_) | TokenKind::Word(_)) => {
             Wanted::Words(STATEMENT, &STATEMENTS, ", or a variable and =")
         }
-        _ => Wanted::Said("an operator, a statement, or the } that ends the block"),
+        _ => Wanted::Said(STATEMENT_OR_END),
     }
 }
 
@@ -266,7 +269,8 @@ pub(crate) fn wanted_at(spot: Spot<'_>) -> Wanted {
 pub(crate) fn begins_anew_at(spot: Spot<'_>) -> bool {
     match wanted_at(spot) {
         Wanted::Words(noun, _, _) => [STATEMENT, EVENT_NOUN, OPTION_NOUN].contains(&noun),
-        Wanted::Said(_) | Wanted::OperatorOr(_) => false,
+        Wanted::Said(said) => said == STATEMENT_OR_END,
+        Wanted::OperatorOr(_) => false,
     }
 }
 

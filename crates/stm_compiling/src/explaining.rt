@@ -504,14 +504,23 @@ fn said_of_way_out(alloc: Global, spot: Spot<'_>, words: &[&str], made: &str) ->
     format!(in alloc; ": the {word} in line {line} {made}; {other} does not")
 }
 
-/// What is said of a program that is too deep.
-fn depth_words(alloc: Global, spot: Spot<'_>) -> Said {
-    let made = "puts what follows one level deeper, in a for with each item";
-    let said = said_of_way_out(alloc, spot, &["continue", "break", "return"], made)?;
-    format!(in alloc; "the program is nested deeper than 32{said}")
+/// What has a name or a brace in a place.
+fn noun_of(spot: Spot<'_>) -> &'static str {
+    match spot.back(0) {
+        "let" => "value",
+        _ => "program",
+    }
 }
 
-/// What is said where too many nodes come to stand: at the word of an event, or at the name or the brace of a program.
+/// What is said of a program, or of the value of a definition, that is too deep.
+fn depth_words(alloc: Global, spot: Spot<'_>) -> Said {
+    let noun = noun_of(spot);
+    let made = "puts what follows one level deeper, in a for with each item";
+    let said = said_of_way_out(alloc, spot, &["continue", "break", "return"], made)?;
+    format!(in alloc; "the {noun} is nested deeper than 32{said}")
+}
+
+/// What is said where too many nodes come to stand: at the word of an event, or at the name or the brace of a program, or the name of a definition.
 fn node_words(alloc: Global, spot: Spot<'_>) -> Said {
     if matches!(spot.ahead(0), "start" | "txn" | "watch") {
         return String::from_str(
@@ -519,10 +528,11 @@ fn node_words(alloc: Global, spot: Spot<'_>) -> Said {
             "with what names stand for the source has more than 16777215 nodes and bytes of text",
         );
     }
+    let noun = noun_of(spot);
     let made =
         "can make two ways on, each with a copy of what follows, and so double the program with each item of the for";
     let said = said_of_way_out(alloc, spot, &["continue", "break"], made)?;
-    format!(in alloc; "the program has more than 4096 nodes{said}")
+    format!(in alloc; "the {noun} has more than 4096 nodes{said}")
 }
 
 /// What is said of a token that is wrong.

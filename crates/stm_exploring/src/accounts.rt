@@ -104,7 +104,7 @@ pub(crate) struct Account<'a> {
     /// How many moves may still be made.
     left: u64,
     /// Whether all orders were gone through so far.
-    is_whole: bool,
+    pub(crate) is_whole: bool,
     /// Whether an allocation failed.
     is_cut: bool,
 }

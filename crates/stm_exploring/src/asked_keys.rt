@@ -53,13 +53,27 @@ fn places_words(is_sure: bool) -> &'static str {
     if is_sure { "" } else { " in any serial order" }
 }
 
-/// The line that says that somebody asks for a key that nothing puts, and which one is nearest.
-fn key_line(alloc: Global, who: &str, key: &Text, is_sure: bool, near: &str) -> Said {
+/// What somebody does who looks a key up in some run.
+const ASKS: &str = "asks for";
+
+/// What a runner does with a key that stands in its program and that a run looked up, or none was seen to.
+fn verb(account: &Account<'_>, is_looked_up: bool) -> &'static str {
+    if is_looked_up {
+        ASKS
+    } else if account.is_whole {
+        "names, but looks up in no serial order,"
+    } else {
+        "names"
+    }
+}
+
+/// The line that says that somebody asks for a key that nothing puts, or only names it, and which one is nearest.
+fn key_line(alloc: Global, who: &str, verb: &str, key: &Text, is_sure: bool, near: &str) -> Said {
     let key = shown_text(alloc, key.as_str())?;
     let places = places_words(is_sure);
     let near = near_words(alloc, near)?;
     format!(in alloc;
-        "{who} asks for the key {key}, which is not there and which nothing puts{places}{near}"
+        "{who} {verb} the key {key}, which is not there and which nothing puts{places}{near}"
     )
 }
 
@@ -89,7 +103,8 @@ fn runner_key_line(account: &Account<'_>, asked: &AskedKey, near: &str) -> Said 
     let alloc = account.alloc;
     let who = runner_word(alloc, asked.who)?;
     let is_sure = !account.keys.may_be_put(&asked.key);
-    key_line(alloc, who.as_str(), &asked.key, is_sure, near)
+    let verb = verb(account, account.keys.is_looked_up(asked));
+    key_line(alloc, who.as_str(), verb, &asked.key, is_sure, near)
 }
 
 /// Whether a runner came to a fault, and asks for a key that some program puts: that no run puts it says nothing of the key, since the runs ended before.
@@ -97,9 +112,11 @@ fn is_behind_fault(account: &Account<'_>, asked: &AskedKey, runs: &Runs) -> bool
     runs.has_faulted && account.keys.may_be_put(&asked.key)
 }
 
-/// The keys of a runner that nothing puts and of which that is worth no doubt, as they are said.
+/// Keys of a runner that nothing puts and of which that is worth no doubt, as they are said: those that a run looked up, or the others.
 #[derive(Drop)]
 struct Vain {
+    /// What it does with them.
+    verb: &'static str,
     keys: String,
     count: usize,
     /// Whether it is sure of each that nothing puts it, and not so in all serial orders alone.
@@ -107,6 +124,16 @@ struct Vain {
 }
 
 impl Vain {
+    /// None so far.
+    fn new(alloc: Global, verb: &'static str) -> Vain {
+        Vain {
+            verb,
+            keys: String::new(alloc),
+            count: 0,
+            are_sure: true,
+        }
+    }
+
     /// Adds a key.
     fn add(&mut self, alloc: Global, key: &Text, is_sure: bool) -> Result<(), AllocError> {
         if self.count > 0 {
@@ -119,16 +146,31 @@ impl Vain {
         Ok(())
     }
 
-    /// The line of a runner that asks for them.
+    /// Says them of a runner, if there are any.
+    fn tell<O: Audience>(
+        &self,
+        alloc: Global,
+        runner: usize,
+        audience: &mut O,
+    ) -> Result<(), AllocError> {
+        if self.count > 0 {
+            let line = self.line(alloc, runner)?;
+            audience.hear(line.as_str());
+        }
+        Ok(())
+    }
+
+    /// The line of a runner that has them in its program.
     fn line(&self, alloc: Global, runner: usize) -> Said {
         let who = runner_word(alloc, runner)?;
         let who = who.as_str();
+        let verb = self.verb;
         let keys = self.keys.as_str();
         let words = if self.count == 1 { "key" } else { "keys" };
         let are = if self.count == 1 { "is" } else { "are" };
         let places = places_words(self.are_sure);
         format!(in alloc;
-            "{who} asks for the {words} {keys}, which {are} not there and which nothing puts{places}"
+            "{who} {verb} the {words} {keys}, which {are} not there and which nothing puts{places}"
         )
     }
 }
@@ -139,7 +181,8 @@ fn tell_asked<O: Audience>(
     account: &Account<'_>,
     asked: &AskedKey,
     runs: &Runs,
-    vain: &mut Vain,
+    looked_up: &mut Vain,
+    named: &mut Vain,
     audience: &mut O,
 ) -> Result<(), AllocError> {
     let alloc = account.alloc;
@@ -151,6 +194,11 @@ fn tell_asked<O: Audience>(
         audience.doubt(line.as_str());
     } else if is_said {
         let is_sure = !account.keys.may_be_put(&asked.key);
+        let vain = if account.keys.is_looked_up(asked) {
+            looked_up
+        } else {
+            named
+        };
         vain.add(alloc, &asked.key, is_sure)?;
     }
     Ok(())
@@ -163,21 +211,16 @@ fn tell_of_runner<O: Audience>(
     runs: &Runs,
     audience: &mut O,
 ) -> Result<(), AllocError> {
-    let mut vain = Vain {
-        keys: String::new(account.alloc),
-        count: 0,
-        are_sure: true,
-    };
+    let alloc = account.alloc;
+    let mut looked_up = Vain::new(alloc, verb(account, true));
+    let mut named = Vain::new(alloc, verb(account, false));
     for asked in account.keys.by_runners.as_slice() {
         if asked.who == runner && account.is_unput(&asked.key) {
-            tell_asked(account, asked, runs, &mut vain, audience)?;
+            tell_asked(account, asked, runs, &mut looked_up, &mut named, audience)?;
         }
     }
-    if vain.count > 0 {
-        let line = vain.line(account.alloc, runner)?;
-        audience.hear(line.as_str());
-    }
-    Ok(())
+    looked_up.tell(alloc, runner, audience)?;
+    named.tell(alloc, runner, audience)
 }
 
 /// Says which keys the runners ask for that nothing puts.
@@ -203,7 +246,8 @@ fn tell_of_rule<O: Audience>(
     let key = &asked.key;
     let near = nearest(alloc, keys, key, NEAR)?;
     let who = rule_word(alloc, answers, asked.who)?;
-    let line = key_line(alloc, who.as_str(), key, !keys.may_be_put(key), near)?;
+    let is_sure = !keys.may_be_put(key);
+    let line = key_line(alloc, who.as_str(), ASKS, key, is_sure, near)?;
     audience.doubt(line.as_str());
     Ok(())
 }

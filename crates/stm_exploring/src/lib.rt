@@ -25,6 +25,7 @@ mod judging;
 mod key_use;
 mod laws;
 mod level_lines;
+mod left_out;
 mod leveled;
 mod lines;
 mod lists;

@@ -42,7 +42,7 @@ fn watch_words(alloc: Global, key: &str) -> Said {
 }
 
 /// An event as a source has it, without what is long.
-fn event_words(alloc: Global, event: &WorldEvent) -> Said {
+pub(crate) fn event_words(alloc: Global, event: &WorldEvent) -> Said {
     match event {
         WorldEvent::Start { limit, .. } => numbered(alloc, "start with limit", *limit as u64),
         WorldEvent::Step { runner } => numbered(alloc, "step", *runner),

@@ -13,6 +13,7 @@ use crate::beginning::{Begun, begin};
 use crate::faulted::tell_faults;
 use crate::grouping::{asked_by, end_of_group, group_of, push_answers};
 use crate::judging::{Answer, Searched, judge, judge_waiting};
+use crate::left_out::tell_left;
 use crate::printed::Printed;
 use crate::printing::print;
 use crate::rules::{Rule, RuleAnswer};
@@ -229,5 +230,6 @@ pub(crate) fn search<O: Audience>(
     let events = scenario.events.as_slice();
     let audience = &mut budget.observer;
     tell_open(alloc, events, waits, answers.as_slice(), true, audience);
+    tell_left(alloc, scenario, answers.as_slice(), audience);
     print(alloc, scenario, answers.as_slice())
 }

@@ -3,6 +3,7 @@ ghost use Rattle.std.specs.Prelude.{◌<◌};
 
 use crate::accounts::{Account, Runs, is_said, shown_text};
 use crate::audience::Audience;
+use crate::elses::have_else;
 use crate::key_use::AskedKey;
 use crate::near_keys::{are_of_a_list, nearest};
 use crate::rules::RuleAnswer;
@@ -55,6 +56,9 @@ fn places_words(is_sure: bool) -> &'static str {
 
 /// What somebody does who looks a key up in some run.
 const ASKS: &str = "asks for";
+
+/// The same, where it says what stands for the key that is absent.
+const ASKS_ELSE: &str = "asks, with an else, for";
 
 /// What a runner does with a key that stands in its program and that a run looked up, or none was seen to.
 fn verb(account: &Account<'_>, is_looked_up: bool) -> &'static str {
@@ -175,8 +179,17 @@ impl Vain {
     }
 }
 
+/// Whether a runner's program says what stands for a key that is absent.
+fn runner_has_else(account: &Account<'_>, asked: &AskedKey) -> bool {
+    match account.programs.get(asked.who) {
+        Some(program) => have_else(program.statements(), asked.key.as_str()),
+        None => false,
+    }
+}
+
 /// Says of a key that a runner asks for that nothing puts it: where another key is most likely meant, and where it is to be said how its runs ended, unless
-/// that was by a fault before the key could be put. That is worth a doubt, if none of them committed; else it is added to those that stand in one line.
+/// that was by a fault before the key could be put. That is worth a doubt, if none of them committed, unless the program says what stands for the key; else it
+/// is added to those that stand in one line.
 fn tell_asked<O: Audience>(
     account: &Account<'_>,
     asked: &AskedKey,
@@ -186,9 +199,9 @@ fn tell_asked<O: Audience>(
     audience: &mut O,
 ) -> Result<(), AllocError> {
     let alloc = account.alloc;
-    let meant = meant(account, &asked.key)?;
     let is_said = is_said(runs, account.told) && !is_behind_fault(account, asked, runs);
-    if !meant.is_empty() || (is_said && !runs.has_committed) {
+    let is_meant = !meant(account, &asked.key)?.is_empty() || (is_said && !runs.has_committed);
+    if is_meant && !runner_has_else(account, asked) {
         let near = nearest(alloc, &account.keys, &asked.key, NEAR)?;
         let line = runner_key_line(account, asked, near)?;
         audience.doubt(line.as_str());
@@ -234,7 +247,15 @@ pub(crate) fn tell_of_runners<O: Audience>(
     Ok(())
 }
 
-/// Says that a rule asks for a key that nothing puts, and which one is nearest.
+/// Whether a rule's program says what stands for a key that is absent.
+fn rule_has_else(answers: &[RuleAnswer], asked: &AskedKey) -> bool {
+    match answers.get(asked.who) {
+        Some(a) => have_else(a.rule.program.statements(), asked.key.as_str()),
+        None => false,
+    }
+}
+
+/// Says that a rule asks for a key that nothing puts, and which one is nearest. That is a hint, where its program says what stands for the key.
 fn tell_of_rule<O: Audience>(
     account: &Account<'_>,
     answers: &[RuleAnswer],
@@ -247,6 +268,13 @@ fn tell_of_rule<O: Audience>(
     let near = nearest(alloc, keys, key, NEAR)?;
     let who = rule_word(alloc, answers, asked.who)?;
     let is_sure = !keys.may_be_put(key);
+    if rule_has_else(answers, asked) {
+        let who = who.as_str();
+        let who = format!(in alloc; "hint: {who}")?;
+        let line = key_line(alloc, who.as_str(), ASKS_ELSE, key, is_sure, near)?;
+        audience.hear(line.as_str());
+        return Ok(());
+    }
     let line = key_line(alloc, who.as_str(), ASKS, key, is_sure, near)?;
     audience.doubt(line.as_str());
     Ok(())
@@ -321,6 +349,9 @@ fn tell_or_add<O: Audience>(
 ) -> Result<(), AllocError> {
     if !near_one(account, &asked.key, NEAR)?.is_empty() {
         return tell_of_rule(account, answers, asked, audience);
+    }
+    if rule_has_else(answers, asked) {
+        return Ok(());
     }
     let is_sure = !account.keys.may_be_put(&asked.key);
     hint.add(account.alloc, answers, asked, is_sure)

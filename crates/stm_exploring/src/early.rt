@@ -20,15 +20,12 @@ pub(crate) struct Early<'a, O> {
 
 /// What a rule is called.
 fn name_of(rules: &[Rule], place: usize) -> &str {
-    match rules.get(place) {
-        Some(
-            Rule {
-                name: Some(name),
-                ..
-            },
-        ) => name.as_str(),
-        _ => "the rule",
+    if place < rules.len() {
+        if let Some(name) = &rules[place].name {
+            return name.as_str();
+        }
     }
+    "the rule"
 }
 
 /// The names of the rules of which none of these numbers is one.

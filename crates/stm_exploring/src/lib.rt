@@ -37,6 +37,7 @@ mod naming;
 mod narrowing;
 mod near_keys;
 mod outcome_lines;
+mod outcome_runs;
 mod outcomes;
 mod printed;
 mod printing;

@@ -10,6 +10,7 @@ use crate::advice::tell_if_open;
 use crate::audience::Audience;
 use crate::beginning::{Begun, begin};
 use crate::outcome_lines::{counted_text, each_line, each_witness};
+use crate::outcome_runs::tell_runs;
 use crate::printed::{Printed, SearchAnswer};
 use crate::question::Question;
 use crate::reading::{ExploreFault, scenario_of};
@@ -143,6 +144,7 @@ fn gather_scenario<O: Audience>(
 {
     let begun = begin(alloc, scenario, &[], &mut budget.observer)?;
     let gathered = gather_in_either(alloc, &begun, budget);
+    tell_runs(alloc, &begun, &mut budget.observer);
     drop(begun);
     gathered
 }

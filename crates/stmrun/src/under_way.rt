@@ -46,7 +46,11 @@ fn say_numbers(
         let one = format!(in rt.alloc(); " {number}")?;
         text.push_str(one.as_str())?;
     }
-    let more = if numbers.len() > MOST_NAMED { " .." } else { "" };
+    let more = if numbers.len() > MOST_NAMED {
+        " .."
+    } else {
+        ""
+    };
     let text = text.as_str();
     let _ = eprintln!(rt; "stmrun: {store}: {what}:{text}{more}");
     Ok(())

@@ -39,7 +39,7 @@ pub(crate) enum Piece<'a> {
 }
 
 /// Whether a byte goes on with a character of UTF-8.
-fn is_continuation(byte: u8) -> bool
+pub(crate) fn is_continuation(byte: u8) -> bool
     ensures { result ≡ is_continuation byte }
 {
     byte >= 128 && byte < 192

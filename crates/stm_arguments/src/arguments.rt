@@ -240,11 +240,26 @@ fn begin_with_a_file(words: &[String]) -> bool {
 
 /// The options that take a number, and which numbers these are.
 const NUMBERS: &[(&str, &str)] = &[
-    ("--budget", "--budget takes a whole number from 0 to 18446744073709551615, in digits, as 1000000"),
-    ("--width", "--width takes a whole number from 20 to 1000, in digits"),
-    ("--workers", "--workers takes a whole number from 1 to 16, in digits"),
-    ("--repeat", "--repeat takes a whole number from 1 to 1000000, in digits"),
-    ("--attempts", "--attempts takes a whole number from 1 to 4294967295, in digits"),
+    (
+        "--budget",
+        "--budget takes a whole number from 0 to 18446744073709551615, in digits, as 1000000",
+    ),
+    (
+        "--width",
+        "--width takes a whole number from 20 to 1000, in digits",
+    ),
+    (
+        "--workers",
+        "--workers takes a whole number from 1 to 16, in digits",
+    ),
+    (
+        "--repeat",
+        "--repeat takes a whole number from 1 to 1000000, in digits",
+    ),
+    (
+        "--attempts",
+        "--attempts takes a whole number from 1 to 4294967295, in digits",
+    ),
 ];
 
 /// The value of an option, where this word is that, or has it behind `=`; the next word is the value otherwise.

@@ -46,11 +46,7 @@ fn push_byte(
         return Ok(room.saturating_sub(FURTHER));
     }
     if left == 0 && !is_continuation(byte) {
-        let further = [
-            Piece::Say("\n"),
-            Piece::Spaces(indent),
-            Piece::Raw(&[byte]),
-        ];
+        let further = [Piece::Say("\n"), Piece::Spaces(indent), Piece::Raw(&[byte])];
         push_pieces(out, &further)?;
         return Ok(room.saturating_sub(FURTHER + 1));
     }
@@ -59,12 +55,7 @@ fn push_byte(
 }
 
 /// Adds words in lines of so many bytes, of which further ones begin with so many spaces.
-fn push_wrapped(
-    out: &mut Vec<u8>,
-    room: u64,
-    indent: u64,
-    words: &[u8],
-) -> Result<(), AllocError>
+fn push_wrapped(out: &mut Vec<u8>, room: u64, indent: u64, words: &[u8]) -> Result<(), AllocError>
     ensures { OnOk result (out.new.items ≡ out.old.items ++ wrapped room indent room words.now) }
 {
     let mut left = room;

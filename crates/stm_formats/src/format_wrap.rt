@@ -46,8 +46,9 @@ fn push_byte(
         return Ok(room.saturating_sub(FURTHER));
     }
     if left == 0 && !is_continuation(byte) {
-        let further = [Piece::Say("\n"), Piece::Spaces(indent), Piece::Raw(&[byte])];
-        push_pieces(out, &further)?;
+        let pieces = [Piece::Say("\n"), Piece::Spaces(indent)];
+        push_pieces(out, &pieces)?;
+        out.push(byte)?;
         return Ok(room.saturating_sub(FURTHER + 1));
     }
     out.push(byte)?;

@@ -6,7 +6,8 @@ use Rattle.stm_formats.specs.FormatShown.{is_continuation}
 
 -- how many bytes behind the first one stand before a space, or the end: a word, or a space and a word
 abbrev pub word_ahead : List ℕ → ℕ
-word_ahead behind = unwrap_or (position (λ b. nat_eq b 32) (drop 1 behind)) (length behind - 1)
+word_ahead behind =
+    if nat_eq (length behind) 0 then 0 else unwrap_or (position (λ b. nat_eq b 32) (drop 1 behind)) (length (drop 1 behind))
 
 -- whether a line that has so many bytes left ends at this one: a space, where it has words, and no room for the next word
 abbrev pub ends_at : ℕ → ℕ → ℕ → List ℕ → Bool

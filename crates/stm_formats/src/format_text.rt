@@ -4,7 +4,7 @@ ghost use Rattle.stm_formats.specs.FormatText.{titled, room, fitted, heading, he
 
 use crate::format_columns::{all_places, column, last_column, most_width, place};
 use crate::format_label::{RunnerLabel, short_title, title};
-use crate::format_pieces::{Piece, push_pieces, said};
+use crate::format_pieces::{Piece, push_padded, push_pieces, push_spaces, said};
 use crate::format_row::Row;
 use crate::format_wrap::push_fitted;
 use std::alloc::{AllocError, Global};
@@ -106,11 +106,10 @@ fn push_row(
     ensures { OnOk result (out.new.items ≡ out.old.items ++ row_text width places.now row.now) }
 {
     let indent = 2 + place(places, column(row.lane));
-    let words = said(
-        alloc,
-        &[Piece::Tag(row.lane), Piece::Raw(row.words.as_slice())],
-    )?;
-    push_pieces(out, &[Piece::Padded(row.number), Piece::Spaces(indent)])?;
+    let pieces = [Piece::Tag(row.lane), Piece::Raw(row.words.as_slice())];
+    let words = said(alloc, &pieces)?;
+    push_padded(out, row.number)?;
+    push_spaces(out, indent)?;
     push_fitted(out, width, indent + 6, words.as_slice())?;
     out.push(b'\n')?;
     Ok(())

@@ -15,10 +15,12 @@ const FURTHER: u64 = 2;
 fn word_ahead(behind: &[u8]) -> u64
     ensures { result ≡ word_ahead behind.now }
 {
-    match behind.iter().skip(1).position(|byte| *byte == b' ') {
-        Some(length) => length as u64,
-        None => behind.len().saturating_sub(1) as u64,
+    if behind.is_empty() {
+        return 0;
     }
+    let (_, ahead) = behind.split_at(1);
+    let space = ahead.iter().position(|byte| *byte == b' ');
+    space.unwrap_or(ahead.len()) as u64
 }
 
 /// Whether a line that has so many bytes left of its room ends at this byte before these.

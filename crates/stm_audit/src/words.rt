@@ -15,6 +15,7 @@ use stm_json::ReadError;
 use stm_keys::Keys;
 
 /// What words about a trace are made of.
+#[derive(Clone, Copy)]
 struct Audit<'a> {
     /// The commits, of which each that changed something made the revision that it says.
     commits: &'a [Commit],

@@ -44,6 +44,7 @@ fn say_no_trace(rt: &HostRuntime, name: &str, text: &str) {
 }
 
 /// What an audit came to.
+#[derive(Drop)]
 struct Ended {
     /// The status.
     status: u8,

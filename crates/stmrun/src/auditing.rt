@@ -2,9 +2,9 @@
 ghost use Rattle.std.specs.Prelude.{◌≡◌, false};
 
 use crate::explaining::{BAD, kept, say_seeming, say_unread, say_unwritten};
+use crate::found::print;
 use crate::kinds::{begins_report, seeming};
 use crate::noting::Noting;
-use crate::found::print;
 use crate::sources::out_of_memory;
 use crate::wording::{TEXT, held};
 use std::io::Write;

@@ -3,11 +3,18 @@
 use std::alloc::Global;
 use stm_explain::Said;
 use stm_explore::{Nobody, Observer};
+use stm_program::Level;
 
 /// Who is notified of how far a search is, and told what is said of it.
 pub trait Audience: Observer {
     /// Whether all is to be said: of every runner how its runs ended, and not only of those that never committed, and which events are the others'.
     fn wants_all(&self) -> bool;
+
+    /// A search at all levels begins at this one.
+    fn begins(&mut self, _level: Level) {}
+
+    /// Of several rules this is said of one that is broken, while the search goes on for others. It is in the answer, too.
+    fn hear_early(&mut self, _line: &str) {}
 
     /// This is said, without a line feed at its end.
     fn hear(&mut self, line: &str);

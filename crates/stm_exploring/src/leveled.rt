@@ -76,6 +76,7 @@ fn judge_level<O: Audience>(
     ensures found { IfOk result (λ a. AreFound waits.now rules.now scenario.new a.answers) }
 {
     put_level(alloc, scenario, level);
+    audience.begins(level);
     let observer = AtLevel {
         alloc,
         level,

@@ -49,6 +49,7 @@ fn compare_level<O: Audience>(
     ensures answer { IfOk result (λ a. IsSerialAnswer (place_of scenario.new) (ends_of scenario.new) a.answer) }
 {
     put_level(alloc, scenario, level);
+    audience.begins(level);
     let observer = AtLevel {
         alloc,
         level,

@@ -20,7 +20,7 @@ use crate::other_kinds::{is_number, said_of_value};
 use crate::signs::{
     CHOICE, CONDITION, OTHER_TEXT, said_anywhere, said_in_program, said_of_colon, said_of_setting,
 };
-use crate::spots::{Place, Spot, first_from, spelled};
+use crate::spots::{Place, Spot, first_from, is_one_of, spelled};
 use crate::titles::{let_below, near_name, said_of_names};
 use crate::wanted::{
     EVENT_NOUN, EVENTS, FUNCTIONS, OPTION_NOUN, STATEMENT, Wanted, allowed,
@@ -199,7 +199,7 @@ fn said_of(spot: Spot<'_>) -> &'static str {
 /// Whether a token is a word with which a program, a rule or an event begins.
 pub(crate) fn begins_at_the_top(spot: Spot<'_>) -> bool {
     let word = spot.ahead(0);
-    word != "let" && EVENTS.contains(&word)
+    word != "let" && is_one_of(word, &EVENTS)
 }
 
 /// What is said of a token in whose place one of these words is wanted, which begin such a thing, or one of others beside them.

@@ -1,6 +1,6 @@
 //! What begins at the top of a source.
 
-use crate::spots::{name_of, open_behind, spelled};
+use crate::spots::{is_one_of, name_of, open_behind, spelled};
 use crate::wanted::EVENTS;
 use std::alloc::{AllocError, Global};
 use stm_tokens::{Token, TokenKind, number_length};
@@ -40,7 +40,7 @@ fn kind_of(before: &str, token: &Token) -> Option<ItemKind> {
             ) => None,
         "start" => Some(ItemKind::Start),
         "step" => Some(ItemKind::Step),
-        word if EVENTS.contains(&word) => Some(ItemKind::Event),
+        word if is_one_of(word, &EVENTS) => Some(ItemKind::Event),
         _ => None,
     }
 }

@@ -3,7 +3,7 @@
 
 use crate::fault::position_in;
 use crate::items::{Item, ItemKind, items_of, last_start, names_of};
-use crate::spots::{behind, spelled_at};
+use crate::spots::{behind, is_one_of, spelled_at};
 use crate::wanted::EVENTS;
 use std::alloc::{AllocError, Global};
 use stm_explain::Said;
@@ -79,7 +79,7 @@ pub fn events_without_jobs(alloc: Global, name: &str, source: &str) -> Said {
     let mut left = MOST_NAMED;
     for item in items.as_slice() {
         let word = spelled_at(item.tokens, 0);
-        if left > 0 && item.kind != ItemKind::Part && !OF_JOBS.contains(&word) {
+        if left > 0 && item.kind != ItemKind::Part && !is_one_of(word, &OF_JOBS) {
             let Position { line, column } = position_in(source.as_bytes(), item.at);
             let event = format!(in alloc;
                 "{name}:{line}:{column}: \"{word}\" has no place in a scenario of jobs, which has starts and what changes the store\n"

@@ -139,10 +139,20 @@ pub(crate) fn behind(tokens: &[Token], count: usize) -> &[Token] {
     tokens.get(count..).unwrap_or(&[])
 }
 
+/// Whether a word is one of these.
+pub(crate) fn is_one_of(word: &str, words: &[&str]) -> bool {
+    for known in words {
+        if *known == word {
+            return true;
+        }
+    }
+    false
+}
+
 /// The tokens from the first one on that is spelled as one of these words; none where none is.
 pub(crate) fn first_from<'a>(tokens: &'a [Token], words: &[&str]) -> &'a [Token] {
     for (index, token) in tokens.iter().enumerate() {
-        if words.contains(&spelled(token)) {
+        if is_one_of(spelled(token), words) {
             return behind(tokens, index);
         }
     }
@@ -152,7 +162,7 @@ pub(crate) fn first_from<'a>(tokens: &'a [Token], words: &[&str]) -> &'a [Token]
 /// The tokens from the last one on that is spelled as one of these words; none where none is.
 pub(crate) fn last_from<'a>(tokens: &'a [Token], words: &[&str]) -> &'a [Token] {
     for (index, token) in tokens.iter().enumerate().rev() {
-        if words.contains(&spelled(token)) {
+        if is_one_of(spelled(token), words) {
             return behind(tokens, index);
         }
     }
@@ -161,7 +171,7 @@ pub(crate) fn last_from<'a>(tokens: &'a [Token], words: &[&str]) -> &'a [Token] 
 
 /// Whether a word compares two values.
 pub(crate) fn is_comparison(word: &str) -> bool {
-    COMPARISONS.contains(&word)
+    is_one_of(word, &COMPARISONS)
 }
 
 /// Whether a token is a text or a number as it stands.

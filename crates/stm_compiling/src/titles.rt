@@ -3,7 +3,7 @@
 use crate::calls::is_asked;
 use crate::items::{items_of, names_of};
 use crate::naming::is_awaited;
-use crate::spots::{Place, Spot, behind, last_from, name_of, spelled, spelled_at};
+use crate::spots::{Place, Spot, behind, is_one_of, last_from, name_of, spelled, spelled_at};
 use crate::wanted::{allowed, nearest};
 use std::alloc::{AllocError, Global};
 use stm_explain::Said;
@@ -22,7 +22,7 @@ fn names_behind<'a>(
     let mut before = "";
     for token in tokens {
         let name = name_of(token);
-        if !name.is_empty() && words.contains(&before) {
+        if !name.is_empty() && is_one_of(before, words) {
             names.push(name)?;
         }
         before = spelled(token);
@@ -68,7 +68,7 @@ pub(crate) fn near_name<'a>(alloc: Global, spot: Spot<'a>) -> Result<&'a str, Al
         return Ok("");
     }
     let names = given_names(alloc, spot)?;
-    if names.as_slice().contains(&name) {
+    if is_one_of(name, names.as_slice()) {
         return Ok("");
     }
     nearest(alloc, names.as_slice(), name)
@@ -87,7 +87,7 @@ pub(crate) fn let_below(alloc: Global, spot: Spot<'_>) -> Result<Option<usize>, 
 
 /// Which these names are; nothing, where there are none, or a name is one of them.
 fn others_of(alloc: Global, names: &[&str], name: &str) -> Result<Option<String>, AllocError> {
-    if names.is_empty() || names.contains(&name) {
+    if names.is_empty() || is_one_of(name, names) {
         return Ok(None);
     }
     let words = allowed(alloc, names, "", name)?;
@@ -145,10 +145,10 @@ fn said_of_other_place(
     Ok(match name {
         "committed" => "stands behind the runner that a start waits for: after RUNNER committed",
         "after" => "stands in a start alone: start NAME(ARGUMENT, ..) after RUNNER",
-        _ if waits && own.as_slice().contains(&name) => {
+        _ if waits && is_one_of(name, own.as_slice()) => {
             "is started here, and no runner waits for itself"
         }
-        _ if below.as_slice().contains(&name) => {
+        _ if is_one_of(name, below.as_slice()) => {
             "is started below, and a runner is named below its start"
         }
         _ => "",
@@ -169,7 +169,7 @@ fn said_of_runner(
         .unwrap_or(&[]);
     let names = names_of(alloc, above)?;
     let why = match spot.place {
-        _ if names.as_slice().contains(&spot.name()) => {
+        _ if is_one_of(spot.name(), names.as_slice()) => {
             "makes no steps: a start with limit 0 is refused, and no runner waits for itself"
         }
         Place::Events => said_of_other_place(alloc, spot, waits)?,

@@ -3,7 +3,7 @@
 use crate::calls::{behind_asked, behind_value, is_argument, is_asked, is_parameter, value_in};
 use crate::compares::{is_chained, wanted_of_compares};
 use crate::forms::form_of;
-use crate::spots::{Place, Spot, is_comparison, spelled};
+use crate::spots::{Place, Spot, is_comparison, is_one_of, spelled};
 use std::alloc::{AllocError, Global};
 use stm_explain::Said;
 use stm_tokens::TokenKind;
@@ -67,7 +67,7 @@ const NUMBER_NAMES: [&str; 12] = [
 
 /// Whether a word is a level.
 pub(crate) fn is_level(word: &str) -> bool {
-    LEVELS.contains(&word)
+    is_one_of(word, &LEVELS)
 }
 
 /// What is wanted in a place.
@@ -83,7 +83,7 @@ pub(crate) enum Wanted {
 
 /// Whether what stands before a place is a name behind which a number stands.
 pub(crate) fn is_behind_number_name(spot: Spot<'_>) -> bool {
-    NUMBER_NAMES.contains(&spot.back(0))
+    is_one_of(spot.back(0), &NUMBER_NAMES)
 }
 
 /// What is wanted where a number stands, of which a name has no place in all.
@@ -155,7 +155,7 @@ fn in_event(spot: Spot<'_>) -> Wanted {
 /// Whether a value is wanted behind what stands before a place: an operator, a comma, an opened parenthesis or a sign of assignment.
 pub(crate) fn is_behind_operator(spot: Spot<'_>) -> bool {
     let word = spot.back(0);
-    is_comparison(word) || OPERATORS.contains(&word)
+    is_comparison(word) || is_one_of(word, &OPERATORS)
 }
 
 /// Whether a condition is wanted behind what stands before a place: `if`, `!`, `&&` or `||`, with opened parentheses or without.
@@ -268,7 +268,7 @@ pub(crate) fn wanted_at(spot: Spot<'_>) -> Wanted {
 /// Whether a statement, an event or what stands beside events may begin in a place.
 pub(crate) fn begins_anew_at(spot: Spot<'_>) -> bool {
     match wanted_at(spot) {
-        Wanted::Words(noun, _, _) => [STATEMENT, EVENT_NOUN, OPTION_NOUN].contains(&noun),
+        Wanted::Words(noun, _, _) => is_one_of(noun, &[STATEMENT, EVENT_NOUN, OPTION_NOUN]),
         Wanted::Said(said) => said == STATEMENT_OR_END,
         Wanted::OperatorOr(_) => false,
     }

@@ -23,6 +23,7 @@ mod sources;
 mod storing;
 mod terminals;
 mod threading;
+mod under_way;
 mod waits;
 mod wording;
 

@@ -216,6 +216,10 @@ const RULE: &str = "--rule";
 
 const OUTCOMES: &str = "--outcomes";
 
+/// Which numbers the options take, where a word in the place of one is none.
+const NUMBERS: &str =
+    "in digits alone, as 1000000: --budget 0 to 18446744073709551615, --width 20 to 1000, --workers 1 to 16, --repeat 1 to 1000000, --attempts 1 to 4294967295";
+
 /// Whether one of these words is an option.
 fn have(words: &[String], option: &str) -> bool {
     words.iter().any(|word| word.as_str() == option)
@@ -238,65 +242,6 @@ fn begin_with_a_file(words: &[String]) -> bool {
     }
 }
 
-/// The options that take a number, and which numbers these are.
-const NUMBERS: &[(&str, &str)] = &[
-    (
-        "--budget",
-        "--budget takes a whole number from 0 to 18446744073709551615, in digits, as 1000000",
-    ),
-    (
-        "--width",
-        "--width takes a whole number from 20 to 1000, in digits",
-    ),
-    (
-        "--workers",
-        "--workers takes a whole number from 1 to 16, in digits",
-    ),
-    (
-        "--repeat",
-        "--repeat takes a whole number from 1 to 1000000, in digits",
-    ),
-    (
-        "--attempts",
-        "--attempts takes a whole number from 1 to 4294967295, in digits",
-    ),
-];
-
-/// The value of an option, where this word is that, or has it behind `=`; the next word is the value otherwise.
-fn value_of<'a>(option: &str, word: &'a str, next: &'a str) -> Option<&'a str> {
-    let rest = word.strip_prefix(option)?;
-    if rest.is_empty() {
-        return Some(next);
-    }
-    rest.strip_prefix("=")
-}
-
-/// Which numbers the option of a word takes, where its value is none of 64 bits; nothing of another word.
-fn number_tip(word: &str, next: &str) -> &'static str {
-    for (option, tip) in NUMBERS {
-        match value_of(*option, word, next) {
-            Some(value) if value.parse::<u64>().is_err() => return *tip,
-            _ => {}
-        }
-    }
-    ""
-}
-
-/// Which numbers an option takes, by the first of these words with a value that is none of 64 bits; nothing, where there is none.
-fn first_number_tip(words: &[String]) -> &'static str {
-    for (index, word) in words.iter().enumerate() {
-        let next = match words.get(index + 1) {
-            Some(next) => next.as_str(),
-            None => "",
-        };
-        let tip = number_tip(word.as_str(), next);
-        if !tip.is_empty() {
-            return tip;
-        }
-    }
-    ""
-}
-
 /// How to ask for what these words ask for, and are refused; nothing, where that is not known.
 fn tip_for(words: &[String]) -> &'static str {
     if have(words, FINAL) {
@@ -314,7 +259,7 @@ fn tip_for(words: &[String]) -> &'static str {
     if name_a_rule(words) {
         return "a rule that is a file of its own is asked by --keeps: explore SCENARIO --keeps RULE.json";
     }
-    first_number_tip(words)
+    ""
 }
 
 /// What `reported` does, and behind it a tip, where there is one.
@@ -322,7 +267,10 @@ fn refused<R: Print + Eprint>(rt: &R, words: &[String], error: &Error) -> u8
     ensures { IsReportedBy (kind_of error.now) result }
 {
     let status = reported(rt, error);
-    let tip = tip_for(words);
+    let tip = match error.kind() {
+        ErrorKind::ValueValidation => NUMBERS,
+        _ => tip_for(words),
+    };
     if status == 2 && !tip.is_empty() {
         let _ = rt.eprint("\n  tip: ");
         let _ = rt.eprintln(tip);

@@ -1,5 +1,6 @@
 //! Words that go on in further lines, where one has no room for them.
-ghost use Rattle.std.specs.Prelude.{◌≡◌, ◌++◌, ◌<◌, ◌^◌, IfOk, OnOk};
+ghost use Rattle.std.specs.Prelude.{◌≡◌, ◌++◌, ◌<◌, ◌^◌, nat_eq, IfOk, OnOk};
+ghost use Rattle.std.specs.List.{position};
 ghost use Rattle.stm_formats.specs.FormatWrap.{word_ahead, ends_at, turned, wrapped, fitted_words};
 
 use crate::format_pieces::{Piece, is_continuation, push_pieces};
@@ -11,6 +12,13 @@ const LEAST_ROOM: u64 = 8;
 /// So many spaces stand before the words of a further line, beside those before the first one.
 const FURTHER: u64 = 2;
 
+/// How many bytes stand before the first space.
+fn before_space(bytes: &[u8]) -> Option<usize>
+    ensures { result ≡ position (λ b. nat_eq b 32) bytes.now }
+{
+    bytes.iter().position(|byte| *byte == b' ')
+}
+
 /// How many bytes behind the first one of these stand before a space, or the end.
 fn word_ahead(behind: &[u8]) -> u64
     ensures { result ≡ word_ahead behind.now }
@@ -19,8 +27,7 @@ fn word_ahead(behind: &[u8]) -> u64
         return 0;
     }
     let (_, ahead) = behind.split_at(1);
-    let space = ahead.iter().position(|byte| *byte == b' ');
-    space.unwrap_or(ahead.len()) as u64
+    before_space(ahead).unwrap_or(ahead.len()) as u64
 }
 
 /// Whether a line that has so many bytes left of its room ends at this byte before these.

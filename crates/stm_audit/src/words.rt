@@ -9,7 +9,7 @@ use crate::reads::{changed_at, is_lost, is_untrue};
 use crate::trace::Trace;
 use serde_json::json;
 use std::alloc::{AllocError, Global};
-use stm_events::{CommittedRead, Text};
+use stm_events::{CommittedRead, KeyState, Text};
 use stm_explain::{Said, is_hidden, shown};
 use stm_json::ReadError;
 use stm_keys::Keys;
@@ -78,10 +78,18 @@ fn maker_of(commits: &[Commit], revision: u64) -> usize {
     commits.partition_point(|commit| commit.revision < revision) + 1
 }
 
+/// What a key was at a revision: nothing, where it was absent, or the revision has not come.
+fn state_at<'a>(keys: &'a Keys, key: &str, revision: u64) -> Option<&'a KeyState> {
+    if keys.revision() < revision {
+        return None;
+    }
+    keys.look_back(key, revision)
+}
+
 /// Which commit changed a key at a revision, and how.
 fn change_words(alloc: Global, audit: &Audit<'_>, key: &str, revision: u64) -> Said {
     let maker = maker_of(audit.commits, revision);
-    match audit.keys.look_back(key, revision) {
+    match state_at(audit.keys, key, revision) {
         Some(state) => {
             let value = quoted(alloc, state.value.as_str())?;
             format!(in alloc; "commit {maker} had put {value} @{revision}")
@@ -97,7 +105,7 @@ fn untrue_words(alloc: Global, audit: &Audit<'_>, number: u64, read: &CommittedR
     if revision_before(audit, number) < of {
         return format!(in alloc; "{said} as of {of}, which had not come");
     }
-    let state = audit.keys.look_back(read.key.as_str(), of);
+    let state = state_at(audit.keys, read.key.as_str(), of);
     if of < audit.known && is_lost(of, state) {
         return format!(in alloc; "{said} as of {of}, which no key can be");
     }

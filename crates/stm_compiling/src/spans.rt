@@ -71,6 +71,15 @@ pub fn event_lines(alloc: Global, name: &str, source: &str) -> Said {
     )
 }
 
+/// The word of an event that has no place among jobs, with which an item begins; an empty one for other items.
+fn word_of_no_job(item: Item<'_>) -> &str {
+    let word = spelled_at(item.tokens, 0);
+    match item.kind {
+        ItemKind::Step | ItemKind::Event if !is_one_of(word, &OF_JOBS) => word,
+        _ => "",
+    }
+}
+
 /// Which events of a source of this name have no place among jobs, and where they stand: a line for each of the first ones. It fails only when out of memory.
 pub fn events_without_jobs(alloc: Global, name: &str, source: &str) -> Said {
     let tokens = tokens_of(alloc, source.as_bytes())?;
@@ -78,8 +87,8 @@ pub fn events_without_jobs(alloc: Global, name: &str, source: &str) -> Said {
     let mut said = String::new(alloc);
     let mut left = MOST_NAMED;
     for item in items.as_slice() {
-        let word = spelled_at(item.tokens, 0);
-        if left > 0 && item.kind != ItemKind::Part && !is_one_of(word, &OF_JOBS) {
+        let word = word_of_no_job(*item);
+        if left > 0 && !word.is_empty() {
             let Position { line, column } = position_in(source.as_bytes(), item.at);
             let event = format!(in alloc;
                 "{name}:{line}:{column}: \"{word}\" has no place in a scenario of jobs, which has starts and what changes the store\n"

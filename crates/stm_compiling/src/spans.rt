@@ -80,6 +80,18 @@ fn word_of_no_job(item: Item<'_>) -> &str {
     }
 }
 
+/// That the event with which an item begins has no place among jobs, and where it stands: nothing of other items.
+fn no_job_words(alloc: Global, name: &str, source: &str, item: Item<'_>) -> Said {
+    let word = word_of_no_job(item);
+    if word.is_empty() {
+        return Ok(String::new(alloc));
+    }
+    let Position { line, column } = position_in(source.as_bytes(), item.at);
+    format!(in alloc;
+        "{name}:{line}:{column}: \"{word}\" has no place in a scenario of jobs, which has starts and what changes the store\n"
+    )
+}
+
 /// Which events of a source of this name have no place among jobs, and where they stand: a line for each of the first ones. It fails only when out of memory.
 pub fn events_without_jobs(alloc: Global, name: &str, source: &str) -> Said {
     let tokens = tokens_of(alloc, source.as_bytes())?;
@@ -87,14 +99,12 @@ pub fn events_without_jobs(alloc: Global, name: &str, source: &str) -> Said {
     let mut said = String::new(alloc);
     let mut left = MOST_NAMED;
     for item in items.as_slice() {
-        let word = word_of_no_job(*item);
-        if left > 0 && !word.is_empty() {
-            let Position { line, column } = position_in(source.as_bytes(), item.at);
-            let event = format!(in alloc;
-                "{name}:{line}:{column}: \"{word}\" has no place in a scenario of jobs, which has starts and what changes the store\n"
-            )?;
-            said.push_str(event.as_str())?;
-            left -= 1;
+        if left > 0 {
+            let event = no_job_words(alloc, name, source, *item)?;
+            if !event.is_empty() {
+                said.push_str(event.as_str())?;
+                left -= 1;
+            }
         }
     }
     Ok(said)

@@ -11,6 +11,7 @@ use Rattle.stm_program.specs.declared.level.Level.{Level}
 use Rattle.stm_schedules.specs.declared.outcome.KeyValue.{KeyValue}
 use Rattle.stm_schedules.specs.declared.outcome.Outcome.{Outcome}
 use Rattle.stm_schedules.specs.declared.outcome.RunnerEnd.{RunnerEnd}
+use Rattle.stm_schedules.specs.declared.outcome.RunnerEnd.TheVariants.{Committed}
 use Rattle.stm_explore.specs.declared.orders.SerialAnswer.{SerialAnswer}
 use Rattle.stm_exploring.specs.declared.rules.RuleAnswer.{RuleAnswer}
 use Rattle.stm_exploring.specs.Anomalies.{serial_line}
@@ -37,7 +38,8 @@ value_data-no_float : (v : Value) → has_float (value_data v) ≡ false
 value_data-no_float v = grind (arith, nat_tests)
 
 runner_end_data-no_float : (end : RunnerEnd) → has_float (runner_end_data end) ≡ false
-runner_end_data-no_float end = grind (arith, nat_tests, each-no_float value_data value_data-no_float)
+runner_end_data-no_float (Committed output) = rw (each-no_float value_data value_data-no_float output) refl
+runner_end_data-no_float _ = refl
 
 states-no_float : (state : List KeyValue) → items_have_float (items_of (map key_value_data state)) ≡ false
 states-no_float = each-no_float key_value_data (λ kv. refl)

@@ -110,13 +110,13 @@ pub(crate) fn have_else(statements: &[Stmt], key: &str) -> bool {
     match statements {
         [] => false,
         [first, rest @ ..] => {
-            if is_filled(first, rest, key) {
-                return true;
-            }
             if has_else(first, key) {
                 return true;
             }
-            have_else(rest, key)
+            if have_else(rest, key) {
+                return true;
+            }
+            is_filled(first, rest, key)
         }
     }
 }

@@ -29,14 +29,14 @@ pub(crate) struct WrongEnd {
 }
 
 /// The end that is nearest to a word.
-fn nearest_end(alloc: Global, word: &str) -> Result<&'static str, AllocError> {
+fn nearest_end<'a>(alloc: Global, ends: &[&'a str], word: &str) -> Result<&'a str, AllocError> {
     let mut found = "committed";
     let mut least = word.chars().count() / 2 + 6;
-    for end in ENDS {
+    for end in ends {
         let edits = levenshtein(alloc, word, end)?;
         if edits < least {
             least = edits;
-            found = end;
+            found = *end;
         }
     }
     Ok(found)
@@ -56,7 +56,7 @@ fn add_wrong(
     if !compared.key.is_whole || word.is_empty() || ENDS.contains(&word) {
         return Ok(());
     }
-    let near = nearest_end(alloc, word)?;
+    let near = nearest_end(alloc, &ENDS, word)?;
     let runner = String::from_str(alloc, runner)?;
     let word = String::from_str(alloc, word)?;
     wrong.push(WrongEnd {

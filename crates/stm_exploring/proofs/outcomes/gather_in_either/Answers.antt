@@ -11,8 +11,8 @@ use Rattle.stm_exploring.proofs.outcomes.gather_in_either.Goals as goal
 pub returns-in_ok-found-in-None : goal.returns-in_ok-found-in-None
 returns-in_ok-found-in-None g c =
     let begun : Begun = c.args.begun.now in
-    subst (λ (ends : Ends). AreGathered (whole_place begun) ends c.in_ok-found.found) c.as_slice-ends.ensures.value
-    (c.in_ok-found.ensures.outcomes, c.in_ok-found.ensures.witnessed)
+    subst (λ (ends : Ends). AreGathered (whole_place begun) ends c.in_ok-found-in-None.found) c.as_slice-ends.ensures.value
+    (c.in_ok-found-in-None.ensures.outcomes, c.in_ok-found-in-None.ensures.witnessed)
 
 pub returns-in_ok-there-in-Some : goal.returns-in_ok-there-in-Some
 returns-in_ok-there-in-Some g c =

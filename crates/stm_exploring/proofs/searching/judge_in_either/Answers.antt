@@ -20,17 +20,6 @@ judge_and_tell-requires g c = record {
   comparing = c.requires.comparing;
 }
 
-pub judge_and_tell-in-Some-requires : goal.judge_and_tell-in-Some-requires
-judge_and_tell-in-Some-requires g c =
-    let begun : Begun = c.args.begun.now in
-    let stands : StandsFor c.args.rules.now (place_in begun c.in-Some.small) (whole_place begun) =
-    subst (λ (o : Option World). IfSome o (λ w. StandsFor c.args.rules.now (place_in begun w) (whole_place begun))) c.in-Some.is c.requires.small in
-    record {
-      programs = subst (λ (ps : List ProgramTree). AreProgramsOf ps c.in-Some.small.runners) (sym c.as_slice-2.ensures.value)
-          (subst (AreProgramsOf begun.programs.items) (sym stands.runners) c.requires.programs);
-      comparing = λ is. stands.comparing (c.requires.comparing is);
-    }
-
 pub returns-in-None : goal.returns-in-None
 returns-in-None g c =
     let begun : Begun = c.args.begun.now in

@@ -1,20 +1,22 @@
 -- No line of a search has a float.
-use Rattle.std.proofs.Common.{arith, ◌≡◌, false, List, [], ◌∷◌, map, refl}
+use Rattle.std.proofs.Common.{arith, ◌≡◌, ℕ, false, List, [], ◌∷◌, ◌++◌, map, refl}
 use Rattle.std.proofs.lemmas.Bool.Decides.{nat_tests}
-use Rattle.serde_json.specs.Data.{Data}
+use Rattle.serde_json.specs.Data.{Data, string}
 use Rattle.serde_json.specs.View.{items_of}
 use Rattle.serde_json.specs.Written.{has_float, items_have_float}
-use Rattle.stm_report_lines.specs.LineData.{value_data}
+use Rattle.stm_report_lines.specs.LineData.{list, value_data}
 use Rattle.stm_steps.specs.declared.run.End.{End}
 use Rattle.stm_steps.specs.declared.value.Value.{Value}
 use Rattle.stm_program.specs.declared.level.Level.{Level}
+use Rattle.stm_texts.specs.Grammar.{level_text}
 use Rattle.stm_schedules.specs.declared.outcome.KeyValue.{KeyValue}
 use Rattle.stm_schedules.specs.declared.outcome.Outcome.{Outcome}
 use Rattle.stm_schedules.specs.declared.outcome.RunnerEnd.{RunnerEnd}
 use Rattle.stm_schedules.specs.declared.outcome.RunnerEnd.TheVariants.{Committed}
 use Rattle.stm_explore.specs.declared.orders.SerialAnswer.{SerialAnswer}
+use Rattle.stm_explore.specs.declared.orders.SerialAnswer.TheVariants.{Anomaly}
 use Rattle.stm_exploring.specs.declared.rules.RuleAnswer.{RuleAnswer}
-use Rattle.stm_exploring.specs.Anomalies.{serial_line}
+use Rattle.stm_exploring.specs.Anomalies.{serial_line, serial_parts}
 use Rattle.stm_exploring.specs.Levels.{level_line}
 use Rattle.stm_exploring.specs.SerialLevels.{serial_level_line}
 use Rattle.stm_exploring.specs.declared.serial_levels.SerialLevel.{SerialLevel}
@@ -51,7 +53,12 @@ pub outcome_line-no_float : (o : Outcome) → has_float (outcome_line o) ≡ fal
 outcome_line-no_float o = rw (states-no_float o.state, ends-no_float o.ends) refl
 
 pub serial_line-no_float : (answer : SerialAnswer) → has_float (serial_line answer) ≡ false
-serial_line-no_float answer = grind (arith, nat_tests, states-no_float, ends-no_float)
+serial_line-no_float (Anomaly it moves) = rw (states-no_float it.state, ends-no_float it.ends) refl
+serial_line-no_float _ = refl
+
+serial_parts_at-no_float : (answer : SerialAnswer) (level : List ℕ) → has_float (list (serial_parts answer ++ string level ∷ [])) ≡ false
+serial_parts_at-no_float (Anomaly it moves) level = rw (states-no_float it.state, ends-no_float it.ends) refl
+serial_parts_at-no_float _ level = refl
 
 pub serial_level_line-no_float : (a : SerialLevel) → has_float (serial_level_line a) ≡ false
-serial_level_line-no_float a = grind (arith, nat_tests, states-no_float, ends-no_float)
+serial_level_line-no_float a = serial_parts_at-no_float a.answer (level_text a.level)

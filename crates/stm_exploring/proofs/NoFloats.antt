@@ -14,7 +14,7 @@ use Rattle.stm_schedules.specs.declared.outcome.Outcome.{Outcome}
 use Rattle.stm_schedules.specs.declared.outcome.RunnerEnd.{RunnerEnd}
 use Rattle.stm_schedules.specs.declared.outcome.RunnerEnd.TheVariants.{Committed}
 use Rattle.stm_explore.specs.declared.orders.SerialAnswer.{SerialAnswer}
-use Rattle.stm_explore.specs.declared.orders.SerialAnswer.TheVariants.{Anomaly}
+use Rattle.stm_explore.specs.declared.orders.SerialAnswer.TheVariants.{Serial, Anomaly, Open as OpenOutcomes, Undecided}
 use Rattle.stm_exploring.specs.declared.rules.RuleAnswer.{RuleAnswer}
 use Rattle.stm_exploring.specs.Anomalies.{serial_line, serial_parts}
 use Rattle.stm_exploring.specs.Levels.{level_line}
@@ -53,12 +53,16 @@ pub outcome_line-no_float : (o : Outcome) → has_float (outcome_line o) ≡ fal
 outcome_line-no_float o = rw (states-no_float o.state, ends-no_float o.ends) refl
 
 pub serial_line-no_float : (answer : SerialAnswer) → has_float (serial_line answer) ≡ false
+serial_line-no_float (Serial outcomes) = refl
 serial_line-no_float (Anomaly it moves) = rw (states-no_float it.state, ends-no_float it.ends) refl
-serial_line-no_float _ = refl
+serial_line-no_float (OpenOutcomes gone_through) = refl
+serial_line-no_float (Undecided it moves) = refl
 
 serial_parts_at-no_float : (answer : SerialAnswer) (level : List ℕ) → has_float (list (serial_parts answer ++ string level ∷ [])) ≡ false
+serial_parts_at-no_float (Serial outcomes) level = refl
 serial_parts_at-no_float (Anomaly it moves) level = rw (states-no_float it.state, ends-no_float it.ends) refl
-serial_parts_at-no_float _ level = refl
+serial_parts_at-no_float (OpenOutcomes gone_through) level = refl
+serial_parts_at-no_float (Undecided it moves) level = refl
 
 pub serial_level_line-no_float : (a : SerialLevel) → has_float (serial_level_line a) ≡ false
 serial_level_line-no_float a = serial_parts_at-no_float a.answer (level_text a.level)

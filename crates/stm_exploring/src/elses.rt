@@ -67,13 +67,13 @@ fn fills(statement: &Stmt, variable: Variable) -> bool {
     }
 }
 
-/// Whether a statement may look up a key, and the next one sets what it found, where that is empty.
-fn is_filled(first: &Stmt, rest: &[Stmt], key: &str) -> bool {
-    let Some(next) = rest.first() else {
-        return false;
-    };
-    match &first.node {
-        StmtNode::Set(variable, value) => may_get(value, key) && fills(next, *variable),
+/// Whether the first of these statements may look up a key, and the next one sets what it found, where that is empty.
+fn is_filled(statements: &[Stmt], key: &str) -> bool {
+    match statements {
+        [first, next, ..] => match &first.node {
+            StmtNode::Set(variable, value) => may_get(value, key) && fills(next, *variable),
+            _ => false,
+        },
         _ => false,
     }
 }
@@ -107,16 +107,16 @@ fn has_else_within(block: &Block, key: &str) -> bool {
 /// Whether statements have an `else` for a key, by their spelling.
 #[cycle(statements)]
 pub(crate) fn have_else(statements: &[Stmt], key: &str) -> bool {
+    if is_filled(statements, key) {
+        return true;
+    }
     match statements {
         [] => false,
         [first, rest @ ..] => {
             if has_else(first, key) {
                 return true;
             }
-            if have_else(rest, key) {
-                return true;
-            }
-            is_filled(first, rest, key)
+            have_else(rest, key)
         }
     }
 }

@@ -84,6 +84,17 @@ def ranges_of_other_keys(part):
 
 
 @case()
+def ranges_beside_many_puts(part):
+    """90,000 watchers of ranges beside 601,000 puts of keys between them, 128 in a transaction."""
+    scenario = Scenario()
+    count = int(90000 * part)
+    scenario.add(*(["watch_range", f"{number:05x}", f"{number:05x}0", 0] for number in range(count)))
+    for number in range(int(4700 * part)):
+        scenario.add(txn(*(put(f"{(number * 128 + place) * 2654435761 % count:05x}1") for place in range(128))))
+    return scenario.text()
+
+
+@case()
 def ranges_of_the_changed_key(part):
     """50,000 watchers of one range beside 49,000 puts of a key in it."""
     scenario = Scenario()
@@ -211,6 +222,57 @@ def leases_before_ranges(part):
     scenario.add(*(["watch_range", f"l{number}", f"l{number}0", 0] for number in range(count)))
     scenario.add(["advance", 5])
     scenario.add(*(["poll", number + 1, 9] for number in range(count - count // 100 - 2)))
+    return scenario.text()
+
+
+def add_watched_lease(scenario, part, keys, event):
+    """A lease with so many keys that is revoked, and 46,000 watchers, which the event makes of the last ones in falling order, all polled."""
+    keys, count = int(keys * part), int(46000 * part)
+    scenario.add(["grant", 1, 5])
+    for number in range(0, keys, 128):
+        scenario.add(txn(*(put(f"{place:05x}", "", 1) for place in range(number, min(number + 128, keys)))))
+    scenario.add(*(event(f"{keys - 1 - number:05x}") for number in range(count)))
+    scenario.add(["revoke", 1])
+    scenario.add(*(["poll", number + 1, 1] for number in range(count)))
+
+
+@case()
+def polls_of_a_large_revision(part):
+    """A lease with 550,000 keys that is revoked, and 46,000 watchers of one of them each, all polled."""
+    scenario = Scenario()
+    add_watched_lease(scenario, part, 550000, lambda key: ["watch_key", key, 0])
+    return scenario.text()
+
+
+@case()
+def polls_of_ranges_in_a_large_revision(part):
+    """A lease with 500,000 keys that is revoked, and 46,000 watchers of ranges that have one of them each, all polled."""
+    scenario = Scenario()
+    add_watched_lease(scenario, part, 500000, lambda key: ["watch_range", key, key + "0", 0])
+    return scenario.text()
+
+
+def add_wide_transactions(scenario, count, event):
+    """Transactions of 128 puts, the last one of the key w, and 1,000 watchers, which the event makes, each polled for all of them."""
+    for number in range(count):
+        scenario.add(txn(*(put(f"{(number * 127 + place) % 256:x}") for place in range(127)), put("w")))
+    scenario.add(*[event] * 1000)
+    scenario.add(*(["poll", number + 1, count] for number in range(1000)))
+
+
+@case()
+def batches_of_wide_transactions(part):
+    """1,000 watchers of a key in each of 1,500 transactions of 128 puts, each polled for all: 1,500,000 events are written."""
+    scenario = Scenario()
+    add_wide_transactions(scenario, int(1500 * part), ["watch_key", "w", 1])
+    return scenario.text()
+
+
+@case()
+def batches_of_ranges_of_wide_transactions(part):
+    """1,000 watchers of a range with a key in each of 1,500 transactions of 128 puts, each polled for all: 1,500,000 events are written."""
+    scenario = Scenario()
+    add_wide_transactions(scenario, int(1500 * part), ["watch_range", "w", "x", 1])
     return scenario.text()
 
 
@@ -790,6 +852,17 @@ def jobs_that_give_up(part):
     scenario = Scenario()
     scenario.add(txn(put("k", "0")))
     scenario.add(*[["start", "Serializable", 1, program]] * int(99000 * part))
+    return scenario.text()
+
+
+@case(command="threads")
+def jobs_that_gave_up_long_ago(part):
+    """49,000 jobs of 900 turns on one key by 16 threads, which may send one commit each, before as many that put other keys."""
+    program = [["set", 2, ["get", "k"]], loops(1000, [["set", 3, ["add", ["var", 3], 1]]]), ["put", "k", ["text_of", ["add", ["num_of", ["var", 2]], 1]], 0]]
+    scenario = Scenario()
+    scenario.add(txn(put("k", "0")))
+    scenario.add(*[["start", "Serializable", 1, program]] * int(49000 * part))
+    scenario.add(*(["start", "ReadCommitted", 1, [put(f"z{number % 16}")]] for number in range(int(49000 * part))))
     return scenario.text()
 
 

@@ -14,6 +14,7 @@ pub mod Order
 pub mod Newest
 pub mod Later
 pub mod Ranges
+pub mod Within
 pub mod Copied
 pub mod Forgetting
 pub mod Dropping

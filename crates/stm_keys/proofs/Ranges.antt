@@ -1,17 +1,17 @@
 -- What runs tell of a range of keys, and the next change of a range.
-use Rattle.std.proofs.Common.{◌≡◌, ℕ, ◌+◌, ◌-◌, ◌≤◌, ◌<◌, max, Bool, true, false, cond, ◌&&◌, ◌||◌, List, [], ◌∷◌, ◌++◌, length, map, reverse, get_or, drop, suc}
+use Rattle.std.proofs.Common.{◌≡◌, ℕ, ◌+◌, ◌-◌, ◌≤◌, ◌<◌, max, Bool, true, false, cond, not, ◌&&◌, ◌||◌, List, [], ◌∷◌, ◌++◌, length, map, reverse, get_or, drop, suc}
 use Rattle.std.proofs.Common.{Option, Some, None, zero, refl, sym, ◌∙◌, ap, subst, arith, ⊎_elim, eqb-true, eq-eqb}
 use Rattle.std.specs.Prelude.{nat_eq}
 use Rattle.std.specs.Option.{option_or}
 use Rattle.std.specs.List.{list_any, AllByRecursion}
-use Rattle.std.specs.List.Sorted.{IsSorted, IsPartitionedBy, IsPartitionPoint}
+use Rattle.std.specs.List.Sorted.{IsSorted, IsSortedByKey, IsPartitionedBy, IsPartitionPoint}
 use Rattle.std.specs.Ordering.{nat_cmp, is_lt, is_le, ordering_reverse}
 use Rattle.std.specs.declared.cmp.Ordering.{Ordering}
 use Rattle.std.specs.declared.cmp.Ordering.TheVariants.{Less, Equal, Greater}
 use Rattle.std.specs.Cmp.{IsStrictWeakOrder}
 use Rattle.std.specs.Cmp.Lexicographic.{slice_cmp, nat_list_cmp_total}
 use Rattle.std.proofs.lemmas.Bool.{cases_Bool, cases_lt, eqb-false, lt-ltb, le-ltb, Decides.nat_tests}
-use Rattle.std.proofs.lemmas.List.{get_or_append_left, get_or_default, length_push, length-map, length-reverse}
+use Rattle.std.proofs.lemmas.List.{get_or_append_left, get_or_default, length_push}
 use Rattle.std.proofs.lemmas.List.Elements.{All-from_get_or}
 use Rattle.std.proofs.lemmas.List.Folds.{list_any_none, list_any_at, list_any-append}
 use Rattle.std.proofs.lemmas.List.MinMax.{ranks_by}
@@ -22,8 +22,8 @@ use Rattle.stm_history.specs.Opening.{Opening}
 use Rattle.stm_history.specs.History.{number_of_last, key_after}
 use Rattle.stm_keys.specs.declared.event.Event.{Event}
 use Rattle.stm_keys.specs.declared.run.Ahead.{Ahead}
-use Rattle.stm_keys.specs.declared.run.Ahead.TheVariants.{Idle, Next, Unknown}
-use Rattle.stm_keys.specs.Events.{event_of, events_above, events_numbered, key_of_event, change_of_event}
+use Rattle.stm_keys.specs.declared.run.Ahead.TheVariants.{Idle, Unknown}
+use Rattle.stm_keys.specs.Events.{event_of, events_above, events_numbered, key_of_event}
 use Rattle.stm_keys.specs.Keys.{changes_of, IsKept}
 use Rattle.stm_keys.specs.Chains.{Chain, events_with}
 use Rattle.stm_keys.specs.NextChange.{changed_above, first_change, changes_any, is_between}
@@ -44,16 +44,32 @@ ordered = ranks_by nat_list_cmp_total (λ (x : List ℕ). x)
 not_both : (b : Bool) → b ≡ true → b ≡ false → ⊥
 not_both b is not = grind (arith, nat_tests)
 
--- keys in order are parted by whether they come before a bound
-pub parted : (bound : List ℕ) (keys : List (List ℕ)) → IsSorted (slice_cmp nat_cmp) keys → IsPartitionedBy (λ key. is_lt (slice_cmp nat_cmp key bound)) keys
-unfolding comes_before
-parted bound keys sorted i j d le within before =
-    ⊎_elim (λ is. is)
-    (λ not. absurd (not_both (comes_before (get_or keys j d) bound) before
-    (ordered.chain (get_or keys j d) (get_or keys i d) bound (sorted_far comes_before ordered keys sorted i j d le within) not)))
-    (cases_Bool (comes_before (get_or keys i d) bound))
+pub not_true : (b : Bool) → not b ≡ true → b ≡ false
+not_true b is = grind (arith, nat_tests)
 
-turned : (o : Ordering) → is_lt o ≡ true → is_le (ordering_reverse o) ≡ false
+module _ {X : Type 0} (key : X → List ℕ) (bound : List ℕ) (xs : List X) (sorted : IsSortedByKey key (slice_cmp nat_cmp) xs) where
+  -- what stands behind does not come before
+  far : (i j : ℕ) (d : X) → i ≤ j → j < length xs → comes_before (key (get_or xs j d)) (key (get_or xs i d)) ≡ false
+  unfolding comes_before
+  far = sorted_far (λ x y. is_lt (slice_cmp nat_cmp (key x) (key y))) (ranks_by nat_list_cmp_total key) xs sorted
+
+  -- what is in order is parted by whether it comes before a bound
+  pub parted : IsPartitionedBy (λ x. is_lt (slice_cmp nat_cmp (key x) bound)) xs
+  unfolding comes_before
+  parted i j d le within before =
+      ⊎_elim (λ is. is)
+      (λ not. absurd (not_both (comes_before (key (get_or xs j d)) bound) before
+      (ordered.chain (key (get_or xs j d)) (key (get_or xs i d)) bound (far i j d le within) not)))
+      (cases_Bool (comes_before (key (get_or xs i d)) bound))
+
+  -- and by whether it does not come behind one
+  pub parted_behind : IsPartitionedBy (λ x. not (is_lt (slice_cmp nat_cmp bound (key x)))) xs
+  unfolding comes_before
+  parted_behind i j d le within is =
+      ap not (ordered.chain bound (key (get_or xs j d)) (key (get_or xs i d))
+      (not_true (comes_before bound (key (get_or xs j d))) is) (far i j d le within))
+
+pub turned : (o : Ordering) → is_lt o ≡ true → is_le (ordering_reverse o) ≡ false
 turned Less before = refl
 turned Equal before = cc
 turned Greater before = cc
@@ -145,10 +161,6 @@ summed_with below xs ys events runs is =
           (sym (ap (λ (l : List (List Event)). events_with below l number) is
           ∙ get_or_append_left xs (events ∷ []) [] (number - below - 1) (omega (arith, sums.reached))))
           (sums.each number above from upto);
-      single = λ alone above passes any.
-          ap (λ (l : List (List Event)). is_any_about passes (events_with below l run.upto)) is
-          ∙ ap (is_any_about passes) (get_or_append_left xs (events ∷ []) [] (run.upto - below - 1) (omega (arith, sums.reached)))
-          ∙ sums.single alone above passes any;
     }) runs
 
 -- and without the oldest
@@ -162,11 +174,6 @@ summed_without below xs rest events runs is =
           subst (HasKeysOf run.keys)
           (ap (λ (l : List (List Event)). events_with below l number) is ∙ ap (λ (i : ℕ). get_or (events ∷ rest) i []) place)
           (sums.each number (omega arith) from upto);
-      single = λ alone above passes any.
-          let place : run.upto - below - 1 ≡ suc (run.upto - (below + 1) - 1) = omega arith in
-          sym (ap (λ (l : List (List Event)). is_any_about passes (events_with below l run.upto)) is
-          ∙ ap (λ (i : ℕ). is_any_about passes (get_or (events ∷ rest) i [])) place)
-          ∙ sums.single alone (omega arith) passes any;
     }) runs
 
 -- ---- the next change of a range
@@ -270,11 +277,4 @@ module _ (opening : Opening) (xs : List (List Event)) (chains : List ℕ → Opt
     idle_passed opening passed upto passes (changes_of (reverse xs)) (omega (arith, idle.later))
         (λ n later reached. same_events n later (omega (arith, idle.reached)) ∙ idle.none n (omega arith) later reached),
   )
-  ahead_in (Next number) next =
-      let is : number ≡ suc passed = omega (arith, next.is) in
-      next_is opening passed passes (changes_of (reverse xs)) opened
-      (omega (arith, next.reached, length-map (reverse xs) (map change_of_event), length-reverse xs))
-      (ap (λ (n : ℕ). is_any_about passes (events_numbered opening n (changes_of (reverse xs)))) (sym is)
-      ∙ same_events number (omega arith) next.reached ∙ next.any)
-      ∙ ap (λ (n : ℕ). Some n) (sym is)
   ahead_in (Unknown upto) known = tt

@@ -8,3 +8,4 @@ pub mod Laws
 pub mod NextChange
 pub mod ReadNames
 pub mod Runs
+pub mod Within

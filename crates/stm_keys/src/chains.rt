@@ -518,5 +518,6 @@ pub(crate) fn forget_events(chains: &mut Chains, events: Events)
     match events.into_held() {
         Held::One(event) => forget_event(chains, event),
         Held::More(events) => forget_each(chains, events),
+        Held::Ascending(events) => forget_each(chains, events),
     }
 }

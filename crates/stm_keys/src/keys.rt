@@ -3,6 +3,7 @@
 //! What each put goes through is inlined, so that its values are not copied from call to call.
 ghost use Rattle.std.specs.Prelude.{◌≡◌, ◌+◌, ◌<◌, ◌≤◌, IfOk, OnOk, OnErr, IfSome, List, ℕ, Bool, false, length, Some, None, ◌↔◌, slice_get};
 ghost use Rattle.std.specs.Prelude.{option_copied, [], ◌∷◌, ◌++◌, ◌≢◌, ◌^◌, map, is_some, true};
+ghost use Rattle.std.specs.Option.{unwrap_or};
 ghost use Rattle.std.specs.VecDeque.{deque_len, deque_capacity};
 ghost use Rattle.indexmap.specs.IndexMap.{get_by_text};
 ghost use Rattle.stm_history.specs.Opening.{opened_state};
@@ -12,6 +13,7 @@ ghost use Rattle.stm_keys.specs.Events.{event_of, events_of, event_about, key_of
 ghost use Rattle.stm_keys.specs.Chains.{versions_in, with_version, no_versions, StandFirst, KeepsPresent, is_left, names_of};
 ghost use Rattle.stm_keys.specs.NextChange.{is_between, next_change, next_change_between};
 ghost use Rattle.stm_keys.specs.Runs.{IsPassed};
+ghost use Rattle.stm_keys.specs.Within.{those_within};
 ghost use Rattle.stm_keys.specs.Keys.{key_read, DeletePresent, HasSmallNumbers, ListsPresent, with_floor, without_up_to, compacted_at};
 
 use crate::chain::Version;
@@ -538,17 +540,40 @@ impl Keys {
         })
     }
 
+    /// The events of a revision that has come, where it is kept.
+    fn recorded_at(&self, revision: u64) -> Option<&Events>
+        requires { revision ≤ now self.now.history }
+        ensures { unwrap_or (option_copied result) [] ≡ events_of self.now.history revision }
+    {
+        if revision <= self.below {
+            return None;
+        }
+        let index = (revision - self.below - 1) as usize;
+        Some(&self.revisions[index])
+    }
+
     /// The events of a revision, in the order of operations: none where it is below those that are kept. They are not
     /// copied, and it takes no memory.
     pub fn events_at(&self, revision: u64) -> &[Event]
         requires { revision ≤ now self.now.history }
         ensures { result.now ≡ events_of self.now.history revision }
     {
-        if revision <= self.below {
-            return &[];
+        match self.recorded_at(revision) {
+            Some(events) => events.as_slice(),
+            None => &[],
         }
-        let index = (revision - self.below - 1) as usize;
-        self.revisions[index].as_slice()
+    }
+
+    /// Some of the events of a revision, in the order of operations, among them those of each key from the first to the last one, by bytes. Of a
+    /// revision of many that ascend by their keys, as the end of a lease is, it is these alone, which are found by halves. It takes no memory.
+    pub fn events_within(&self, revision: u64, first: &Text, last: &Text) -> &[Event]
+        requires { revision ≤ now self.now.history }
+        ensures { those_within first.now last.now result.now ≡ those_within first.now last.now (events_of self.now.history revision) }
+    {
+        match self.recorded_at(revision) {
+            Some(events) => events.within(first, last),
+            None => &[],
+        }
     }
 
     /// A copy of the events of a revision, as `events_at` has them.
@@ -732,11 +757,10 @@ impl Keys {
         'revisions: while passed < self.revision() {
             match self.ahead(passed, asked, first, end) {
                 Ahead::Idle(upto) => passed = upto,
-                Ahead::Next(number) => return Some(number),
                 Ahead::Unknown(upto) => {
                     asked = upto;
                     passed += 1;
-                    if is_any_between(self.events_at(passed), first, end) {
+                    if is_any_between(self.events_within(passed, first, end), first, end) {
                         return Some(passed);
                     }
                 }

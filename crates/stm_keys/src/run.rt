@@ -18,8 +18,6 @@ use stm_history::Text;
 pub(crate) enum Ahead {
     /// None up to this one changes such a key.
     Idle(u64),
-    /// The next one, which is this, changes such a key.
-    Next(u64),
     /// Nothing is known up to this one.
     Unknown(u64),
 }
@@ -152,9 +150,6 @@ impl Run {
         }
         if !self.has_between(first, end) {
             return Ahead::Idle(self.upto);
-        }
-        if self.upto - self.from == 1 {
-            return Ahead::Next(self.upto);
         }
         Ahead::Unknown(self.upto)
     }

@@ -1,20 +1,23 @@
 -- Keys in the order of their bytes, and the bounds of ranges.
-use Rattle.std.proofs.Common.{◌≡◌, ◌⊎◌, ◌<◌, ℕ, Bool, true, false, ◌&&◌, ◌||◌, List, [], ◌∷◌, ◌++◌, refl, ap, ◌∙◌, arith}
+use Rattle.std.proofs.Common.{◌≡◌, ◌⊎◌, ◌<◌, ℕ, Bool, true, false, ◌&&◌, ◌||◌, List, [], ◌∷◌, ◌++◌, refl, sym, subst, ap, ◌∙◌, arith}
 use Rattle.std.specs.Prelude.{nat_lt}
 use Rattle.std.proofs.Math.Bool.{or-true}
-use Rattle.std.proofs.lemmas.Bool.{lt-ltb, Decides.nat_tests}
+use Rattle.std.proofs.lemmas.Bool.{cases_Bool, lt-ltb, Decides.nat_tests}
 use Rattle.std.proofs.lemmas.Cmp.{nat_list_cmp_total, nat_cmp_total}
 use Rattle.std.proofs.lemmas.Slice.Eq.{bytes_eq-Decides}
 use Rattle.std.specs.Cmp.{tied_itself}
 use Rattle.std.specs.Cmp.Lexicographic.{slice_cmp}
 use Rattle.std.specs.declared.cmp.Ordering.{Ordering}
 use Rattle.std.specs.Ordering.{nat_cmp, is_lt, is_le, is_gt, ordering_reverse, ordering_then}
+use Rattle.stm_keys.specs.declared.event.Event.{Event}
+use Rattle.stm_keys.specs.Within.{is_within, those_within}
 use Rattle.stm_watch.specs.declared.page.Bounds.{Bounds}
 use Rattle.stm_watch.specs.declared.page.RangeEntry.{RangeEntry}
 use Rattle.stm_watch.specs.declared.page.Reach.{Reach}
 use Rattle.stm_watch.specs.declared.watched.Watched.{Watched}
-use Rattle.stm_watch.specs.declared.watched.Watched.TheVariants.{Range}
-use Rattle.stm_watch.specs.Keys.{is_watched, first_key}
+use Rattle.stm_watch.specs.declared.watched.Watched.TheVariants.{Key, Range}
+use Rattle.stm_watch.specs.Keys.{is_watched, first_key, last_key}
+use Rattle.stm_watch.specs.Pending.{matching}
 use Rattle.stm_watch.specs.Pages.{IsInside, IsWithin, HasAll, end_of, may_have}
 
 -- ---- one comparison
@@ -58,6 +61,23 @@ within_wider e old new lower higher within = grind (arith, nat_tests, le_chain)
 pub is_concerned : (e : RangeEntry) (reach : Reach) (revision : ℕ) (key : List ℕ) → is_watched (Range e.first e.end) key ≡ true
     → (reach.until < revision) ⊎ IsInside e reach.bounds → (nat_lt reach.until revision || may_have reach.bounds key) ≡ true
 is_concerned e reach revision key has looked = grind (arith, nat_tests, lt-ltb, or-true, in_bounds)
+
+-- what is watched is within its first and last key
+pub watched_within : (watched : Watched) (key : List ℕ) → is_watched watched key ≡ true → is_within (first_key watched) (last_key watched) key ≡ true
+watched_within (Key watched) key is =
+    subst (λ (k : List ℕ). is_within watched watched k ≡ true) ((bytes_eq-Decides watched key).0 is)
+    (ap (λ b. b && b) (le_itself watched))
+watched_within (Range first end) key is = grind (arith, nat_tests, both)
+
+matching_again : (watched : Watched) (events : List Event) →
+    matching watched (those_within (first_key watched) (last_key watched) events) ≡ matching watched events
+matching_again watched [] = refl
+matching_again watched (e ∷ es) = grind (arith, nat_tests, cases_Bool, watched_within, matching_again watched es)
+
+-- so that events match that are among those within
+pub matching_same : (watched : Watched) (some all : List Event) →
+    those_within (first_key watched) (last_key watched) some ≡ those_within (first_key watched) (last_key watched) all → matching watched some ≡ matching watched all
+matching_same watched some all same = sym (matching_again watched some) ∙ ap (matching watched) same ∙ matching_again watched all
 
 -- ---- a range of one key
 

@@ -22,6 +22,11 @@ abbrev pub first_key : Watched → List ℕ
 first_key (Key watched) = watched
 first_key (Range first end) = first
 
+-- no key that is watched is behind this one
+abbrev pub last_key : Watched → List ℕ
+last_key (Key watched) = watched
+last_key (Range first end) = end
+
 -- whether what is watched, if anything is, is a range
 abbrev pub is_range : Option Watched → Bool
 is_range None = false

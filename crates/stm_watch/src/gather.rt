@@ -4,7 +4,7 @@ ghost use Rattle.stm_history.specs.History.{now};
 ghost use Rattle.stm_watch.specs.Pending.{batch_of, after_poll, first_pending};
 ghost use Rattle.stm_watch.specs.Slots.{IsFollowed, followed};
 
-use crate::pending_revision::{copy_matching, next_number};
+use crate::pending_revision::{copy_pending, next_number};
 use crate::watched::Watcher;
 use crate::watchers::Batch;
 use std::alloc::{AllocError, Global};
@@ -61,7 +61,7 @@ pub(crate) fn gather(
         let Some(number) = next else {
             return Ok(PolledBatch::all(events, reported_all(keys, watcher)));
         };
-        let mut reported = copy_matching(alloc, &watcher.watched, keys.events_at(number))?;
+        let mut reported = copy_pending(alloc, keys, &watcher.watched, number)?;
         events.append(&mut reported)?;
         upto = number;
         next = next_number(keys, &watcher.watched, number);

@@ -1,6 +1,6 @@
 //! A page: watchers of ranges that begin near each other, or of one key, and the bounds of those that a change may concern.
 ghost use Rattle.std.specs.Prelude.{◌≡◌, ◌≢◌, ◌⊎◌, ◌≤◌, ◌+◌, ◌++◌, ◌∷◌, [], ◌||◌, List, Option, true, nat_eq, nat_lt, IfOk, OnOk, OnErr};
-ghost use Rattle.std.specs.Ordering.{nat_cmp, is_le, ordering_then};
+ghost use Rattle.std.specs.Ordering.{nat_cmp, is_le};
 ghost use Rattle.std.specs.Cmp.Lexicographic.{slice_cmp};
 ghost use Rattle.std.specs.Vec.{vec_len, vec_capacity};
 ghost use Rattle.stm_watch.specs.declared.page.RangeEntry.{RangeEntry as Entry};
@@ -59,10 +59,12 @@ impl RangeEntry {
 
     /// Whether the entry is the one with this first key and place, or stands before it. Entries stand in the order of
     /// their first keys, and then of their places.
-    pub(crate) fn is_up_to(&self, first: &Text, place: usize) -> bool
-        ensures { result ≡ is_le (ordering_then (slice_cmp nat_cmp self.now.first first.now) (nat_cmp self.now.place place)) }
-    {
-        self.first.cmp(first).then(self.place.cmp(&place)).is_le()
+    pub(crate) fn is_up_to(&self, first: &Text, place: usize) -> bool {
+        // Watchers of one key have the same first key, and that two are equal is told sooner than their order.
+        if self.first == *first {
+            return self.place <= place;
+        }
+        self.first.cmp(first).is_lt()
     }
 }
 

@@ -1,5 +1,7 @@
 //! What watchers see of a revision.
-ghost use Rattle.std.specs.Prelude.{◌≡◌, ◌++◌, [], ◌∷◌, IfOk, OnOk};
+ghost use Rattle.std.specs.Prelude.{◌≡◌, ◌≤◌, ◌++◌, [], ◌∷◌, IfOk, OnOk};
+ghost use Rattle.stm_history.specs.History.{now};
+ghost use Rattle.stm_keys.specs.Events.{events_of};
 ghost use Rattle.stm_watch.specs.Pending.{matching};
 ghost use Rattle.stm_watch.specs.Walk.{first_above};
 
@@ -31,7 +33,7 @@ fn push_matching(
 }
 
 /// Copies of those of these events that are of keys that are watched.
-pub(crate) fn copy_matching(
+fn copy_matching(
     alloc: Global,
     watched: &Watched,
     events: &[Event],
@@ -42,6 +44,21 @@ pub(crate) fn copy_matching(
     for event in events {
         push_matching(&mut copies, watched, event)?;
     }
+    Ok(copies)
+}
+
+/// Copies of those events of a revision that are of keys that are watched. Of a revision of many events not all are looked at.
+pub(crate) fn copy_pending(
+    alloc: Global,
+    keys: &Keys,
+    watched: &Watched,
+    number: u64,
+) -> Result<Vec<Event>, AllocError>
+    requires { number ≤ now keys.now.history }
+    ensures { IfOk result (λ copies. copies.items ≡ matching watched.now (events_of keys.now.history number)) }
+{
+    let events = keys.events_within(number, watched.first_key(), watched.last_key());
+    let copies = copy_matching(alloc, watched, events)?;
     Ok(copies)
 }
 

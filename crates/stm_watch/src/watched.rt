@@ -1,6 +1,6 @@
 //! What a watcher watches, and how far it has been notified.
 ghost use Rattle.std.specs.Prelude.{◌≡◌, ◌&&◌, nat_lt, Some};
-ghost use Rattle.stm_watch.specs.Keys.{is_watched, is_range, first_key};
+ghost use Rattle.stm_watch.specs.Keys.{is_watched, is_range, first_key, last_key};
 ghost use Rattle.stm_watch.specs.Places.{is_lost};
 
 use stm_keys::Text;
@@ -22,6 +22,16 @@ impl Watched {
         match self {
             Watched::Key(key) => key,
             Watched::Range { first, .. } => first,
+        }
+    }
+
+    /// The key, or the end of the range: no key that is watched is behind it.
+    pub(crate) fn last_key(&self) -> &Text
+        ensures { result.now ≡ last_key self.now }
+    {
+        match self {
+            Watched::Key(key) => key,
+            Watched::Range { end, .. } => end,
         }
     }
 

@@ -1,12 +1,11 @@
-use Rattle.std.proofs.Common.{◌≡◌, ◌+◌, ◌-◌, ◌<◌, ◌≤◌, ◌∙◌, ◌++◌, [], List, ℕ, length, map, get_or, sym, ap, subst, arith, refl, ⊎_elim}
-use Rattle.std.specs.List.{list_any}
+use Rattle.std.proofs.Common.{◌≡◌, ◌+◌, ◌-◌, ◌<◌, ◌∙◌, ◌++◌, [], List, ℕ, length, map, get_or, sym, ap, subst, arith, ⊎_elim}
 use Rattle.std.proofs.lemmas.Bool.{cases_lt}
 use Rattle.std.proofs.lemmas.List.{get_or_default}
 use Rattle.stm_keys.specs.declared.event.Event.{Event}
 use Rattle.stm_keys.specs.Events.{key_of_event}
 use Rattle.stm_keys.specs.Chains.{events_with}
-use Rattle.stm_keys.specs.Runs.{HasKeysOf, is_any_about}
-use Rattle.stm_keys.proofs.Ranges.{more_keys, own_keys, any_of_keys}
+use Rattle.stm_keys.specs.Runs.{HasKeysOf}
+use Rattle.stm_keys.proofs.Ranges.{more_keys, own_keys}
 use Rattle.stm_keys.proofs.run.sum_of.Goals as goal
 
 pub revisions-preserved : goal.revisions-preserved
@@ -22,18 +21,12 @@ revisions-preserved c =
     record {
       opened = omega (arith, c.revisions.invariant.opened);
       begun = omega (arith, c.revisions.invariant.begun);
-      within = λ low short. omega (arith, c.revisions-test.true);
       reported = λ number above from upto.
           subst (λ l. HasKeysOf l (events_with c.args.below xs number)) (sym c.in_ok-push_keys.ensures)
           (⊎_elim
           (λ less. more_keys keys (map key_of_event events) (events_with c.args.below xs number) (c.revisions.invariant.reported number above from (omega arith)))
           (λ last. subst (HasKeysOf (keys ++ map key_of_event events)) (there number (omega arith)) (own_keys keys events))
           (cases_lt number (c.revisions.number + 1)));
-      none = λ is. absurd (omega (arith, is, c.revisions.invariant.begun));
-      single = λ is low.
-          c.in_ok-push_keys.ensures
-          ∙ ap (λ (l : List (List ℕ)). l ++ map key_of_event events) (c.revisions.invariant.none (omega (arith, is)))
-          ∙ ap (map key_of_event) (there (c.revisions.number + 1) refl);
     }
 
 pub returns : goal.returns
@@ -45,12 +38,4 @@ returns c =
       each = λ number above from upto passes none.
           c.revisions.invariant.reported number above (omega (arith, c.in_ok-made.ensures.from)) (omega (arith, c.in_ok-made.ensures.upto, c.revisions-test.false)) passes
           (sym (c.in_ok-made.ensures.keys passes) ∙ none);
-      single = λ alone above passes any.
-          let low : c.args.below ≤ c.args.from = omega (arith, c.in_ok-made.ensures.from, c.in_ok-made.ensures.upto) in
-          let most = c.revisions.invariant.within low (omega (arith, c.in_ok-made.ensures.from, c.in_ok-made.ensures.upto)) in
-          let last : c.in_ok-made.made.upto ≡ c.revisions.number = omega (arith, c.in_ok-made.ensures.upto, c.revisions-test.false, most) in
-          ap (λ (n : ℕ). is_any_about passes (at n)) last
-          ∙ sym (any_of_keys passes (at c.revisions.number))
-          ∙ ap (list_any passes) (sym (c.revisions.invariant.single (omega (arith, c.in_ok-made.ensures.from, c.in_ok-made.ensures.upto, last)) low))
-          ∙ sym (c.in_ok-made.ensures.keys passes) ∙ any;
     }

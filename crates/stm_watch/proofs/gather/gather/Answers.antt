@@ -10,8 +10,8 @@ use Rattle.stm_watch.proofs.Notifying.{head_is}
 use Rattle.stm_watch.proofs.Giving.{above_of, none_is, one_more, none_after}
 use Rattle.stm_watch.proofs.gather.gather.Goals as goal
 
-pub events_at-requires : goal.events_at-requires
-events_at-requires c =
+pub copy_pending-requires : goal.copy_pending-requires
+copy_pending-requires c =
     let h : History = c.args.keys.now.history in
     let w : Watching = followed c.args.watcher.now in
     (head_is h.opening c.loop-count.upto w.watched h.revisions c.in-Some.number (sym c.loop-count.invariant.next_is ∙ c.in-Some.is)).reached
@@ -24,7 +24,7 @@ loop-count-preserved c =
     let head = head_is h.opening c.loop-count.upto w.watched h.revisions number (sym c.loop-count.invariant.next_is ∙ c.in-Some.is) in
     let t : PendingRevision = record { number = number; events = matching w.watched (events_of h number) } in
     let joined : c.append.new.self.items ≡ c.loop-count.events.items ++ t.events =
-    c.in_ok-append.ensures.items ∙ ap (λ (es : List Event). c.loop-count.events.items ++ es) (c.in_ok-reported.ensures ∙ ap (matching w.watched) c.events_at.ensures) in
+    c.in_ok-append.ensures.items ∙ ap (λ (es : List Event). c.loop-count.events.items ++ es) c.in_ok-reported.ensures in
     record {
       within = omega (arith, c.loop-count-test.true);
       next_is = c.next_number-next.ensures;

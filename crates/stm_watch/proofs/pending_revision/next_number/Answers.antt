@@ -1,6 +1,6 @@
 use Rattle.std.proofs.Common.{◌∙◌, ap, sym, ℕ, List}
 use Rattle.stm_history.specs.History.{History}
-use Rattle.stm_keys.specs.NextChange.{next_change, next_change_between}
+use Rattle.stm_keys.specs.NextChange.{next_change}
 use Rattle.stm_watch.specs.declared.watched.Watched.{Watched}
 use Rattle.stm_watch.specs.Walk.{first_above}
 use Rattle.stm_watch.proofs.Notifying.{next_of_key, next_of_range}

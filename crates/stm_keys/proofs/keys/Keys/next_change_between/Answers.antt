@@ -4,6 +4,7 @@ use Rattle.stm_keys.specs.Events.{events_of}
 use Rattle.stm_keys.specs.NextChange.{changes_any, is_between}
 use Rattle.stm_keys.specs.Runs.{is_any_about}
 use Rattle.stm_keys.proofs.Ranges.{idle_passed, next_is, nothing_later}
+use Rattle.stm_keys.proofs.Within.{any_within}
 use Rattle.stm_keys.proofs.keys.Keys.next_change_between.Goals as goal
 
 pub returns-then-is_any_between : goal.returns-then-is_any_between
@@ -15,7 +16,7 @@ returns-then-is_any_between c =
     let next : passed + 1 ≡ suc passed = omega arith in
     sym (c.revisions.invariant.reported
     ∙ next_is h.opening passed passes h.revisions c.revisions.invariant.opened reached
-    (ap (λ (n : ℕ). is_any_about passes (events_of h n)) (sym next) ∙ ap (is_any_about passes) (sym c.events_at.ensures) ∙ sym c.is_any_between.ensures
+    (ap (λ (n : ℕ). is_any_about passes (events_of h n)) (sym next) ∙ sym (any_within c.args.first.now c.args.end.now c.events_within.result.now (events_of h (passed + 1)) c.events_within.ensures) ∙ sym c.is_any_between.ensures
     ∙ c.if-is_any_between.true)
     ∙ ap (λ (n : ℕ). Some n) (sym next))
 
@@ -30,7 +31,7 @@ revisions-preserved c =
           ∙ idle_passed h.opening passed (passed + 1) passes h.revisions (omega arith)
           (λ n later reached.
           let same : n ≡ passed + 1 = omega arith in
-          ap (λ (m : ℕ). is_any_about passes (events_of h m)) same ∙ ap (is_any_about passes) (sym c.events_at.ensures) ∙ sym c.is_any_between.ensures
+          ap (λ (m : ℕ). is_any_about passes (events_of h m)) same ∙ sym (any_within c.args.first.now c.args.end.now c.events_within.result.now (events_of h (passed + 1)) c.events_within.ensures) ∙ sym c.is_any_between.ensures
           ∙ c.if-is_any_between.false);
     }
 

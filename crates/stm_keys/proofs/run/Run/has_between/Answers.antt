@@ -1,4 +1,4 @@
-use Rattle.std.proofs.Common.{◌≡◌, ◌∙◌, true, false, List, [], ℕ, ap, sym, subst, arith, rules, get_or, ⊎_elim}
+use Rattle.std.proofs.Common.{◌≡◌, ◌∙◌, List, [], ℕ, ap, sym, subst, arith, rules, get_or, ⊎_elim}
 use Rattle.std.specs.Ordering.{nat_cmp, is_lt}
 use Rattle.std.specs.List.{list_any}
 use Rattle.std.specs.List.Sorted.{IsSorted}
@@ -21,7 +21,7 @@ returns-then-place-keys c =
     let same : keys ≡ c.self.inside.keys.value.items = c.as_slice-keys.ensures.value ∙ ap (λ v. v.items) c.deref.ensures in
     let sorted : IsSorted (slice_cmp nat_cmp) keys = subst (IsSorted (slice_cmp nat_cmp)) (sym same) c.self.invariant in
     let cut = IsPartitionPoint-from_clause (λ key. is_lt (slice_cmp nat_cmp key first)) keys place c.partition_point-place.ensures.partitioned
-    (parted first keys sorted) (λ a r q k. search rules) in
+    (parted (λ k. k) first keys sorted) (λ a r q k. search rules) in
     let told : (d : List ℕ) → is_lt (slice_cmp nat_cmp (get_or keys place d) end) ≡ c.is_lt.result = λ d.
     ap (λ key. is_lt (slice_cmp nat_cmp key end))
     (get_or_default keys place d c.index-keys-place.result c.if-place-keys.true ∙ sym c.index-keys-place.is ∙ sym c.text.ensures)
@@ -43,6 +43,6 @@ returns-else-place-keys c =
     let sorted : IsSorted (slice_cmp nat_cmp) keys = subst (IsSorted (slice_cmp nat_cmp)) (sym same) c.self.invariant in
     sym (none_between first end keys place sorted
     (IsPartitionPoint-from_clause (λ key. is_lt (slice_cmp nat_cmp key first)) keys place c.partition_point-place.ensures.partitioned
-    (parted first keys sorted) (λ a r q k. search rules))
+    (parted (λ k. k) first keys sorted) (λ a r q k. search rules))
     (λ d within. absurd (omega (arith, within, c.if-place-keys.false))))
     ∙ ap (list_any (is_between first end)) (same ∙ ap (λ (s : Seen). s.keys) c.self.view_is)

@@ -9,7 +9,7 @@ use Rattle.stm_keys.specs.Keys.{Contents, changes_of}
 use Rattle.stm_keys.specs.Chains.{opening_of}
 use Rattle.stm_keys.proofs.Recorded.{none_numbered}
 use Rattle.stm_keys.proofs.Fields.{events_at}
-use Rattle.stm_keys.proofs.keys.Keys.events_at.Goals as goal
+use Rattle.stm_keys.proofs.keys.Keys.recorded_at.Goals as goal
 
 pub returns-then-revision-self : goal.returns-then-revision-self
 returns-then-revision-self c =
@@ -28,4 +28,4 @@ returns c =
     sym (ap (λ (v : Contents). events_of v.history c.args.revision) c.self.view_is)
     ∙ events_at opening c.args.revision xs (get_by_text c.self.inside.chains) (c.args.revision - c.self.inside.below - 1) c.self.invariant.0
     (omega (arith, c.if-revision-self.false, reached, count)) (omega (arith, c.if-revision-self.false)) c.index.result.now c.index.ensures in
-    c.as_slice.ensures ∙ sym numbered
+    sym numbered

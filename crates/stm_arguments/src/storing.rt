@@ -32,7 +32,7 @@ The second scenario goes on where the first one ended: its store has the keys, l
 A report is printed only once its scenario is on the disk. After a crash at any moment the file has each scenario
 whose report was printed, and of one that was under way all or nothing.
 
-Beside FILE stand FILE.lock, which one process holds at a time, and now and then FILE.next.
+Beside FILE stand FILE.lock, which one process that writes holds, or several that read, and now and then FILE.next.
 
 Statuses: 0 done or yes, 1 no, 2 usage or no such revision, 3 out of memory, a failed disk or device, or a store that another process has open.";
 

@@ -26,9 +26,14 @@ def arms(file, what):
     return set(re.findall(rf'"(\w+)" (?:=> )?\{{?\s*Some\({what}::', read(file)))
 
 
-def variants(file, what):
-    """The words of the variants of this enum that a function of Rust has cases for."""
-    return {re.sub(r"\B([A-Z])", r"_\1", it).lower() for it in re.findall(rf"\b{what}::(\w+) =>", read(file))}
+def cases(file):
+    """The words that a function of Rust has cases for."""
+    return set(re.findall(r'"(\w+)" =>', read(file)))
+
+
+def spelled(file, what):
+    """The words as which a function of Rust spells the variants of this enum."""
+    return set(re.findall(rf'\b{what}::\w+ => "(\w+)"', read(file)))
 
 
 def table(file, name):
@@ -66,7 +71,8 @@ def lists_of_sources(of):
     yield f"STATEMENTS of {spoken}", table(spoken, "STATEMENTS"), of("statement") - {"prefetch"} | {"let", "if", "for", "return"}
     yield f"COMPARES of {spoken}", table(spoken, "COMPARES"), compares
     yield f"LEVELS of {spoken}", table(spoken, "LEVELS"), levels
-    yield "the forms of crates/stm_compiling/src/forms.rt", variants("crates/stm_compiling/src/forms.rt", "Word"), of("statement function")
+    yield "the forms of crates/stm_compiling/src/forms.rt", cases("crates/stm_compiling/src/forms.rt"), of("statement function")
+    yield "the words of crates/stm_compiling/src/spots.rt", spelled("crates/stm_compiling/src/spots.rt", "Word"), reserved
     yield "LEVELS of crates/stm_arguments/src/levels.rt", table("crates/stm_arguments/src/levels.rt", "LEVELS"), levels
     yield "KEYWORDS of tests/source/tokens.py", script("tests/source/tokens.py", "KEYWORDS"), reserved
     yield "EVENTS of tests/source/tokens.py", script("tests/source/tokens.py", "EVENTS"), events

@@ -1,9 +1,8 @@
-//! What a search, jobs, a store and an audit print, in words for people.
+//! What a search, jobs and a store print, in words for people.
 //!
-//! The lines are those of the commands `explore`, `threads`, `store` and `audit` (docs/FORMATS.md). Nothing is promised of the words, which may change.
+//! The lines are those of the commands `explore`, `threads` and `store` (docs/FORMATS.md). Nothing is promised of the words, which may change.
 #![tactic(auto)]
 
-mod audited;
 mod jobs;
 mod late_steps;
 mod outcomes;
@@ -13,10 +12,9 @@ mod rules;
 mod stored;
 mod words;
 
-pub use audited::audit_line_in_words;
 pub use jobs::job_line_in_words;
 pub use late_steps::late_steps_in_words;
-pub use races::schedule_in_words;
+pub use races::{schedule_in_words, waits_broken};
 pub use stm_compiling::NamedRunner;
 pub use stored::store_line_in_words;
-pub use words::in_words;
+pub use words::{Asked, in_words};

@@ -56,3 +56,11 @@ pub(crate) fn moves(alloc: Global, count: u64) -> Said {
     }
     format!(in alloc; "{count} moves")
 }
+
+/// What stands before an answer about a level, which stands at a place of its line, if it is about one.
+pub(crate) fn at_level(alloc: Global, parts: &[Json], place: usize) -> Said {
+    match text_at(parts, place) {
+        Some(level) => format!(in alloc; "{level}: "),
+        None => Ok(String::new(alloc)),
+    }
+}

@@ -1,7 +1,8 @@
 //! Answers about rules in words.
 
 use crate::outcomes::push_end;
-use crate::parts::{behind, list_at, moves, number_at, plain};
+use crate::parts::{at_level, behind, list_at, moves, number_at, plain};
+use crate::words::Asked;
 use serde_json::Value as Json;
 use std::alloc::Global;
 use stm_explain::Said;
@@ -46,13 +47,19 @@ pub(crate) fn broken_words(alloc: Global, parts: &[Json], has_level: bool) -> Sa
     Ok(words)
 }
 
-/// That something was not decided.
-pub(crate) fn open_words(alloc: Global, parts: &[Json], has_level: bool) -> Said {
+/// That a rule was not decided.
+fn open_rule_words(alloc: Global, parts: &[Json], has_level: bool) -> Said {
     let moves = moves(alloc, number_at(parts, 1).unwrap_or(0))?;
-    let named = behind(parts, 2);
-    if named.is_empty() {
-        return format!(in alloc; "not decided (all schedules of up to {moves} were looked at)");
-    }
-    let rule = subject(alloc, named, has_level)?;
+    let rule = subject(alloc, behind(parts, 2), has_level)?;
     format!(in alloc; "{rule}: not decided (all schedules of up to {moves} keep it)")
+}
+
+/// That something was not decided: a rule, where one is asked.
+pub(crate) fn open_words(alloc: Global, parts: &[Json], asked: Asked) -> Said {
+    if asked.has_rules {
+        return open_rule_words(alloc, parts, asked.has_level);
+    }
+    let at = at_level(alloc, parts, 2)?;
+    let moves = moves(alloc, number_at(parts, 1).unwrap_or(0))?;
+    format!(in alloc; "{at}not decided (all schedules of up to {moves} were looked at)")
 }

@@ -1,7 +1,7 @@
 //! The lines of a search in words.
 
 use crate::outcomes::{Noun, outcome_words};
-use crate::parts::{list_at, moves, number_at, text_at};
+use crate::parts::{at_level, list_at, moves, number_at, text_at};
 use crate::rules::{always_words, broken_words, open_words};
 use serde_json::Value as Json;
 use std::alloc::{AllocError, Global};
@@ -35,12 +35,13 @@ fn enough_words(alloc: Global, parts: &[Json], printed: &str) -> Said {
     }
 }
 
-/// What stands before an answer about a level, which stands at a place of its line, if it is about one.
-fn at_level(alloc: Global, parts: &[Json], place: usize) -> Said {
-    match text_at(parts, place) {
-        Some(level) => format!(in alloc; "{level}: "),
-        None => Ok(String::new(alloc)),
-    }
+/// What a search was asked.
+#[derive(Clone, Copy)]
+pub struct Asked {
+    /// Whether it was asked for rules, each of which has a line.
+    pub has_rules: bool,
+    /// Whether it was at all levels, so that each line ends with one.
+    pub has_level: bool,
 }
 
 /// That serial orders come to each outcome.
@@ -107,18 +108,18 @@ fn words_of(
     alloc: Global,
     parts: &[Json],
     printed: &str,
-    has_level: bool,
+    asked: Asked,
     runners: &[NamedRunner],
 ) -> Result<Option<String>, AllocError> {
     let word = text_at(parts, 0).unwrap_or("");
     if word == "always" {
-        return some(always_words(alloc, parts, has_level));
+        return some(always_words(alloc, parts, asked.has_level));
     }
     if word == "broken" {
-        return some(broken_words(alloc, parts, has_level));
+        return some(broken_words(alloc, parts, asked.has_level));
     }
     if word == "open" {
-        return some(open_words(alloc, parts, has_level));
+        return some(open_words(alloc, parts, asked));
     }
     if word == "enough" {
         return some(enough_words(alloc, parts, printed));
@@ -126,20 +127,20 @@ fn words_of(
     found_words(alloc, word, parts, runners)
 }
 
-/// A line that a search printed, one of the lines of `printed`, in words without a line feed, with the names of these runners; `has_level` says that the
-/// search was at all levels, so that the line ends with one. None of a line that is no answer, as a scenario. It fails only when out of memory.
+/// A line that a search printed which was asked this, one of the lines of `printed`, in words without a line feed, with the names of these runners. None of
+/// a line that is no answer, as a scenario. It fails only when out of memory.
 pub fn in_words(
     alloc: Global,
     line: &str,
     printed: &str,
-    has_level: bool,
+    asked: Asked,
     runners: &[NamedRunner],
 ) -> Result<Option<String>, AllocError> {
     let Ok(json) = Json::from_str(alloc, line) else {
         return Ok(None);
     };
     match json.as_array() {
-        Some(parts) => words_of(alloc, parts.as_slice(), printed, has_level, runners),
+        Some(parts) => words_of(alloc, parts.as_slice(), printed, asked, runners),
         None => Ok(None),
     }
 }

@@ -216,6 +216,10 @@ const RULE: &str = "--rule";
 
 const OUTCOMES: &str = "--outcomes";
 
+/// Which numbers the options take, where a word in the place of one is none.
+const NUMBERS: &str =
+    "in digits alone, as 1000000: --budget 0 to 18446744073709551615, --width 20 to 1000, --workers 1 to 16, --repeat 1 to 1000000, --attempts 1 to 4294967295";
+
 /// Whether one of these words is an option.
 fn have(words: &[String], option: &str) -> bool {
     words.iter().any(|word| word.as_str() == option)
@@ -263,7 +267,10 @@ fn refused<R: Print + Eprint>(rt: &R, words: &[String], error: &Error) -> u8
     ensures { IsReportedBy (kind_of error.now) result }
 {
     let status = reported(rt, error);
-    let tip = tip_for(words);
+    let tip = match error.kind() {
+        ErrorKind::ValueValidation => NUMBERS,
+        _ => tip_for(words),
+    };
     if status == 2 && !tip.is_empty() {
         let _ = rt.eprint("\n  tip: ");
         let _ = rt.eprintln(tip);

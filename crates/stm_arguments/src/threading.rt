@@ -5,7 +5,7 @@ ghost use Rattle.stm_arguments.specs.Asking.{IsThreads};
 
 use crate::exploring::FORMATS;
 use crate::numbers::{MOST_RUNS, MOST_WORKERS, runs_at, workers_in};
-use crate::tables::{EXPLAIN, Form, Table, with_command};
+use crate::tables::{Beside, EXPLAIN, Form, Table, with_command};
 use crate::words::{Unasked, flag_of, required_word, word_of};
 use clap::builder::ValueParser;
 use clap::{ArgMatches, Command};
@@ -107,7 +107,7 @@ const THREADS: Table = Table {
         ),
         EXPLAIN,
     ],
-    rules: &[],
+    rules: &[("repeat", Beside::Without, &["ends"])],
 };
 
 /// A command with `threads`.

@@ -80,7 +80,7 @@ fn take<'a>(
 }
 
 /// Takes these commits, one after another, over a store of which it is known from a revision on what each key was.
-fn audit_each(
+pub(crate) fn audit_each(
     alloc: Global,
     store: &mut Store,
     known: u64,
@@ -182,7 +182,7 @@ fn restored(alloc: Global, checkpoint: &Checkpoint) -> Result<Option<Store>, All
 }
 
 /// The store before a trace; none where no store can be as the trace says.
-fn beginning(alloc: Global, trace: &Trace) -> Result<Option<Store>, AllocError>
+pub(crate) fn beginning(alloc: Global, trace: &Trace) -> Result<Option<Store>, AllocError>
     ensures { IfOk result (λ o. option_map (λ s. s.standing) o ≡ beginning trace.now.opening trace.now.commits) }
 {
     match &trace.opening {
@@ -199,7 +199,7 @@ fn beginning(alloc: Global, trace: &Trace) -> Result<Option<Store>, AllocError>
 }
 
 /// The revision from which on it is known what each key was.
-fn known_from(opening: &Option<Checkpoint>) -> u64
+pub(crate) fn known_from(opening: &Option<Checkpoint>) -> u64
     ensures { result ≡ known_from opening.now }
 {
     match opening {

@@ -18,6 +18,7 @@ mod reads;
 mod stale;
 mod store_after;
 mod trace;
+mod words;
 
 pub use anomaly::Anomaly;
 pub use auditing::{Audited, audit};
@@ -33,3 +34,4 @@ pub use stm_json::{BadInput, Cause, ReadError};
 pub use stm_program::Write;
 pub use stm_txn::{Checkpoint, KeptLease};
 pub use trace::Trace;
+pub use words::audit_in_words;

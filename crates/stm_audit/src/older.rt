@@ -1,15 +1,14 @@
 //! What is said of a trace that knows keys from before it, and does not say with which it begins.
 
-use crate::anomaly::Anomaly;
 use crate::auditing::{Audited, audit, leaves_a_key, opened};
 use crate::commit::Commit;
-use crate::finding::Finding;
 use crate::reading::read_trace;
 use std::alloc::{AllocError, Global};
 
-/// Whether a read that says what was not so shows its key as it was put by a revision.
-fn is_put_by(revision: u64, finding: &Finding) -> bool {
-    matches!(finding.anomaly, Anomaly::DirtyRead) && 0 < finding.seen && finding.seen <= revision
+/// Whether a commit has read a key as it was put by a revision.
+fn has_older(revision: u64, commit: &Commit) -> bool {
+    let mut reads = commit.reads.as_slice().iter();
+    reads.any(|read| 0 < read.mod_rev && read.mod_rev <= revision)
 }
 
 /// Whether a commit writes something, and only deletes.
@@ -50,8 +49,10 @@ fn first_older(
     audited: &Audited,
 ) -> Result<Option<u64>, AllocError> {
     for finding in audited.findings.as_slice() {
-        if is_put_by(revision, finding) {
-            return Ok(Some(finding.commit));
+        let place = (finding.commit as usize).saturating_sub(1);
+        match commits.get(place) {
+            Some(commit) if has_older(revision, commit) => return Ok(Some(finding.commit)),
+            _ => {}
         }
     }
     off_by_deleting(alloc, commits, audited.off)

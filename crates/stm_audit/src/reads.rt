@@ -23,7 +23,7 @@ fn is_value(value: &Option<Text>, state: Option<&KeyState>) -> bool
 }
 
 /// Whether a key that was in this state later may have been otherwise at a revision.
-fn is_lost(revision: u64, state: Option<&KeyState>) -> bool
+pub(crate) fn is_lost(revision: u64, state: Option<&KeyState>) -> bool
     ensures { result ≡ is_lost revision (option_copied state.entry) }
 {
     match state {
@@ -58,7 +58,7 @@ fn is_so(keys: &Keys, known: u64, read: &CommittedRead) -> bool
 }
 
 /// Whether a read says what its key was not.
-fn is_untrue(keys: &Keys, known: u64, read: &CommittedRead) -> bool
+pub(crate) fn is_untrue(keys: &Keys, known: u64, read: &CommittedRead) -> bool
     ensures { result ≡ is_untrue keys.now.history known read.now }
 {
     !is_so(keys, known, read)

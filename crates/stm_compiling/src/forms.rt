@@ -1,7 +1,6 @@
 //! The words behind which parentheses stand: the one table of them.
 
 use crate::spots::Spot;
-use stm_tokens::{TokenKind, Word};
 
 /// What a word has in its parentheses, and gives.
 #[derive(Clone, Copy)]
@@ -23,41 +22,38 @@ const NUMBER: Option<bool> = Some(true);
 
 const TEXT: Option<bool> = Some(false);
 
-/// The form of a token that is such a word.
-pub(crate) fn form_of(kind: &TokenKind) -> Option<Form> {
-    let TokenKind::Word(word) = kind else {
-        return None;
-    };
+/// The form of a word, if it has one.
+pub(crate) fn form_of(word: &str) -> Option<Form> {
     let (value, behind, takes_number, gives_number) = match word {
-        Word::Put => (
+        "put" => (
             "the key of put(KEY, VALUE)",
             "a comma and the value of put(KEY, VALUE)",
             TEXT,
             None,
         ),
-        Word::Del => ("the key of del(KEY)", "the ) of del(KEY)", TEXT, None),
-        Word::Emit => (
+        "del" => ("the key of del(KEY)", "the ) of del(KEY)", TEXT, None),
+        "emit" => (
             "the value of emit(VALUE)",
             "the ) of emit(VALUE)",
             None,
             None,
         ),
-        Word::Abort => (
+        "abort" => (
             "the text of abort(TEXT)",
             "the ) of abort(TEXT)",
             TEXT,
             None,
         ),
-        Word::Prefetch => ("a key of the list, a text,", ANY_END, None, None),
-        Word::Get => ("the key of get(KEY)", "the ) of get(KEY)", TEXT, TEXT),
-        Word::Rev => ("the key of rev(KEY)", "the ) of rev(KEY)", TEXT, NUMBER),
-        Word::NumOf => (
+        "prefetch" => ("a key of the list, a text,", ANY_END, None, None),
+        "get" => ("the key of get(KEY)", "the ) of get(KEY)", TEXT, TEXT),
+        "rev" => ("the key of rev(KEY)", "the ) of rev(KEY)", TEXT, NUMBER),
+        "num_of" => (
             "the text of num_of(TEXT)",
             "the ) of num_of(TEXT)",
             TEXT,
             NUMBER,
         ),
-        Word::TextOf => (
+        "text_of" => (
             "the number of text_of(NUMBER)",
             "the ) of text_of(NUMBER)",
             NUMBER,
@@ -75,5 +71,5 @@ pub(crate) fn form_of(kind: &TokenKind) -> Option<Form> {
 
 /// The form of the word in whose parentheses a place is.
 pub(crate) fn form_in(spot: Spot<'_>) -> Option<Form> {
-    form_of(spot.call()?.word)
+    form_of(spot.call.word)
 }

@@ -1,9 +1,15 @@
 //! What is said of words and signs that people bring along from other languages.
 
-use crate::kept::open_behind;
-use crate::spots::{Event, Spot, name_in};
-use crate::wanted::{is_behind_number_name, is_level};
-use stm_tokens::{Operator, Symbol, TokenKind, Word};
+use crate::spots::{Place, Spot, open_behind};
+use crate::wanted::{begins_anew_at, is_behind_number_name, is_level};
+
+/// The first of these that says something; nothing where none does.
+pub(crate) fn first_said(all: &[&'static str]) -> &'static str {
+    match all.iter().find(|said| !said.is_empty()) {
+        Some(said) => *said,
+        None => "",
+    }
+}
 
 /// What is said of words that have no place in a source, which people know from elsewhere; nothing of others.
 pub(crate) fn said_of_word(word: &str) -> &'static str {
@@ -48,118 +54,115 @@ pub(crate) fn said_of_ending(word: &str) -> &'static str {
     }
 }
 
-/// Whether a parenthesis is opened behind a token.
-fn is_before_parenthesis(spot: Spot<'_>) -> bool {
-    match spot.next() {
-        Some(kind) => kind.is_symbol(Symbol::LeftParenthesis),
-        None => false,
-    }
-}
-
 /// What is said of a token in the place of an event that has its place in a block, or is the name of a program; nothing of others.
 pub(crate) fn said_of_no_event(spot: Spot<'_>) -> &'static str {
-    match spot.kind() {
-        Some(TokenKind::Word(Word::Put | Word::Del)) => {
-            "it stands in a program, or among the operations of txn { .. }"
+    match spot.ahead(0) {
+        "put" | "del" => "it stands in a program, or among the operations of txn { .. }",
+        "if" | "for" | "emit" | "abort" | "return" => {
+            "it stands in a program: program NAME(PARAMETER, ..) { .. }"
         }
-        Some(TokenKind::Word(Word::If | Word::For | Word::Emit | Word::Abort | Word::Return)) =>
-            "it stands in a program: program NAME(PARAMETER, ..) { .. }",
-        Some(TokenKind::Name(_)) if is_before_parenthesis(spot) => {
+        _ if !spot.name().is_empty() && spot.ahead(1) == "(" => {
             "a run begins by start NAME(ARGUMENT, ..)"
         }
         _ => "",
     }
 }
 
-/// What is said of a name behind an event; nothing of others.
-fn said_of_name(spot: Spot<'_>, name: &str) -> &'static str {
-    match (name, spot.event()) {
+/// What is said of a word with which people have a start wait, or of what they put behind it; nothing of others.
+pub(crate) fn said_of_waiting(spot: Spot<'_>) -> &'static str {
+    let is_behind_runner = match spot.back(0) {
+        _ if spot.event != "start" => false,
+        "committed" => spot.back(2) == "after",
+        _ => spot.back(1) == "after",
+    };
+    match spot.ahead(0) {
+        _ if spot.place != Place::Events || !begins_anew_at(spot) => "",
+        "," | "and" | "or" | "&&" | "||" | "after" if is_behind_runner => {
+            "a start waits for one runner: after RUNNER, or after RUNNER committed"
+        }
+        "aborted" | "faulted" | "gaveup" | "ended" if is_behind_runner => {
+            "a start waits for an end, whatever it is, by after RUNNER, or for a commit by after RUNNER committed"
+        }
+        "committed" => "it stands behind the runner that a start waits for: after RUNNER committed",
+        "after" if matches!(spot.back(1), "rule" | "finally") || spot.event != "start" => {
+            "it stands in a start alone: start NAME(ARGUMENT, ..) after RUNNER"
+        }
+        "as" | "at" | "limit" | "after" if spot.event == "start" => "it stands once in a start",
+        _ => "",
+    }
+}
+
+/// What is said of a name or a symbol outside of all brackets, behind an event; nothing of others.
+pub(crate) fn said_of_event(spot: Spot<'_>) -> &'static str {
+    match (spot.ahead(0), spot.event) {
         ("begin", _) if !is_behind_number_name(spot) => "it stands before all other events, once",
         ("prefix", _) => "the keys of a range are watch FIRST..END",
-        ("commit" | "commits", Some(Event::Start)) => {
+        ("commit" | "commits", "start") => {
             "a runner that waits for a commit has after RUNNER committed"
         }
-        (_, Some(Event::Start)) if is_level(name) => "a level stands behind at",
+        (word, "start") if is_level(word) => "a level stands behind at",
         ("Snapshot" | "snapshot", _) => "the level is SerializableSnapshot",
-        _ => "",
-    }
-}
-
-/// What is said of a symbol behind an event; nothing of others.
-fn said_of_symbol(spot: Spot<'_>, symbol: Symbol) -> &'static str {
-    match symbol {
-        Symbol::Semicolon => "events stand one behind another, without it",
-        Symbol::RightBrace | Symbol::RightParenthesis => "no bracket is open before it",
-        Symbol::Arithmetic(Operator::Div) => "a comment begins with //",
-        Symbol::Arithmetic(Operator::Sub) => "a name has letters, digits and _ alone",
-        Symbol::Comma if spot.is_behind(1, "grant") => {
+        (";", _) => "events stand one behind another, without it",
+        ("}" | ")", _) => "no bracket is open before it",
+        ("/", _) => "a comment begins with //",
+        ("-", _) => "a name has letters, digits and _ alone",
+        (",", _) if spot.back(1) == "grant" => {
             "a time to live stands behind ttl: grant ID ttl SECONDS"
         }
-        Symbol::Comma if spot.event() == Some(Event::Step) => {
-            "runners stand one behind another, without it"
-        }
-        Symbol::Comma if spot.event() == Some(Event::Start) => "each run has a start of its own",
-        Symbol::LeftParenthesis if is_behind_number_name(spot) => {
-            "an event has its numbers without parentheses"
-        }
-        Symbol::LeftBrace if spot.is_behind_word(1, Word::Program) => {
-            "a program has parentheses behind its name: program NAME(PARAMETER, ..) { .. }"
-        }
-        Symbol::LeftParenthesis if spot.is_behind_word(1, Word::Rule) => {
-            "a rule has no parameters: rule NAME { .. }"
-        }
-        Symbol::LeftParenthesis if spot.is_behind_word(1, Word::Finally) => {
-            "a final has no parameters: finally NAME { .. }"
-        }
-        _ => "",
+        (",", "step") => "runners stand one behind another, without it",
+        (",", "start") => "each run has a start of its own",
+        ("(", _) if is_behind_number_name(spot) => "an event has its numbers without parentheses",
+        _ => said_of_declaration(spot),
     }
 }
 
-/// What is said of a token outside of all brackets; nothing of others.
-pub(crate) fn said_of_event(spot: Spot<'_>) -> &'static str {
-    match spot.kind() {
-        Some(TokenKind::Symbol(symbol)) => said_of_symbol(spot, *symbol),
-        Some(TokenKind::Name(name)) => said_of_name(spot, name.as_str()),
+/// What is said of the bracket behind the name of a program, a rule or a final; nothing of others.
+fn said_of_declaration(spot: Spot<'_>) -> &'static str {
+    match (spot.back(1), spot.ahead(0)) {
+        ("program", "{") => {
+            "a program has parentheses behind its name: program NAME(PARAMETER, ..) { .. }"
+        }
+        ("rule", "(") => "a rule has no parameters: rule NAME { .. }",
+        ("finally", "(") => "a final has no parameters: finally NAME { .. }",
         _ => "",
     }
 }
 
 /// What is said of a token among the operations of a transaction; nothing of others.
 pub(crate) fn said_of_operation(spot: Spot<'_>) -> &'static str {
-    match spot.kind() {
-        Some(TokenKind::Symbol(Symbol::Comma)) => "operations stand one behind another, without it",
-        Some(TokenKind::Word(Word::If)) => {
-            "compares stand before the braces: txn if COMPARE && .. { .. } else { .. }"
-        }
+    match spot.ahead(0) {
+        "," => "operations stand one behind another, without it",
+        "if" => "compares stand before the braces: txn if COMPARE && .. { .. } else { .. }",
         _ => said_of_lease(spot),
     }
 }
 
 /// What is said of the word behind which people expect a put's lease; nothing of others.
 pub(crate) fn said_of_lease(spot: Spot<'_>) -> &'static str {
-    if name_in(spot) == "with" && spot.is_behind_symbol(0, Symbol::RightParenthesis) {
-        "a lease is the last value of put(KEY, VALUE, LEASE)"
-    } else {
-        ""
+    match (spot.back(0), spot.ahead(0)) {
+        (")", "with") => "a lease is the last value of put(KEY, VALUE, LEASE)",
+        _ => "",
     }
 }
 
 /// What is said of digits that go on with letters.
 pub(crate) fn said_of_digits(spot: Spot<'_>) -> &'static str {
-    if spot.is_behind(1, "grant") || spot.is_behind(1, "keep") || spot.is_behind(1, "revoke") {
-        return "a number has the digits 0 to 9 alone: of a lease that etcdctl prints, printf %d 0xID makes one";
+    match spot.back(1) {
+        "grant" | "keep" | "revoke" => {
+            "a number has the digits 0 to 9 alone: of a lease that etcdctl prints, printf %d 0xID makes one"
+        }
+        _ => "a number has the digits 0 to 9 alone",
     }
-    "a number has the digits 0 to 9 alone"
 }
 
 /// Whether all brackets of a source are closed.
 pub(crate) fn closes_all(spot: Spot<'_>) -> bool {
     let mut open = 0;
     for token in spot.before {
-        open = open_behind(open, &token.kind);
+        open = open_behind(open, token);
     }
     for token in spot.from {
-        open = open_behind(open, &token.kind);
+        open = open_behind(open, token);
     }
     open == 0
 }
@@ -169,7 +172,7 @@ pub(crate) fn said_of_outer(spot: Spot<'_>) -> &'static str {
     if !closes_all(spot) {
         return ": a } is missing before it";
     }
-    if name_in(spot) == "txn" {
+    if spot.name() == "txn" {
         return ", and a program is one transaction as a whole: if get(KEY) == TEXT { put(KEY, VALUE) }";
     }
     ""

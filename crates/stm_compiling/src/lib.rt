@@ -13,7 +13,7 @@ mod explaining;
 mod fault;
 mod forms;
 mod habits;
-mod item_lines;
+mod items;
 mod kept;
 mod labels;
 mod line;
@@ -37,7 +37,6 @@ mod wanted;
 mod whole;
 
 pub use command::{compile_to, compiled, compiled_part};
-pub use item_lines::{line_of_event, line_of_rule};
 pub use kept::{kept_text, spells};
 pub use labels::{CalledRunner, called_runners};
 pub use notes::notes_of;
@@ -47,8 +46,9 @@ pub use placing::{
 };
 pub use refusing::{Refused, refused_in};
 pub use runners::{NamedRunner, name_of_runner, named_runners, runners_named};
-pub use spans::{event_lines, events_without_jobs};
+pub use spans::{event_lines, events_without_jobs, line_of_event, line_of_rule};
 pub use stm_devices::{Sink, Source};
 pub use stm_source::{Names, Rule, Wait};
 pub use titles::unknown_in;
+pub use wanted::EVENTS;
 pub use whole::{Beside, Compiled};

@@ -1,13 +1,13 @@
 //! Which argument of a start is of another kind than its program wants.
 
 use crate::calls::takes_list;
+use crate::other_kinds::is_number;
 use crate::second_uses::line_of_second_use;
-use crate::spots::Spot;
+use crate::spots::{Spot, behind, spelled};
 use std::alloc::{AllocError, Global};
 use stm_explain::Said;
-use stm_program::Operator;
 use stm_source::{Kind, kinds_wanted};
-use stm_tokens::{Symbol, Token, TokenKind};
+use stm_tokens::Token;
 
 /// An argument of another kind than is wanted.
 #[derive(Clone, Copy)]
@@ -16,17 +16,6 @@ struct Misfit {
     number: usize,
     /// Whether a number is wanted there, and not a text.
     wants_number: bool,
-    /// Whether no argument behind it is one.
-    is_last: bool,
-}
-
-/// Whether an argument that begins with this token is a number; nothing where none begins there.
-fn is_number(kind: &TokenKind) -> Option<bool> {
-    match kind {
-        TokenKind::Text(_) => Some(false),
-        TokenKind::Number(_) | TokenKind::Symbol(Symbol::Arithmetic(Operator::Sub)) => Some(true),
-        _ => None,
-    }
 }
 
 /// Whether a number is wanted in a place, and not a text; nothing where either may stand there.
@@ -38,86 +27,50 @@ fn wants_number(kinds: &[Kind], place: usize) -> Option<bool> {
     }
 }
 
-/// The first misfit, where the argument of this place is one behind those found before.
-fn with_misfit(found: Option<Misfit>, place: usize, wants_number: bool) -> Misfit {
-    match found {
-        Some(first) => Misfit {
-            number: first.number,
-            wants_number: first.wants_number,
-            is_last: false,
-        },
-        None => Misfit {
-            number: place.saturating_add(1),
-            wants_number,
-            is_last: true,
-        },
-    }
-}
-
-/// The first argument among these tokens, behind their bracket, that is of another kind than is wanted.
-fn first_misfit(tokens: &[Token], kinds: &[Kind]) -> Option<Misfit> {
-    let mut place = 0usize;
-    let mut found: Option<Misfit> = None;
+/// The arguments among these tokens, behind their bracket, that are of another kind than is wanted.
+fn misfits_in(alloc: Global, tokens: &[Token], kinds: &[Kind]) -> Result<Vec<Misfit>, AllocError> {
+    let mut misfits = Vec::new(alloc);
+    let mut number = 1usize;
     for token in tokens {
-        if token.kind.is_symbol(Symbol::RightParenthesis) {
-            return found;
+        match spelled(token) {
+            ")" => return Ok(misfits),
+            "," => number = number.saturating_add(1),
+            _ => {}
         }
-        if token.kind.is_symbol(Symbol::Comma) {
-            place = place.saturating_add(1);
-        }
-        if let (Some(is), Some(wanted)) = (is_number(&token.kind), wants_number(kinds, place)) {
-            if is != wanted {
-                found = Some(with_misfit(found, place, wanted));
+        if let Some(wants_number) = wants_number(kinds, number.saturating_sub(1)) {
+            if is_number(Some(token)) == Some(!wants_number) {
+                misfits.push(Misfit {
+                    number,
+                    wants_number,
+                })?;
             }
         }
     }
-    found
-}
-
-/// What the arguments of a program have to be that stands in a source before a byte.
-fn kinds_before(
-    alloc: Global,
-    source: &[u8],
-    at: usize,
-    name: &str,
-) -> Result<Vec<Kind>, AllocError> {
-    match source.get(..at) {
-        Some(front) => {
-            let kinds = kinds_wanted(alloc, front, name)?;
-            Ok(kinds.into_vec())
-        }
-        None => Ok(Vec::new(alloc)),
-    }
+    Ok(misfits)
 }
 
 /// What is said of an argument that is of another kind than is wanted, and in which line, where that is known.
-fn misfit_words(
-    alloc: Global,
-    name: &str,
-    misfit: Misfit,
-    line: Option<usize>,
-) -> Result<Option<String>, AllocError> {
+fn misfit_words(alloc: Global, name: &str, misfit: Misfit, line: Option<usize>) -> Said {
     let number = misfit.number;
     let words = if misfit.wants_number {
         "a text, where the program needs a number"
     } else {
         "a number, where the program needs a text"
     };
-    let said = match line {
-        Some(line) => format!(in alloc; "argument {number} of {name} is {words}, in line {line}")?,
-        None => format!(in alloc; "argument {number} of {name} is {words}")?,
-    };
-    Ok(Some(said))
+    match line {
+        Some(line) => format!(in alloc; "argument {number} of {name} is {words}, in line {line}"),
+        None => format!(in alloc; "argument {number} of {name} is {words}"),
+    }
 }
 
 /// What is said of a program that cannot be started with these arguments, none of which is of another kind than the first place that it stands in wants.
-fn both_words(alloc: Global, source: &[u8], spot: Spot<'_>, name: &str) -> Said {
+fn both_words(alloc: Global, spot: Spot<'_>, name: &str) -> Said {
     if takes_list(spot.before, name) {
         return format!(in alloc;
             "{name} cannot be started with these arguments: the last ones are of two kinds, or one of them is wanted as a text and as a number"
         );
     }
-    match line_of_second_use(alloc, source, spot, name)? {
+    match line_of_second_use(alloc, spot, name)? {
         Some(line) => format!(in alloc;
             "{name} cannot be started with these arguments: one is wanted as a text, and in line {line} as a number: num_of(TEXT) makes a number of it there"
         ),
@@ -127,72 +80,36 @@ fn both_words(alloc: Global, source: &[u8], spot: Spot<'_>, name: &str) -> Said 
     }
 }
 
-/// The line in which a program wants the other kind of an argument; nothing, where that is not known, or another argument is a misfit, too.
-fn line_of_misfit(
-    alloc: Global,
-    source: &[u8],
-    spot: Spot<'_>,
-    name: &str,
-    misfit: Misfit,
-) -> Result<Option<usize>, AllocError> {
-    if misfit.is_last {
-        line_of_second_use(alloc, source, spot, name)
-    } else {
-        Ok(None)
-    }
-}
-
-/// What is said of the name of a program that is started, with which argument it cannot be; nothing of other names.
-fn said_of_name(
-    alloc: Global,
-    source: &[u8],
-    spot: Spot<'_>,
-) -> Result<Option<String>, AllocError> {
-    let (Some(start), Some(TokenKind::Name(name))) = (spot.before.last(), spot.kind()) else {
-        return Ok(None);
+/// What is said of the name of a program that is started, with which argument it cannot be. The line in which the program wants another kind is said of one
+/// that is the only such argument.
+fn said_of_name(alloc: Global, spot: Spot<'_>, name: &str) -> Said {
+    let start = match spot.before.last() {
+        Some(start) => start.at,
+        None => 0,
     };
-    if !start.kind.is_named("start") {
-        return Ok(None);
-    }
-    let behind = spot.from.get(1..).unwrap_or(&[]);
-    let kinds = kinds_before(alloc, source, start.at, name.as_str())?;
-    match first_misfit(behind, kinds.as_slice()) {
-        Some(misfit) => {
-            let line = line_of_misfit(alloc, source, spot, name.as_str(), misfit)?;
-            misfit_words(alloc, name.as_str(), misfit, line)
+    let kinds = kinds_wanted(alloc, spot.between(0, start).as_bytes(), name)?.into_vec();
+    let misfits = misfits_in(alloc, behind(spot.from, 1), kinds.as_slice())?;
+    match misfits.as_slice() {
+        [] => both_words(alloc, spot, name),
+        [misfit] => {
+            let line = line_of_second_use(alloc, spot, name)?;
+            misfit_words(alloc, name, *misfit, line)
         }
-        None => Ok(Some(both_words(alloc, source, spot, name.as_str())?)),
-    }
-}
-
-/// The program to whose start an argument belongs, and the place of the argument.
-fn start_around(spot: Spot<'_>) -> Option<(&str, usize)> {
-    let call = spot.call()?;
-    let (Some(before), TokenKind::Name(name)) = (call.before, call.word) else {
-        return None;
-    };
-    if before.is_named("start") {
-        Some((name.as_str(), call.values))
-    } else {
-        None
+        [misfit, ..] => misfit_words(alloc, name, *misfit, None),
     }
 }
 
 /// What is said of a start whose argument is of another kind than its program wants, at the name of the program or at the argument; nothing elsewhere.
-pub(crate) fn said_of_start(
-    alloc: Global,
-    source: &[u8],
-    spot: Spot<'_>,
-) -> Result<Option<String>, AllocError> {
-    if let (Some((name, place)), Some(kind)) = (start_around(spot), spot.kind()) {
-        let number = place.saturating_add(1);
-        let wants_number = is_number(kind) == Some(false);
+pub(crate) fn said_of_start(alloc: Global, spot: Spot<'_>) -> Result<Option<String>, AllocError> {
+    if spot.call.before == "start" {
         let misfit = Misfit {
-            number,
-            wants_number,
-            is_last: false,
+            number: spot.call.values.saturating_add(1),
+            wants_number: is_number(spot.from.first()) == Some(false),
         };
-        return misfit_words(alloc, name, misfit, None);
+        return Ok(Some(misfit_words(alloc, spot.call.word, misfit, None)?));
     }
-    said_of_name(alloc, source, spot)
+    if spot.back(0) == "start" && !spot.name().is_empty() {
+        return Ok(Some(said_of_name(alloc, spot, spot.name())?));
+    }
+    Ok(None)
 }

@@ -1,17 +1,20 @@
 //! The faults of a source behind its first one: those of what is left where the line of each fault is left out, if it has whole statements, and else the part.
 //!
 //! A part begins in the first column, with a word that begins an event, a program, a rule or a definition. Of one whose fault stands in braces the head stays,
-//! so that it can be named.
+//! so that it can be named. What may be wrong only since something was left out is not said.
 
-use crate::kept::between;
-use crate::wanted::EVENTS;
+use crate::explaining::words_at;
+use crate::fault::position_in;
+use crate::items::between;
+use crate::spots::{Place, Spot, spot_at};
+use crate::wanted::{EVENTS, begins_anew_at};
 use std::alloc::{AllocError, Global};
 use stm_explain::Said;
 use stm_source::{BadSource, SourceCause, SourceError, read_source};
-use stm_tokens::{Token, TokenKind, tokens_of};
+use stm_tokens::{Position, tokens_of};
 
 /// How many faults behind the first one are looked for.
-pub(crate) const MOST_MORE: usize = 9;
+const MOST_MORE: usize = 9;
 
 /// At most so often a source is read again for them.
 const MOST_READS: usize = 18;
@@ -24,22 +27,29 @@ const START: &str = "start";
 
 const EMPTY_START: &str = "start{}";
 
-/// A source of which parts are left out, and the next fault in it.
-#[derive(Drop)]
-pub(crate) struct Rest {
-    /// The text, in which spaces stand for what is left out.
-    pub(crate) text: String,
-    /// What was left out and may have been named elsewhere.
-    gone: String,
-    /// How often it may be read again.
-    reads: usize,
-}
-
-/// A part of a source: from one byte to another.
+/// What is left out of a text: what stands from one byte to another, and the sign that comes in its place.
 #[derive(Clone, Copy)]
-struct Part {
+struct Cut {
     from: usize,
     to: usize,
+    sign: &'static str,
+}
+
+const NO_CUT: Cut = Cut {
+    from: 0,
+    to: 0,
+    sign: "",
+};
+
+/// A source of which parts are left out.
+#[derive(Drop)]
+struct Rest {
+    /// The text, in which spaces stand for what is left out.
+    text: String,
+    /// What was left out and may have been named elsewhere.
+    gone: String,
+    /// What was left out last.
+    last: Cut,
 }
 
 /// Whether a part begins with a line.
@@ -52,60 +62,46 @@ fn begins_part(line: &str) -> bool {
     false
 }
 
-/// The part of a text in which a byte stands.
-fn part_at(text: &str, at: usize) -> Part {
+/// The part of a text in which a byte stands: from one byte to another.
+fn part_at(text: &str, at: usize) -> (usize, usize) {
     let mut from = 0usize;
     let mut begin = 0usize;
     for line in text.split('\n') {
         if begins_part(line) && begin > at {
-            return Part { from, to: begin };
+            return (from, begin);
         }
         if begins_part(line) {
             from = begin;
         }
         begin = begin.saturating_add(line.len()).saturating_add(1);
     }
-    Part {
-        from,
-        to: text.len(),
-    }
+    (from, text.len())
 }
 
-/// The line in which a byte stands.
-fn line_at(text: &str, at: usize) -> Part {
+/// The line in which a byte stands: from one byte to another.
+fn line_at(text: &str, at: usize) -> (usize, usize) {
     let from = match between(text, 0, at).rsplit_once('\n') {
         Some((front, _)) => front.len().saturating_add(1),
         None => 0,
     };
-    let length = match between(text, at, text.len()).split_once('\n') {
-        Some((rest, _)) => rest.len(),
-        None => text.len().saturating_sub(at),
+    let to = match between(text, at, text.len()).split_once('\n') {
+        Some((rest, _)) => at.saturating_add(rest.len()),
+        None => text.len(),
     };
-    Part {
-        from,
-        to: at.saturating_add(length),
-    }
+    (from, to)
 }
 
-/// What a bracket adds to and takes from those that are open; none, where one closes that was not opened.
-fn open_after(open: usize, byte: u8) -> Option<usize> {
-    match byte {
-        b'{' | b'(' => Some(open.saturating_add(1)),
-        b'}' | b')' => open.checked_sub(1),
-        _ => Some(open),
-    }
-}
-
-/// Whether a line opens as many brackets as it closes, none of them before it was opened.
-fn is_balanced(line: &str) -> bool {
+/// How many brackets a text leaves open; none, where it closes one that it has not opened.
+fn left_open(text: &str) -> Option<usize> {
     let mut open = 0usize;
-    for byte in line.as_bytes() {
-        match open_after(open, *byte) {
-            Some(more) => open = more,
-            None => return false,
-        }
+    for byte in text.as_bytes() {
+        open = match *byte {
+            b'{' | b'(' => open.saturating_add(1),
+            b'}' | b')' => open.checked_sub(1)?,
+            _ => open,
+        };
     }
-    open == 0
+    Some(open)
 }
 
 /// Whether a byte can be the last one of a statement.
@@ -143,59 +139,62 @@ fn closes_all(text: &str) -> bool {
     open == 0
 }
 
-/// Whether a line of a part of a text has whole statements: none goes on into it, and none behind it.
-fn is_whole(text: &str, part: Part, line: Part) -> bool {
-    let words = between(text, line.from, line.to).trim();
-    is_balanced(words)
-        && is_between_words(words)
-        && closes_all(between(text, part.from, line.from))
-        && begins_anew(between(text, line.to, text.len()))
+/// Whether a line has whole statements, by what of its part stands before it, and what stands behind it: none goes on into it, and none behind it.
+fn is_whole(before: &str, line: &str, behind: &str) -> bool {
+    left_open(line) == Some(0)
+        && is_between_words(line)
+        && closes_all(before)
+        && begins_anew(behind)
 }
 
-/// What stays of a part with a fault so many bytes behind its beginning, and what may have been named elsewhere of that which does not.
-fn parted(part: &str, fault: usize) -> (&str, &'static str, &str) {
-    if part.starts_with(START) && part.len() > EMPTY_START.len() {
-        return ("", EMPTY_START, part);
-    }
-    match part.split_once('{') {
-        Some((head, _)) if head.len() < fault => (head, "{}", ""),
-        Some((head, _)) => ("", "", head),
-        None => ("", "", part),
-    }
-}
-
-/// What is left out of a text.
-#[derive(Clone, Copy)]
-struct Cut<'a> {
-    /// Where it stands.
-    part: Part,
-    /// The front of it that stays, and what stands for the rest.
-    head: &'a str,
-    sign: &'static str,
-    /// What of it may have been named elsewhere.
-    gone: &'a str,
-}
-
-/// What is left out for a fault at a byte: its line, where that has whole statements and does not begin a part, else the part in which it stands.
-fn cut_at(text: &str, at: usize) -> Cut<'_> {
-    let part = part_at(text, at);
-    let line = line_at(text, at);
-    if part.from < line.from && is_whole(text, part, line) {
+/// What is left out for a fault: its line, where that has whole statements, does not begin a part, and has not one thing too many, else the part in which it
+/// stands, of which the head stays before braces with the fault.
+fn cut_at(text: &str, bad: BadSource) -> Cut {
+    let at = bad.at;
+    let (part, to) = part_at(text, at);
+    let (line, end) = line_at(text, at);
+    let words = between(text, line, end).trim();
+    let is_whole = is_whole(
+        between(text, part, line),
+        words,
+        between(text, end, text.len()),
+    );
+    if part < line && is_whole && bad.cause != SourceCause::TooMany {
         return Cut {
-            part: line,
-            head: "",
+            from: line,
+            to: end,
             sign: "",
-            gone: between(text, line.from, line.to),
         };
     }
-    let within = at.saturating_sub(part.from);
-    let (head, sign, gone) = parted(between(text, part.from, part.to), within);
-    Cut {
-        part,
-        head,
-        sign,
-        gone,
+    let whole = between(text, part, to);
+    let head = match whole.split_once('{') {
+        Some((head, _)) => part.saturating_add(head.len()),
+        None => to,
+    };
+    let (from, sign) = if whole.starts_with(START) && whole.len() > EMPTY_START.len() {
+        (part, EMPTY_START)
+    } else if head < at {
+        (head, "{}")
+    } else {
+        (part, "")
+    };
+    Cut { from, to, sign }
+}
+
+/// Adds to a text what is left out and may have been named elsewhere: what stands before its braces and behind them in their last line, of a start all.
+fn push_gone(gone: &mut String, left_out: &str) -> Result<(), AllocError> {
+    let head = match left_out.split_once('{') {
+        Some((head, _)) if !left_out.starts_with(START) => head,
+        _ => left_out,
+    };
+    let behind = match left_out.rsplit_once('}') {
+        Some((_, behind)) => behind.lines().next().unwrap_or(""),
+        None => "",
+    };
+    for text in [" ", head, " ", behind] {
+        gone.push_str(text)?;
     }
+    Ok(())
 }
 
 /// Adds spaces in the place of bytes, and their line feeds.
@@ -210,26 +209,15 @@ fn push_blank(out: &mut String, bytes: &[u8]) -> Result<(), AllocError> {
     Ok(())
 }
 
-/// A text without a part, in whose place stands this, of which the second is not longer than what it stands for.
-fn without(alloc: Global, text: &str, part: Part, head: &str, sign: &str) -> Said {
+/// A text without what is left out, in whose place stands its sign, which is not longer.
+fn without(alloc: Global, text: &str, cut: Cut) -> Said {
     let mut out = String::new(alloc);
-    out.push_str(between(text, 0, part.from))?;
-    out.push_str(head)?;
-    out.push_str(sign)?;
-    let blank = text.as_bytes().get(out.len()..part.to).unwrap_or(&[]);
+    out.push_str(between(text, 0, cut.from))?;
+    out.push_str(cut.sign)?;
+    let blank = text.as_bytes().get(out.len()..cut.to).unwrap_or(&[]);
     push_blank(&mut out, blank)?;
-    out.push_str(between(text, part.to, text.len()))?;
+    out.push_str(between(text, cut.to, text.len()))?;
     Ok(out)
-}
-
-/// Whether a text has this word.
-fn has_word(text: &str, word: &str) -> bool {
-    for known in text.split(is_sign) {
-        if known == word {
-            return true;
-        }
-    }
-    false
 }
 
 /// Whether a character cannot stand in a name.
@@ -237,95 +225,105 @@ fn is_sign(character: char) -> bool {
     !character.is_ascii_alphanumeric() && character != '_'
 }
 
-/// The kind of the token that begins at a byte.
-fn token_at(tokens: &[Token], at: usize) -> Option<&TokenKind> {
-    let token = tokens.iter().find(|token| token.at >= at)?;
-    Some(&token.kind)
+/// Whether a token stands directly behind what was left out, and is not wanted there since something before that goes on.
+fn is_behind_cut(spot: Spot<'_>, cut: Cut) -> bool {
+    match spot.before.last() {
+        Some(token) => token.at < cut.from && cut.to <= spot.at && !begins_anew_at(spot),
+        None => false,
+    }
 }
 
 impl Rest {
-    /// A whole source.
-    pub(crate) fn new(alloc: Global, source: &str) -> Result<Rest, AllocError> {
-        Ok(Rest {
-            text: String::from_str(alloc, source)?,
-            gone: String::new(alloc),
-            reads: if source.len() > LONGEST {
-                0
-            } else {
-                MOST_READS
-            },
-        })
+    /// Whether a fault may be there only since something was left out: it names that, stands directly behind it, or is of one more of what there was too many.
+    fn has_made(&self, spot: Spot<'_>, cause: SourceCause) -> bool {
+        let name = spot.name();
+        match cause {
+            _ if self.gone.is_empty() => false,
+            SourceCause::Name if name.is_empty() => true,
+            SourceCause::Name if self.gone.as_str().split(is_sign).any(|word| word == name) => true,
+            SourceCause::Name | SourceCause::Syntax => is_behind_cut(spot, self.last),
+            SourceCause::TooMany => spot.place == Place::Events,
+            _ => false,
+        }
     }
 
-    /// Leaves out the line of a byte, where it has whole statements and does not begin a part, else the part in which it stands.
-    fn leave_out(&mut self, alloc: Global, at: usize) -> Result<(), AllocError> {
+    /// What is said of a fault of what is left; nothing where it may be there only since something was left out.
+    fn words(&self, alloc: Global, bad: BadSource) -> Result<Option<String>, AllocError> {
         let text = self.text.as_str();
-        let cut = cut_at(text, at);
-        self.gone.push_str(" ")?;
-        self.gone.push_str(cut.gone)?;
-        self.text = without(alloc, text, cut.part, cut.head, cut.sign)?;
+        let tokens = tokens_of(alloc, text.as_bytes())?;
+        let spot = spot_at(text, tokens.as_slice(), bad.at);
+        if self.has_made(spot, bad.cause) {
+            return Ok(None);
+        }
+        let words = words_at(alloc, spot, bad.cause)?;
+        Ok(Some(words))
+    }
+
+    /// Leaves out that in which a fault stands.
+    fn leave_out(&mut self, alloc: Global, bad: BadSource) -> Result<(), AllocError> {
+        let text = self.text.as_str();
+        let cut = cut_at(text, bad);
+        push_gone(&mut self.gone, between(text, cut.from, cut.to))?;
+        self.text = without(alloc, text, cut)?;
+        self.last = cut;
         Ok(())
     }
 
     /// The first fault of what is left, where it stands behind a byte.
     fn fault_behind(&self, alloc: Global, at: usize) -> Result<Option<BadSource>, AllocError> {
         match read_source(alloc, self.text.as_bytes()) {
-            Ok(scenario) => {
-                drop(scenario);
-                Ok(None)
-            }
             Err(SourceError::Bad(bad)) if bad.at > at => Ok(Some(bad)),
-            Err(SourceError::Bad(_)) => Ok(None),
             Err(SourceError::OutOfMemory) => Err(AllocError),
+            Ok(_) | Err(SourceError::Bad(_)) => Ok(None),
         }
     }
+}
 
-    /// Whether a fault is there since what it names was left out.
-    fn is_of_what_is_gone(&self, alloc: Global, bad: BadSource) -> Result<bool, AllocError> {
-        if bad.cause != SourceCause::Name {
-            return Ok(false);
+/// Adds a line for each fault behind this one in what is left of a source of a name.
+fn push_more(
+    alloc: Global,
+    name: &str,
+    source: &str,
+    rest: &mut Rest,
+    bad: BadSource,
+    words: &mut String,
+) -> Result<(), AllocError> {
+    let mut last = bad;
+    let mut left = MOST_MORE;
+    for _turn in 0..MOST_READS {
+        rest.leave_out(alloc, last)?;
+        let Some(next) = rest.fault_behind(alloc, last.at)? else {
+            return Ok(());
+        };
+        if let Some(said) = rest.words(alloc, next)? {
+            let Position { line, column } = position_in(source.as_bytes(), next.at);
+            let more = format!(in alloc; "\n{name}:{line}:{column}: {said}")?;
+            words.push_str(more.as_str())?;
+            left = left.saturating_sub(1);
         }
-        let tokens = tokens_of(alloc, self.text.as_bytes())?;
-        let is_gone = self.has_lost(tokens.as_slice(), bad.at);
-        drop(tokens);
-        Ok(is_gone)
-    }
-
-    /// Whether the name that begins at a byte may have been that of something which was left out.
-    fn has_lost(&self, tokens: &[Token], at: usize) -> bool {
-        match token_at(tokens, at) {
-            Some(TokenKind::Name(name)) => has_word(self.gone.as_str(), name.as_str()),
-            _ => false,
+        if left == 0 {
+            return Ok(());
         }
+        last = next;
     }
+    Ok(())
+}
 
-    /// The first fault behind this one of what is left without its part.
-    fn fault_without(
-        &mut self,
-        alloc: Global,
-        bad: BadSource,
-    ) -> Result<Option<BadSource>, AllocError> {
-        self.reads = self.reads.saturating_sub(1);
-        self.leave_out(alloc, bad.at)?;
-        self.fault_behind(alloc, bad.at)
+/// What is said of the first fault of a source of a name, and behind it lines for others.
+pub(crate) fn words_with_more(alloc: Global, name: &str, source: &[u8], bad: BadSource) -> Said {
+    let source = str::from_utf8(source).unwrap_or("");
+    let mut rest = Rest {
+        text: String::from_str(alloc, source)?,
+        gone: String::new(alloc),
+        last: NO_CUT,
+    };
+    let mut words = match rest.words(alloc, bad)? {
+        Some(words) => words,
+        None => String::new(alloc),
+    };
+    if source.len() <= LONGEST {
+        push_more(alloc, name, source, &mut rest, bad, &mut words)?;
     }
-
-    /// The next fault behind this one, where the part with this one is left out, and those of which it is.
-    pub(crate) fn next_behind(
-        &mut self,
-        alloc: Global,
-        bad: BadSource,
-    ) -> Result<Option<BadSource>, AllocError> {
-        let mut last = bad;
-        for _turn in 0..self.reads {
-            let Some(next) = self.fault_without(alloc, last)? else {
-                return Ok(None);
-            };
-            if !self.is_of_what_is_gone(alloc, next)? {
-                return Ok(Some(next));
-            }
-            last = next;
-        }
-        Ok(None)
-    }
+    drop(rest);
+    Ok(words)
 }

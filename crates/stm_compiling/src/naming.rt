@@ -1,11 +1,10 @@
 //! What is said of a name that cannot stand in its place.
 
-use crate::calls::{is_argument, is_lease, is_listed, is_parameter};
-use crate::explaining::is_comparison;
-use crate::spots::{Event, Place, Spot};
+use crate::calls::{is_argument, is_parameter};
+use crate::habits::first_said;
+use crate::spots::{Place, Spot, behind, is_comparison, last_from, spelled_at};
 use crate::wanted::is_behind_number_name;
-use stm_program::Operator;
-use stm_tokens::{Symbol, Token, TokenKind, Word};
+use stm_tokens::Token;
 
 /// What is said of a function that is none.
 pub(crate) const ANY_FUNCTION: &str =
@@ -57,190 +56,110 @@ fn said_of_known(name: &str) -> &'static str {
 
 /// The same of each name that stands in the place of a function.
 pub(crate) fn said_of_function(name: &str) -> &'static str {
-    let said = said_of_known(name);
-    if said.is_empty() {
-        return ANY_FUNCTION;
-    }
-    said
+    first_said(&[said_of_known(name), ANY_FUNCTION])
 }
 
 /// The same of each name that is called as a statement, or as an event.
 pub(crate) fn said_of_call(name: &str) -> &'static str {
-    let said = said_of_known(name);
-    if said.is_empty() {
-        return "a program is called by start alone";
-    }
-    said
+    first_said(&[said_of_known(name), "a program is called by start alone"])
 }
 
 /// Whether a name stands among those of the runners that a start waits for.
 pub(crate) fn is_awaited(spot: Spot<'_>) -> bool {
-    for token in spot.before.iter().rev() {
-        if token.kind.is_named("after") {
-            return true;
-        }
-        if token.kind.is_named("as") || token.kind.is_named("start") {
-            return false;
-        }
-    }
-    false
-}
-
-/// Whether a name is to be given to a program, to what stands beside the starts, or to a constant.
-fn is_of_a_program(spot: Spot<'_>) -> bool {
-    spot.is_behind_word(0, Word::Program)
-        || spot.is_behind_word(0, Word::Rule)
-        || spot.is_behind_word(0, Word::Finally)
-        || spot.is_behind_word(0, Word::Let)
+    spot.last_of(&["after", "as", "start"]) == "after"
 }
 
 /// Whether a place is in the value of a definition with parameters.
 fn is_in_definition(spot: Spot<'_>) -> bool {
-    for (index, token) in spot.before.iter().enumerate().rev() {
-        if token.kind.is_word(Word::Let) {
-            return match spot.before.get(index.saturating_add(2)) {
-                Some(behind) => behind.kind.is_symbol(Symbol::LeftParenthesis),
-                None => false,
-            };
-        }
-        if matches!(
-            token.kind,
-            TokenKind::Word(Word::Program | Word::Rule | Word::Finally)
-        ) {
-            return false;
-        }
-        if token.kind.is_named("start") || token.kind.is_symbol(Symbol::LeftBrace) {
-            return false;
-        }
-    }
-    false
+    let words = ["let", "program", "rule", "finally", "start", "{"];
+    let from = last_from(spot.before, &words);
+    spelled_at(from, 0) == "let" && spelled_at(from, 2) == "("
 }
 
 /// What is said of a name that stands outside of programs.
 fn said_in_event(spot: Spot<'_>) -> &'static str {
-    if spot.is_in_list() || spot.is_behind_word(2, Word::Let) {
-        return "is no constant above: an item is a text or a number as it stands, or the name of one";
-    }
-    if is_in_definition(spot) {
-        return "is no parameter, and no constant or definition above";
-    }
-    if spot.is_behind(0, "start") || spot.is_behind_symbol(0, Symbol::Assign) {
-        return "is no program above: program NAME(PARAMETER, ..) { .. } stands before what starts it";
-    }
-    if is_of_a_program(spot) {
-        return "cannot be given here: another one has this name, or it is one of v0 to v15";
-    }
-    if spot.is_behind(0, "watch") {
-        return "is no constant above: a watched key is a text in quotes, watch \"KEY\", or the name of one";
-    }
-    if spot.event() == Some(Event::Step) || is_awaited(spot) {
-        return "is no runner above: a runner has the name that its start gives it by as NAME, or its number";
-    }
-    if is_behind_number_name(spot) {
-        return "is no constant above: a number stands here, or the name of one";
-    }
-    "cannot be given here: another runner has this name, or it is one of v0 to v15, which are variables"
-}
-
-/// Whether the sign of an assignment stands behind a name.
-fn is_assigned(spot: Spot<'_>) -> bool {
-    match spot.next() {
-        Some(TokenKind::Symbol(symbol)) => matches!(
-            symbol,
-            Symbol::Assign | Symbol::AddAssign | Symbol::SubtractAssign | Symbol::ConcatenateAssign
-        ),
-        _ => false,
-    }
-}
-
-/// Whether the sign of a loop that counts stands behind a name.
-fn is_before_dots(spot: Spot<'_>) -> bool {
-    match spot.next() {
-        Some(kind) => kind.is_symbol(Symbol::Dots),
-        None => false,
-    }
-}
-
-/// Whether a comparison stands behind a name.
-fn is_before_comparison(spot: Spot<'_>) -> bool {
-    match spot.next() {
-        Some(TokenKind::Symbol(symbol)) => is_comparison(*symbol),
-        _ => false,
-    }
-}
-
-/// Whether a name that these tokens begin with is given to a list: by a `let` before it with a comma behind the first item, or as a last parameter.
-fn is_list_from(before: Option<&TokenKind>, from: &[Token]) -> bool {
-    match (before, from) {
-        (Some(TokenKind::Word(Word::Let)), [_, _, sign, _, comma, ..])
-            if sign.kind.is_symbol(Symbol::Arithmetic(Operator::Sub)) => {
-            comma.kind.is_symbol(Symbol::Comma)
+    match spot.back(0) {
+        _ if spot.is_in_list() || spot.back(2) == "let" => {
+            "is no constant above: an item is a text or a number as it stands, or the name of one"
         }
-        (Some(TokenKind::Word(Word::Let)), [_, _, _, comma, ..]) => {
-            comma.kind.is_symbol(Symbol::Comma)
+        _ if is_in_definition(spot) => "is no parameter, and no constant or definition above",
+        "start" | "=" => {
+            "is no program above: program NAME(PARAMETER, ..) { .. } stands before what starts it"
         }
-        (_, [_, dots, ..]) => dots.kind.is_symbol(Symbol::Dots),
-        _ => false,
+        "program" | "rule" | "finally" | "let" => {
+            "cannot be given here: another one has this name, or it is one of v0 to v15"
+        }
+        "watch" => {
+            "is no constant above: a watched key is a text in quotes, watch \"KEY\", or the name of one"
+        }
+        _ if spot.event == "step" || is_awaited(spot) => {
+            "is no runner above: a runner has the name that its start gives it by as NAME, or its number"
+        }
+        _ if is_behind_number_name(spot) => {
+            "is no constant above: a number stands here, or the name of one"
+        }
+        _ => {
+            "cannot be given here: another runner has this name, or it is one of v0 to v15, which are variables"
+        }
     }
+}
+
+/// Whether a name is given to a list by these tokens from the one before it on: by a `let` with a comma behind the first item, or as a last parameter.
+fn gives_list(from: &[Token], name: &str) -> bool {
+    let comma = if spelled_at(from, 3) == "-" { 5 } else { 4 };
+    let (sign, place) = match spelled_at(from, 0) {
+        "let" => (",", comma),
+        _ => ("..", 2),
+    };
+    spelled_at(from, 1) == name && spelled_at(from, place) == sign
 }
 
 /// Whether a name is given to a list above.
 fn is_list(spot: Spot<'_>) -> bool {
-    let Some(TokenKind::Name(name)) = spot.kind() else {
-        return false;
-    };
-    let mut before = None;
-    for (index, token) in spot.before.iter().enumerate() {
-        let (_, from) = spot.before.split_at(index);
-        if token.kind.is_named(name.as_str()) && is_list_from(before, from) {
-            return true;
-        }
-        before = Some(&token.kind);
-    }
-    false
+    let name = spot.name();
+    !name.is_empty()
+        && (0..spot.before.len()).any(|index| gives_list(behind(spot.before, index), name))
 }
 
 /// What is said of a name that stands in a program, or in its head.
 fn said_in_program(spot: Spot<'_>) -> &'static str {
-    if spot.is_item() && is_before_dots(spot) {
-        return "is no item, and a loop that counts begins at 0: for k in 0..TO - FROM max 100 { let i = FROM + k .. }";
+    match (spot.back(0), spot.ahead(1)) {
+        (_, "..") if spot.is_item() => {
+            "is no item, and a loop that counts begins at 0: for k in 0..TO - FROM max 100 { let i = FROM + k .. }"
+        }
+        _ if spot.is_item() => {
+            "is no item: those are texts and numbers as they stand, parameters, constants and lists, and no variables"
+        }
+        ("for", sign) if is_comparison(sign) => {
+            "is compared, and a loop has no condition: for NAME in 0..COUNT max 100 { .. }"
+        }
+        ("let" | "for", _) => {
+            "cannot be given here: it is the name of something in sight, or one of v0 to v15, which are never let and stand beside no other names"
+        }
+        _ if is_parameter(spot) => {
+            "cannot be given here: it is the name of something in sight, or one of v0 to v15"
+        }
+        _ if is_argument(spot) => "is no argument: those are texts and whole numbers",
+        _ if spot.call.word == "prefetch" => {
+            "is no key of the list: that is a text as it stands, or a parameter"
+        }
+        ("max", _) => "is no number of turns: that is a number as it stands, or a parameter",
+        _ if spot.call.word == "put" && spot.call.values > 1 => {
+            "is no lease: that is a number as it stands, or a parameter"
+        }
+        (_, "=" | "+=" | "-=" | "++=") => {
+            "is no variable in sight: a new one is let NAME = VALUE, and a parameter is not set"
+        }
+        _ if is_list(spot) => {
+            "is a list, which stands as an item of a for alone: for NAME in LIST"
+        }
+        _ => "is no variable and no parameter in sight",
     }
-    if spot.is_item() {
-        return "is no item: those are texts and numbers as they stand, parameters, constants and lists, and no variables";
-    }
-    if spot.is_behind_word(0, Word::For) && is_before_comparison(spot) {
-        return "is compared, and a loop has no condition: for NAME in 0..COUNT max 100 { .. }";
-    }
-    if spot.is_behind_word(0, Word::Let) || spot.is_behind_word(0, Word::For) {
-        return "cannot be given here: it is the name of something in sight, or one of v0 to v15, which are never let and stand beside no other names";
-    }
-    if is_parameter(spot) {
-        return "cannot be given here: it is the name of something in sight, or one of v0 to v15";
-    }
-    if is_argument(spot) {
-        return "is no argument: those are texts and whole numbers";
-    }
-    if is_listed(spot) {
-        return "is no key of the list: that is a text as it stands, or a parameter";
-    }
-    if spot.is_behind(0, "max") {
-        return "is no number of turns: that is a number as it stands, or a parameter";
-    }
-    if is_lease(spot) {
-        return "is no lease: that is a number as it stands, or a parameter";
-    }
-    if is_assigned(spot) {
-        return "is no variable in sight: a new one is let NAME = VALUE, and a parameter is not set";
-    }
-    if is_list(spot) {
-        return "is a list, which stands as an item of a for alone: for NAME in LIST";
-    }
-    "is no variable and no parameter in sight"
 }
 
 /// What is said of a name, behind it, in whose place none of that name can stand.
 pub(crate) fn said_of_place(spot: Spot<'_>) -> &'static str {
-    match spot.place() {
+    match spot.place {
         Place::Events => said_in_event(spot),
         _ => said_in_program(spot),
     }
@@ -248,11 +167,5 @@ pub(crate) fn said_of_place(spot: Spot<'_>) -> &'static str {
 
 /// Whether a name stands in the place of a function: in a program, with parentheses behind it.
 pub(crate) fn is_called(spot: Spot<'_>) -> bool {
-    if spot.place() == Place::Events {
-        return false;
-    }
-    match spot.next() {
-        Some(kind) => kind.is_symbol(Symbol::LeftParenthesis),
-        None => false,
-    }
+    spot.place != Place::Events && spot.ahead(1) == "("
 }

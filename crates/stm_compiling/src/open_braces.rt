@@ -1,22 +1,14 @@
 //! Which brace is open where a `}` is missing.
 
-use crate::fault::position_in;
-use crate::spots::{Spot, first_open};
+use crate::spots::{Spot, behind, first_open, spelled};
 use std::alloc::{AllocError, Global};
 use stm_explain::Said;
-use stm_tokens::{Position, Symbol, Token};
-
-/// The bytes at which a brace is opened and closed.
-#[derive(Clone, Copy)]
-struct Closed {
-    opened: usize,
-    closed: usize,
-}
+use stm_tokens::Position;
 
 /// How many blanks the line of a byte begins with, up to that byte.
-fn indentation(source: &[u8], at: usize) -> usize {
+fn indentation(spot: Spot<'_>, at: usize) -> usize {
     let mut blanks = 0usize;
-    for byte in source.get(..at).unwrap_or(&[]).iter().rev() {
+    for byte in spot.between(0, at).as_bytes().iter().rev() {
         match *byte {
             b'\n' => return blanks,
             b' ' | b'\t' => blanks = blanks.saturating_add(1),
@@ -26,40 +18,32 @@ fn indentation(source: &[u8], at: usize) -> usize {
     blanks
 }
 
-/// The first brace among these tokens that is closed in a line which begins further left or right than its own: the one that closes it may be meant for another.
-fn misfit(alloc: Global, source: &[u8], tokens: &[Token]) -> Result<Option<Closed>, AllocError> {
+/// The bytes at which the first brace is opened and closed, of those behind the first bracket that is open before a place, which is closed in a line that
+/// begins further left or right than its own: the one that closes it may be meant for another.
+fn misfit(alloc: Global, spot: Spot<'_>) -> Result<Option<(usize, usize)>, AllocError> {
     let mut open = Vec::new(alloc);
-    for token in tokens {
-        let closed = token.at;
-        if token.kind.is_symbol(Symbol::LeftBrace) {
-            open.push(closed)?;
-        }
-        if token.kind.is_symbol(Symbol::RightBrace) {
-            if let Some(opened) = open.pop() {
-                if indentation(source, opened) != indentation(source, closed) {
-                    return Ok(Some(Closed { opened, closed }));
+    let first = first_open(spot.before).unwrap_or(spot.before.len());
+    for token in behind(spot.before, first) {
+        match spelled(token) {
+            "{" => open.push(token.at)?,
+            "}" => if let Some(opened) = open.pop() {
+                if indentation(spot, opened) != indentation(spot, token.at) {
+                    return Ok(Some((opened, token.at)));
                 }
-            }
+            },
+            _ => {}
         }
     }
     Ok(None)
 }
 
-/// The tokens before a place from the first bracket on that is open there.
-fn tokens_open(spot: Spot<'_>) -> &[Token] {
-    match first_open(spot.before) {
-        Some(first) => spot.before.get(first..).unwrap_or(&[]),
-        None => &[],
-    }
-}
-
 /// What is said of a brace that is closed by one which may be meant for another.
-fn misfit_words(alloc: Global, source: &[u8], misfit: Option<Closed>) -> Said {
-    let Some(Closed { opened, closed }) = misfit else {
+fn misfit_words(alloc: Global, spot: Spot<'_>) -> Said {
+    let Some((opened, closed)) = misfit(alloc, spot)? else {
         return Ok(String::new(alloc));
     };
-    let opened = position_in(source, opened);
-    let closed = position_in(source, closed);
+    let opened = spot.position(opened);
+    let closed = spot.position(closed);
     let (from, from_column) = (opened.line, opened.column);
     let (to, to_column) = (closed.line, closed.column);
     let (left, right) = ("{", "}");
@@ -69,13 +53,12 @@ fn misfit_words(alloc: Global, source: &[u8], misfit: Option<Closed>) -> Said {
 }
 
 /// Which brace is open before a place, and whether one is closed in it by one that may be meant for it; nothing, where none is open outside of parentheses.
-pub(crate) fn said_of_open(alloc: Global, source: &[u8], spot: Spot<'_>) -> Said {
+pub(crate) fn said_of_open(alloc: Global, spot: Spot<'_>) -> Said {
     let Some(at) = spot.open_brace() else {
         return Ok(String::new(alloc));
     };
-    let misfit = misfit(alloc, source, tokens_open(spot))?;
-    let misfit = misfit_words(alloc, source, misfit)?;
-    let Position { line, column } = position_in(source, at);
+    let misfit = misfit_words(alloc, spot)?;
+    let Position { line, column } = spot.position(at);
     let left = "{";
     format!(in alloc; "; the {left} at {line}:{column} is open{misfit}")
 }

@@ -7,21 +7,16 @@ use stm_events::WorldEvent;
 use stm_history::Sequence;
 use stm_marks::place_of;
 use stm_source::{
-    MarkedProgram, MarkedPrograms, MarkedRule, MarkedStart, Scenario, SourceError,
-    read_marked_programs, read_source,
+    MarkedProgram, MarkedPrograms, MarkedRule, Scenario, SourceError, read_marked_programs,
+    read_source,
 };
+use stm_tokens::Position;
 
 /// What stands before the place of a node in a line that explains a run.
 const AT: &str = " at ";
 
 /// What stands behind the place of a line, and behind that of a node.
 const BEHIND: &str = ": ";
-
-/// What stands before the name of a rule, and of a final, that comes to a fault.
-const RULES: [&str; 2] = ["the rule ", "the final "];
-
-/// What stands before the number of a runner whose program comes to a fault.
-const RUNNER: &str = "the program of runner ";
 
 /// A source under its name, and where the statements of its programs begin.
 #[derive(Drop)]
@@ -52,32 +47,26 @@ fn programs_of(alloc: Global, text: &str) -> Result<MarkedPrograms, AllocError> 
     }
 }
 
-/// The program of the start that is an element of the scenario, which may be one of several of its names.
-fn program_of(starts: &[MarkedStart], element: usize) -> Option<&MarkedProgram> {
-    let start = starts.iter().rev().find(|start| start.element <= element)?;
-    Some(&start.program)
-}
-
 /// The program of the rule or the final of this name.
 fn program_of_rule<'a>(rules: &'a [MarkedRule], name: &str) -> Option<&'a MarkedProgram> {
     let rule = rules.iter().find(|rule| rule.name.as_str() == name)?;
     Some(&rule.program)
 }
 
-/// The name of the rule or the final that a line is about.
+/// The name of the rule or the final that a line is about, which comes to a fault.
 fn rule_in(line: &str) -> Option<&str> {
-    for front in RULES {
-        if let Some(behind) = line.strip_prefix(front) {
-            let (name, _) = behind.split_once(' ')?;
-            return Some(name);
-        }
-    }
-    None
+    let behind = line
+        .strip_prefix("the rule ")
+        .or(line.strip_prefix("the final "))?;
+    let (name, _) = behind.split_once(' ')?;
+    Some(name)
 }
 
-/// The number of the runner that a line is about.
+/// The number of the runner that a line is about, whose program comes to a fault.
 fn runner_in(line: &str) -> Option<u64> {
-    let (number, _) = line.strip_prefix(RUNNER)?.split_once(' ')?;
+    let (number, _) = line
+        .strip_prefix("the program of runner ")?
+        .split_once(' ')?;
     number.parse::<u64>().ok()
 }
 
@@ -91,20 +80,17 @@ fn begins_run(event: &WorldEvent) -> bool {
 
 /// The index of a runner's start among the elements of a scenario's JSON.
 fn element_of(scenario: &Scenario, runner: u64) -> Option<usize> {
-    let mut element = if scenario.opening.is_some() {
-        1usize
-    } else {
-        0
-    };
     let mut begun = 0u64;
-    for event in scenario.events.as_slice() {
+    for (index, event) in scenario.events.as_slice().iter().enumerate() {
         if begins_run(event) {
             begun = begun.saturating_add(1);
             if begun == runner {
-                return Some(element);
+                return Some(match scenario.opening {
+                    Some(_) => index.saturating_add(1),
+                    None => index,
+                });
             }
         }
-        element = element.saturating_add(1);
     }
     None
 }
@@ -137,18 +123,18 @@ fn parts_of(words: &str) -> Option<(&str, &str, &str)> {
     Some((head, pointer, reason))
 }
 
+/// The same in a line under a name.
+fn parts_under<'a>(line: &'a str, name: &str) -> Option<(&'a str, &'a str, &'a str)> {
+    let (_, words) = line.strip_prefix(name)?.split_once(BEHIND)?;
+    parts_of(words)
+}
+
 /// The indices of a node in a line that explains a run, `WORDS at POINTER: REASON`; none, where it says no place of a node.
 pub fn indices_in(alloc: Global, line: &str) -> Result<Vec<usize>, AllocError> {
     match parts_of(line) {
         Some((_, pointer, _)) => indices_of(alloc, pointer),
         None => Ok(Vec::new(alloc)),
     }
-}
-
-/// The same in a line under a name.
-fn parts_under<'a>(line: &'a str, name: &str) -> Option<(&'a str, &'a str, &'a str)> {
-    let (_, words) = line.strip_prefix(name)?.split_once(BEHIND)?;
-    parts_of(words)
 }
 
 /// Where in the source the node begins to which these indices lead in a program's JSON.
@@ -185,53 +171,41 @@ impl<'a> SourcePlaces<'a> {
         })
     }
 
-    /// Where in the source the node begins to which these indices lead in the scenario's JSON.
-    fn place(&self, alloc: Global, indices: &[usize]) -> Result<Option<usize>, AllocError> {
-        let [element, 3, inner @ ..] = indices else {
-            return Ok(None);
-        };
-        self.place_in_start(alloc, *element, inner)
+    /// The program of the start that is an element of the scenario, which may be one of several of its names.
+    fn started(&self, element: usize) -> Option<&MarkedProgram> {
+        let starts = self.programs.starts.as_slice();
+        let start = starts.iter().rev().find(|start| start.element <= element)?;
+        Some(&start.program)
     }
 
-    /// Where in the source the node begins to which these indices lead in the program's JSON of a start, which is an element of the scenario's.
-    fn place_in_start(
-        &self,
-        alloc: Global,
-        element: usize,
-        indices: &[usize],
-    ) -> Result<Option<usize>, AllocError> {
-        match program_of(self.programs.starts.as_slice(), element) {
-            Some(program) => place_in(alloc, program, indices),
-            None => Ok(None),
-        }
-    }
-
-    /// Where in the source the node begins to which these indices lead in the JSON of a rule.
-    fn place_in_rule(
-        &self,
-        alloc: Global,
-        name: &str,
-        indices: &[usize],
-    ) -> Result<Option<usize>, AllocError> {
+    /// The program of the rule of a name, or else the one that is started last.
+    fn named(&self, name: &str) -> Option<&MarkedProgram> {
         match program_of_rule(self.programs.rules.as_slice(), name) {
-            Some(program) => place_in(alloc, program, indices),
-            None => Ok(None),
+            Some(program) => Some(program),
+            None => {
+                let start = self.programs.starts.as_slice().last()?;
+                Some(&start.program)
+            }
         }
     }
 
-    /// The words of a run's fault, of which `head` stands before the place of its node and `reason` behind, at a byte of the source, and the line there.
-    fn placed_at(
+    /// The words of a run's fault, of which `head` stands before the place of its node, to which these indices lead in a program, and `reason` behind, with
+    /// that place in the source, and the line there.
+    fn placed_in(
         &self,
         alloc: Global,
-        at: Option<usize>,
+        program: Option<&MarkedProgram>,
+        indices: &[usize],
         head: &str,
         reason: &str,
     ) -> Result<Option<PlacedLine<'a>>, AllocError> {
-        let Some(at) = at else {
+        let Some(program) = program else {
             return Ok(None);
         };
-        let position = position_in(self.text.as_bytes(), at);
-        let (line, column) = (position.line, position.column);
+        let Some(at) = place_in(alloc, program, indices)? else {
+            return Ok(None);
+        };
+        let Position { line, column } = position_in(self.text.as_bytes(), at);
         let name = self.name;
         let words = format!(in alloc; "{name}:{line}:{column}: {head}: {reason}")?;
         Ok(Some(PlacedLine {
@@ -247,8 +221,12 @@ impl<'a> SourcePlaces<'a> {
             return Ok(None);
         };
         let indices = indices_of(alloc, pointer)?;
-        let at = self.place(alloc, indices.as_slice())?;
-        self.placed_at(alloc, at, head, reason)
+        match indices.as_slice() {
+            [element, 3, inner @ ..] => {
+                self.placed_in(alloc, self.started(*element), inner, head, reason)
+            }
+            _ => Ok(None),
+        }
     }
 }
 
@@ -264,8 +242,8 @@ pub fn placed_rule<'a>(
     };
     let places = SourcePlaces::of(alloc, name, text)?;
     let indices = indices_of(alloc, pointer)?;
-    let at = places.place_in_rule(alloc, rule, indices.as_slice())?;
-    places.placed_at(alloc, at, head, reason)
+    let program = program_of_rule(places.programs.rules.as_slice(), rule);
+    places.placed_in(alloc, program, indices.as_slice(), head, reason)
 }
 
 /// The same of a line `the program of runner NUMBER WORDS at POINTER: REASON`.
@@ -283,21 +261,13 @@ pub fn placed_runner<'a>(
     };
     let places = SourcePlaces::of(alloc, name, text)?;
     let indices = indices_of(alloc, pointer)?;
-    let at = places.place_in_start(alloc, element, indices.as_slice())?;
-    places.placed_at(alloc, at, head, reason)
-}
-
-/// The programs of a source of this text, with the line behind it that starts the program of a name, with these words as its arguments.
-fn programs_started(
-    alloc: Global,
-    text: &str,
-    program: &str,
-    words: &[String],
-) -> Result<MarkedPrograms, AllocError> {
-    let started = started(alloc, text.as_bytes(), program, words)?;
-    let programs = programs_of(alloc, str::from_utf8(started.as_slice()).unwrap_or(""));
-    drop(started);
-    programs
+    places.placed_in(
+        alloc,
+        places.started(element),
+        indices.as_slice(),
+        head,
+        reason,
+    )
 }
 
 /// The programs of a source of this text that has a rule of a name; of another, those with the line behind it that starts the program of that name, with
@@ -313,31 +283,10 @@ fn programs_with(
         return Ok(programs);
     }
     drop(programs);
-    programs_started(alloc, text, name, words)
-}
-
-/// The program of the rule of a name, or else the one that is started last.
-fn program_named<'a>(programs: &'a MarkedPrograms, name: &str) -> Option<&'a MarkedProgram> {
-    match program_of_rule(programs.rules.as_slice(), name) {
-        Some(program) => Some(program),
-        None => {
-            let start = programs.starts.as_slice().last()?;
-            Some(&start.program)
-        }
-    }
-}
-
-/// Where in the source the node begins to which these indices lead in the JSON of the rule of a name, or else of the program that is started last.
-fn place_named(
-    alloc: Global,
-    programs: &MarkedPrograms,
-    name: &str,
-    indices: &[usize],
-) -> Result<Option<usize>, AllocError> {
-    match program_named(programs, name) {
-        Some(program) => place_in(alloc, program, indices),
-        None => Ok(None),
-    }
+    let started = started(alloc, text.as_bytes(), name, words)?;
+    let programs = programs_of(alloc, str::from_utf8(started.as_slice()).unwrap_or(""));
+    drop(started);
+    programs
 }
 
 /// The same of a line `FAULT at POINTER: REASON` of a run of the rule or the program of a name, with these words as its arguments.
@@ -358,6 +307,11 @@ pub fn placed_program<'a>(
         programs: programs_with(alloc, text, program, words)?,
     };
     let indices = indices_of(alloc, pointer)?;
-    let at = place_named(alloc, &places.programs, program, indices.as_slice())?;
-    places.placed_at(alloc, at, head, reason)
+    places.placed_in(
+        alloc,
+        places.named(program),
+        indices.as_slice(),
+        head,
+        reason,
+    )
 }

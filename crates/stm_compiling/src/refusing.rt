@@ -1,16 +1,16 @@
 //! What is said of words that are typed for a part of a source which it does not have: a name of none of its programs and rules, or arguments that the one of
 //! that name does not take.
 
-use crate::calls::{given_at, listed_behind, parameters_of, takes_list};
+use crate::calls::{given_from, listed_behind, parameters_of, takes_list};
 use crate::explaining::words_at;
 use crate::program::{line_named, start_at, started};
-use crate::spots::{Spot, spot_at};
+use crate::spots::{Spot, behind, spelled, spot_at};
 use crate::titles::titles_but;
 use crate::whole::rules_in;
 use std::alloc::{AllocError, Global};
 use stm_explain::Said;
 use stm_source::{BadSource, Rule, SourceCause, SourceError};
-use stm_tokens::{Symbol, Token, TokenKind, tokens_of};
+use stm_tokens::{Token, tokens_of};
 
 /// Why a name and words are no part of a source that has no fault itself.
 #[derive(Debug, Drop)]
@@ -21,27 +21,17 @@ pub enum Refused {
     Arguments(String),
 }
 
-/// Adds the parameters with which these tokens begin.
-fn push_parameters(head: &mut String, tokens: &[Token]) -> Result<(), AllocError> {
-    for token in tokens {
-        match &token.kind {
-            TokenKind::Name(parameter) => head.push_str(parameter.as_str())?,
-            TokenKind::Symbol(Symbol::Dots) => head.push_str("..")?,
-            TokenKind::Symbol(Symbol::Comma) => head.push_str(", ")?,
-            _ => return Ok(()),
-        }
-    }
-    Ok(())
-}
-
 /// The head of a program that is defined among tokens, `NAME(PARAMETER, ..)`; its name alone, where none of them defines one.
 fn head_of(alloc: Global, tokens: &[Token], name: &str) -> Said {
     let mut head = String::from_str(alloc, name)?;
-    if let Some(index) = given_at(tokens, name) {
-        let behind = tokens.get(index.saturating_add(3)..).unwrap_or(&[]);
-        head.push_str("(")?;
-        push_parameters(&mut head, behind)?;
-        head.push_str(")")?;
+    for token in behind(given_from(tokens, name), 2) {
+        match spelled(token) {
+            "," => head.push_str(", ")?,
+            word => head.push_str(word)?,
+        }
+        if spelled(token) == ")" {
+            return Ok(head);
+        }
     }
     Ok(head)
 }
@@ -80,35 +70,21 @@ fn count_words(alloc: Global, name: &str, words: &[String], spot: Spot<'_>) -> S
     format!(in alloc; "{head} takes {wanted}: {given} found{options}")
 }
 
-/// What is said of a fault in the line that starts a program of a name with words, behind a source, in their tokens.
+/// What is said of a fault in the line that starts a program of a name with words, behind a source, in their text.
 fn refused_at(
     alloc: Global,
-    text: &[u8],
-    tokens: &[Token],
+    text: &str,
     name: &str,
     words: &[String],
     bad: BadSource,
 ) -> Result<Refused, AllocError> {
-    let spot = spot_at(tokens, bad.at);
+    let tokens = tokens_of(alloc, text.as_bytes())?;
+    let spot = spot_at(text, tokens.as_slice(), bad.at);
     match bad.cause {
-        SourceCause::Name => Ok(Refused::Name(titles_but(alloc, tokens, name)?)),
+        SourceCause::Name => Ok(Refused::Name(titles_but(alloc, tokens.as_slice(), name)?)),
         SourceCause::Arguments => Ok(Refused::Arguments(count_words(alloc, name, words, spot)?)),
-        _ => Ok(Refused::Arguments(words_at(alloc, text, spot, bad)?)),
+        cause => Ok(Refused::Arguments(words_at(alloc, spot, cause)?)),
     }
-}
-
-/// The same in their text.
-fn refused_by(
-    alloc: Global,
-    text: &[u8],
-    name: &str,
-    words: &[String],
-    bad: BadSource,
-) -> Result<Option<Refused>, AllocError> {
-    let tokens = tokens_of(alloc, text)?;
-    let refused = refused_at(alloc, text, tokens.as_slice(), name, words, bad);
-    drop(tokens);
-    Ok(Some(refused?))
 }
 
 /// Why a name and words are no part of a source that has these rules.
@@ -120,10 +96,12 @@ fn refused_beside(
     words: &[String],
 ) -> Result<Option<Refused>, AllocError> {
     let text = started(alloc, source, name, words)?;
-    let text = text.as_slice();
-    match line_named(alloc, start_at(source), rules, name, words, text) {
+    match line_named(alloc, start_at(source), rules, name, words, text.as_slice()) {
         Ok(_) => Ok(None),
-        Err(SourceError::Bad(bad)) => refused_by(alloc, text, name, words, bad),
+        Err(SourceError::Bad(bad)) => {
+            let text = str::from_utf8(text.as_slice()).unwrap_or("");
+            Ok(Some(refused_at(alloc, text, name, words, bad)?))
+        }
         Err(SourceError::OutOfMemory) => Err(AllocError),
     }
 }

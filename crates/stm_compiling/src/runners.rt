@@ -1,11 +1,12 @@
 //! The names of runners, by their numbers.
 
+use crate::items::names_of;
 use crate::wanted::allowed;
 use crate::whole::Beside;
 use std::alloc::{AllocError, Global};
 use stm_explain::Said;
 use stm_history::Text;
-use stm_tokens::{Token, TokenKind, tokens_of};
+use stm_tokens::tokens_of;
 
 /// A runner that a source names.
 #[derive(Debug, Drop)]
@@ -16,43 +17,9 @@ pub struct NamedRunner {
     pub name: Text,
 }
 
-/// Room for the names of a source's runners, by their places.
-fn places_of(alloc: Global, beside: &Beside) -> Result<Vec<Option<Text>>, AllocError> {
-    let mut places = Vec::new(alloc);
-    for _number in beside.numbers.as_slice() {
-        places.push(None)?;
-    }
-    Ok(places)
-}
-
-/// Puts a name in its place, where it is that of a runner.
-fn place_name(places: &mut [Option<Text>], beside: &Beside, name: &Text) -> Result<(), AllocError> {
-    let Some(place) = beside.names.place(name.as_str()) else {
-        return Ok(());
-    };
-    if place < places.len() && places[place].is_none() {
-        let copy = name.clone()?;
-        places[place] = Some(copy);
-    }
-    Ok(())
-}
-
-/// Puts the names among tokens in their places, those that are names of runners.
-fn place_names(
-    places: &mut [Option<Text>],
-    beside: &Beside,
-    tokens: &[Token],
-) -> Result<(), AllocError> {
-    for token in tokens {
-        if let TokenKind::Name(name) = &token.kind {
-            place_name(places, beside, name)?;
-        }
-    }
-    Ok(())
-}
-
-/// The number of the runner whose name has a place.
-fn number_at(beside: &Beside, place: usize) -> Option<u64> {
+/// The number of the runner of a name.
+fn number_of(beside: &Beside, name: &str) -> Option<u64> {
+    let place = beside.names.place(name)?;
     match beside.numbers.as_slice().get(place) {
         Some(number) => *number,
         None => None,
@@ -66,11 +33,11 @@ pub fn named_runners(
     beside: &Beside,
 ) -> Result<Vec<NamedRunner>, AllocError> {
     let tokens = tokens_of(alloc, source)?;
-    let mut places = places_of(alloc, beside)?;
-    place_names(places.as_mut_slice(), beside, tokens.as_slice())?;
+    let names = names_of(alloc, tokens.as_slice())?;
     let mut runners = Vec::new(alloc);
-    for (place, name) in places.into_iter().enumerate() {
-        if let (Some(name), Some(number)) = (name, number_at(beside, place)) {
+    for name in names.as_slice() {
+        if let Some(number) = number_of(beside, name) {
+            let name = Text::copy_of(alloc, name)?;
             runners.push(NamedRunner { number, name })?;
         }
     }

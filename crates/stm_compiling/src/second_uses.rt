@@ -1,20 +1,20 @@
 //! Where a program wants an argument as a number that it wants as a text, too.
 
-use crate::calls::given_at;
+use crate::calls::given_from;
 use crate::fault::position_in;
-use crate::kept::{between, end_of, open_behind};
-use crate::spots::Spot;
+use crate::items::{between, end_of};
+use crate::spots::{Spot, behind, name_of, open_behind, spelled};
 use std::alloc::{AllocError, Global};
 use stm_explain::Said;
-use stm_source::{BadSource, SourceCause, SourceError, read_source};
-use stm_tokens::{Symbol, Token, TokenKind};
+use stm_source::{SourceCause, SourceError, read_source};
+use stm_tokens::Token;
 
 /// The tokens of a program from its name on, up to the brace that ends it, of those that begin with its name.
 fn program_in(tokens: &[Token]) -> &[Token] {
     let mut open = 0usize;
     for (index, token) in tokens.iter().enumerate() {
-        open = open_behind(open, &token.kind);
-        if open == 0 && token.kind.is_symbol(Symbol::RightBrace) {
+        open = open_behind(open, token);
+        if open == 0 && spelled(token) == "}" {
             return tokens.get(..index.saturating_add(1)).unwrap_or(tokens);
         }
     }
@@ -24,15 +24,12 @@ fn program_in(tokens: &[Token]) -> &[Token] {
 /// The place of a name in the parentheses behind the first of these tokens.
 fn place_of(tokens: &[Token], name: &str) -> Option<usize> {
     let mut place = 0usize;
-    for token in tokens.iter().skip(2) {
-        if token.kind.is_symbol(Symbol::RightParenthesis) {
-            return None;
-        }
-        if token.kind.is_symbol(Symbol::Comma) {
-            place = place.saturating_add(1);
-        }
-        if token.kind.is_named(name) {
-            return Some(place);
+    for token in behind(tokens, 2) {
+        match spelled(token) {
+            ")" => return None,
+            "," => place = place.saturating_add(1),
+            word if word == name => return Some(place),
+            _ => {}
         }
     }
     None
@@ -42,17 +39,15 @@ fn place_of(tokens: &[Token], name: &str) -> Option<usize> {
 fn argument_at<'a>(source: &'a str, tokens: &[Token], place: usize) -> Option<&'a str> {
     let mut number = 0usize;
     let mut from = tokens.get(1)?.at.saturating_add(1);
-    for token in tokens.iter().skip(2) {
-        let ends = token.kind.is_symbol(Symbol::RightParenthesis);
-        if ends || token.kind.is_symbol(Symbol::Comma) {
-            if number == place {
-                return Some(between(source, from, token.at).trim());
+    for token in behind(tokens, 2) {
+        match spelled(token) {
+            ")" | "," if number == place => return Some(between(source, from, token.at).trim()),
+            ")" => return None,
+            "," => {
+                number = number.saturating_add(1);
+                from = token.at.saturating_add(1);
             }
-            number = number.saturating_add(1);
-            from = token.at.saturating_add(1);
-        }
-        if ends {
-            return None;
+            _ => {}
         }
     }
     None
@@ -65,9 +60,9 @@ fn argument_for<'a>(
     start: &[Token],
     token: &Token,
 ) -> Option<&'a str> {
-    match &token.kind {
-        TokenKind::Name(name) => argument_at(source, start, place_of(program, name.as_str())?),
-        _ => None,
+    match name_of(token) {
+        "" => None,
+        name => argument_at(source, start, place_of(program, name)?),
     }
 }
 
@@ -77,7 +72,7 @@ fn with_arguments(alloc: Global, source: &str, program: &[Token], start: &[Token
     let mut copied = 0usize;
     let mut is_body = false;
     for token in program {
-        is_body = is_body || token.kind.is_symbol(Symbol::LeftBrace);
+        is_body = is_body || spelled(token) == "{";
         if is_body {
             if let Some(argument) = argument_for(source, program, start, token) {
                 text.push_str(between(source, copied, token.at))?;
@@ -92,35 +87,29 @@ fn with_arguments(alloc: Global, source: &str, program: &[Token], start: &[Token
     Ok(text)
 }
 
-/// The line of a fault of a text, where that is one of kinds.
-fn line_of_kinds(text: &[u8], bad: BadSource) -> Option<usize> {
-    match bad.cause {
-        SourceCause::Kind => Some(position_in(text, bad.at).line),
-        _ => None,
-    }
-}
-
-/// The same of its first fault.
+/// The line of the first fault of a text, where that is one of kinds.
 fn line_in(alloc: Global, text: &[u8]) -> Result<Option<usize>, AllocError> {
     match read_source(alloc, text) {
-        Ok(_) => Ok(None),
-        Err(SourceError::Bad(bad)) => Ok(line_of_kinds(text, bad)),
+        Err(SourceError::Bad(bad)) => Ok(match bad.cause {
+            SourceCause::Kind => Some(position_in(text, bad.at).line),
+            _ => None,
+        }),
         Err(SourceError::OutOfMemory) => Err(AllocError),
+        Ok(_) => Ok(None),
     }
 }
 
 /// The line in which a program, which the start there names, wants an argument as a number that it wants as a text before; nothing, where that is not known.
 pub(crate) fn line_of_second_use(
     alloc: Global,
-    source: &[u8],
     spot: Spot<'_>,
     name: &str,
 ) -> Result<Option<usize>, AllocError> {
-    let Some(index) = given_at(spot.before, name) else {
+    let given = given_from(spot.before, name);
+    if given.is_empty() {
         return Ok(None);
-    };
-    let program = program_in(spot.before.get(index.saturating_add(1)..).unwrap_or(&[]));
-    let source = str::from_utf8(source).unwrap_or("");
-    let text = with_arguments(alloc, source, program, spot.from)?;
+    }
+    let program = program_in(behind(given, 1));
+    let text = with_arguments(alloc, spot.source, program, spot.from)?;
     line_in(alloc, text.as_str().as_bytes())
 }

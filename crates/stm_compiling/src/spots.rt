@@ -1,7 +1,11 @@
-//! Where in a source a token stands: between which brackets, and behind which words.
+//! Where in a source a token stands: between which brackets, and behind which words. Tokens are told by how they are spelled.
 
+use crate::fault::position_in;
 use stm_program::Operator;
-use stm_tokens::{Symbol, Token, TokenKind, Word};
+use stm_tokens::{Position, Symbol, Token, TokenKind, Word};
+
+/// The signs that compare two values.
+const COMPARISONS: [&str; 6] = ["==", "!=", "<", "<=", ">", ">="];
 
 /// What the brackets that are open before a token belong to.
 #[derive(Clone, Copy, PartialEq, Eq)]
@@ -16,26 +20,13 @@ pub(crate) enum Place {
     Parentheses,
 }
 
-/// The events that have more than one or two parts.
-#[derive(Clone, Copy, PartialEq, Eq)]
-pub(crate) enum Event {
-    /// `begin`
-    Begin,
-    /// `start`
-    Start,
-    /// `step`
-    Step,
-    /// `txn`
-    Transaction,
-}
-
-/// The parentheses that are open before a token.
+/// The parentheses that are open before a token; of none, empty words.
 #[derive(Clone, Copy)]
 pub(crate) struct Call<'a> {
     /// What stands before them.
-    pub(crate) word: &'a TokenKind,
+    pub(crate) word: &'a str,
     /// What stands before that.
-    pub(crate) before: Option<&'a TokenKind>,
+    pub(crate) before: &'a str,
     /// How many values stand in them already, each with a comma behind it.
     pub(crate) values: usize,
 }
@@ -43,55 +34,174 @@ pub(crate) struct Call<'a> {
 /// A token of a source, and those before it.
 #[derive(Clone, Copy)]
 pub(crate) struct Spot<'a> {
+    /// The source.
+    pub(crate) source: &'a str,
+    /// The byte of it that is looked at: the first one of the token, or one before that.
+    pub(crate) at: usize,
     /// The tokens before it.
     pub(crate) before: &'a [Token],
     /// It and those behind it.
     pub(crate) from: &'a [Token],
+    /// What the brackets that are open there belong to.
+    pub(crate) place: Place,
+    /// The parentheses that it stands in.
+    pub(crate) call: Call<'a>,
+    /// The word of the event that it stands in or behind, of those that have several parts; an empty one where there is none.
+    pub(crate) event: &'a str,
 }
 
-/// The name in a place; an empty one where none stands there.
-pub(crate) fn name_in(spot: Spot<'_>) -> &str {
-    match spot.kind() {
-        Some(TokenKind::Name(name)) => name.as_str(),
+/// How a sign is spelled.
+fn sign_of(symbol: Symbol) -> &'static str {
+    match symbol {
+        Symbol::LeftParenthesis => "(",
+        Symbol::RightParenthesis => ")",
+        Symbol::LeftBrace => "{",
+        Symbol::RightBrace => "}",
+        Symbol::Comma => ",",
+        Symbol::Semicolon => ";",
+        Symbol::Dots => "..",
+        Symbol::Assign => "=",
+        Symbol::AddAssign => "+=",
+        Symbol::SubtractAssign => "-=",
+        Symbol::ConcatenateAssign => "++=",
+        Symbol::Equal => "==",
+        Symbol::NotEqual => "!=",
+        Symbol::Less => "<",
+        Symbol::LessOrEqual => "<=",
+        Symbol::Greater => ">",
+        Symbol::GreaterOrEqual => ">=",
+        Symbol::Concatenate => "++",
+        Symbol::And => "&&",
+        Symbol::Or => "||",
+        Symbol::Not => "!",
+        Symbol::Arithmetic(Operator::Add) => "+",
+        Symbol::Arithmetic(Operator::Sub) => "-",
+        Symbol::Arithmetic(Operator::Mul) => "*",
+        Symbol::Arithmetic(Operator::Div) => "/",
+        Symbol::Arithmetic(Operator::Rem) => "%",
+    }
+}
+
+/// How a word is spelled that is no name.
+fn word_of(word: Word) -> &'static str {
+    match word {
+        Word::Program => "program",
+        Word::Rule => "rule",
+        Word::Finally => "finally",
+        Word::Let => "let",
+        Word::If => "if",
+        Word::Else => "else",
+        Word::For => "for",
+        Word::In => "in",
+        Word::Return => "return",
+        Word::Break => "break",
+        Word::Continue => "continue",
+        Word::Put => "put",
+        Word::Del => "del",
+        Word::Emit => "emit",
+        Word::Abort => "abort",
+        Word::Prefetch => "prefetch",
+        Word::Get => "get",
+        Word::Rev => "rev",
+        Word::NumOf => "num_of",
+        Word::TextOf => "text_of",
+    }
+}
+
+/// How a token is spelled that is a name, a word or a sign; an empty text for others.
+pub(crate) fn spelled(token: &Token) -> &str {
+    match &token.kind {
+        TokenKind::Name(name) => name.as_str(),
+        TokenKind::Word(word) => word_of(*word),
+        TokenKind::Symbol(symbol) => sign_of(*symbol),
+        TokenKind::Number(_) | TokenKind::Text(_) | TokenKind::Wrong | TokenKind::End => "",
+    }
+}
+
+/// The same of the token at an index of these; an empty text where there is none.
+pub(crate) fn spelled_at(tokens: &[Token], index: usize) -> &str {
+    match tokens.get(index) {
+        Some(token) => spelled(token),
+        None => "",
+    }
+}
+
+/// The name that a token is; an empty one where it is none.
+pub(crate) fn name_of(token: &Token) -> &str {
+    match &token.kind {
+        TokenKind::Name(name) => name.as_str(),
         _ => "",
     }
 }
 
-/// How many of these tokens begin before a byte.
-fn count_before(tokens: &[Token], at: usize) -> usize {
-    for (index, token) in tokens.iter().enumerate() {
-        if token.at >= at {
-            return index;
+/// These tokens without so many first ones.
+pub(crate) fn behind(tokens: &[Token], count: usize) -> &[Token] {
+    tokens.get(count..).unwrap_or(&[])
+}
+
+/// Whether a word is one of these.
+pub(crate) fn is_one_of(word: &str, words: &[&str]) -> bool {
+    for known in words {
+        if *known == word {
+            return true;
         }
     }
-    tokens.len()
+    false
 }
 
-/// The token that begins at a byte of a source, or the first one behind that.
-pub(crate) fn spot_at(tokens: &[Token], at: usize) -> Spot<'_> {
-    let count = count_before(tokens, at);
-    if count > tokens.len() {
-        return Spot {
-            before: tokens,
-            from: &[],
-        };
+/// The tokens from the first one on that is spelled as one of these words; none where none is.
+pub(crate) fn first_from<'a>(tokens: &'a [Token], words: &[&str]) -> &'a [Token] {
+    for (index, token) in tokens.iter().enumerate() {
+        if is_one_of(spelled(token), words) {
+            return behind(tokens, index);
+        }
     }
-    let (before, from) = tokens.split_at(count);
-    Spot { before, from }
+    &[]
 }
 
-/// Whether a bracket is opened, closed, or neither.
-fn turn(kind: &TokenKind) -> (bool, bool) {
-    let opens = kind.is_symbol(Symbol::LeftBrace) || kind.is_symbol(Symbol::LeftParenthesis);
-    let closes = kind.is_symbol(Symbol::RightBrace) || kind.is_symbol(Symbol::RightParenthesis);
-    (opens, closes)
+/// The tokens from the last one on that is spelled as one of these words; none where none is.
+pub(crate) fn last_from<'a>(tokens: &'a [Token], words: &[&str]) -> &'a [Token] {
+    for (index, token) in tokens.iter().enumerate().rev() {
+        if is_one_of(spelled(token), words) {
+            return behind(tokens, index);
+        }
+    }
+    &[]
 }
 
-/// Whether a token ends a statement, or begins a block.
-fn is_end_of_statement(kind: &TokenKind) -> bool {
-    kind.is_symbol(Symbol::LeftBrace)
-        || kind.is_symbol(Symbol::RightBrace)
-        || kind.is_symbol(Symbol::Semicolon)
+/// Whether a word compares two values.
+pub(crate) fn is_comparison(word: &str) -> bool {
+    is_one_of(word, &COMPARISONS)
+}
+
+/// Whether a token is a text or a number as it stands.
+pub(crate) fn is_literal(token: Option<&Token>) -> bool {
+    match token {
+        Some(token) => matches!(token.kind, TokenKind::Text(_) | TokenKind::Number(_)),
+        None => false,
+    }
+}
+
+/// How many brackets are open behind a token, of which so many are open before it.
+pub(crate) fn open_behind(open: usize, token: &Token) -> usize {
+    match spelled(token) {
+        "(" | "{" => open.saturating_add(1),
+        ")" | "}" => open.saturating_sub(1),
+        _ => open,
+    }
+}
+
+/// The place of the first bracket among these tokens that is open behind them.
+pub(crate) fn first_open(tokens: &[Token]) -> Option<usize> {
+    let mut first = None;
+    let mut open = 0;
+    for (index, token) in tokens.iter().enumerate() {
+        if open == 0 {
+            first = Some(index);
+        }
+        open = open_behind(open, token);
+    }
+    if open == 0 { None } else { first }
 }
 
 /// The place of the last bracket among these tokens that is open behind them, and how many commas stand behind it, outside of other brackets.
@@ -99,77 +209,73 @@ fn last_open(tokens: &[Token]) -> Option<(usize, usize)> {
     let mut closed = 0usize;
     let mut commas = 0usize;
     for (index, token) in tokens.iter().enumerate().rev() {
-        let (opens, closes) = turn(&token.kind);
-        if closes && closed < tokens.len() {
-            closed += 1;
-        }
-        if opens && closed == 0 {
-            return Some((index, commas));
-        }
-        if opens && closed > 0 {
-            closed -= 1;
-        }
-        if closed == 0 && token.kind.is_symbol(Symbol::Comma) {
-            commas = commas.saturating_add(1);
+        match spelled(token) {
+            "(" | "{" if closed == 0 => return Some((index, commas)),
+            "(" | "{" => closed = closed.saturating_sub(1),
+            ")" | "}" => closed = closed.saturating_add(1),
+            "," if closed == 0 => commas = commas.saturating_add(1),
+            _ => {}
         }
     }
     None
 }
 
-/// The place of the first bracket among these tokens that is open behind them.
-pub(crate) fn first_open(tokens: &[Token]) -> Option<usize> {
-    let mut found = None;
-    let mut depth = 0usize;
-    for (index, token) in tokens.iter().enumerate() {
-        let (opens, closes) = turn(&token.kind);
-        if opens && depth == 0 {
-            found = Some(index);
-        }
-        if opens && depth < tokens.len() {
-            depth += 1;
-        }
-        if closes && depth > 0 {
-            depth -= 1;
-        }
+/// What the brackets that are open behind these tokens belong to, of which the last one has this place.
+fn place_behind(tokens: &[Token], last: usize) -> Place {
+    if spelled_at(tokens, last) == "(" {
+        return Place::Parentheses;
     }
-    if depth == 0 { None } else { found }
+    let front = tokens.get(..first_open(tokens).unwrap_or(0)).unwrap_or(&[]);
+    let beginning = last_from(front, &["txn", "start", "program", "rule", "finally"]);
+    match spelled_at(beginning, 0) {
+        "txn" => Place::Operations,
+        _ => Place::Statements,
+    }
 }
 
-/// The event whose word stands last among these tokens.
-fn last_event(tokens: &[Token]) -> Option<Event> {
-    for token in tokens.iter().rev() {
-        if token.kind.is_named("txn") {
-            return Some(Event::Transaction);
-        }
-        if token.kind.is_named("start") {
-            return Some(Event::Start);
-        }
-        if token.kind.is_named("step") {
-            return Some(Event::Step);
-        }
-        if token.kind.is_named("begin") {
-            return Some(Event::Begin);
-        }
+/// The parentheses that are open behind these tokens, of which the last bracket that is open has this place, with so many commas behind it.
+fn call_behind(tokens: &[Token], last: usize, values: usize) -> Call<'_> {
+    if spelled_at(tokens, last) != "(" || last == 0 {
+        return NO_CALL;
     }
-    None
+    let before = if last > 1 {
+        spelled_at(tokens, last - 2)
+    } else {
+        ""
+    };
+    Call {
+        word: spelled_at(tokens, last - 1),
+        before,
+        values,
+    }
 }
 
-/// Whether a block that begins behind these tokens is one of a transaction, and not the body of a program.
-fn is_of_a_transaction(tokens: &[Token]) -> bool {
-    for token in tokens.iter().rev() {
-        if token.kind.is_named("txn") {
-            return true;
-        }
-        if token.kind.is_named("start")
-            || matches!(
-                token.kind,
-                TokenKind::Word(Word::Program | Word::Rule | Word::Finally)
-            )
-        {
-            return false;
-        }
+const NO_CALL: Call<'static> = Call {
+    word: "",
+    before: "",
+    values: 0,
+};
+
+/// The token that begins at a byte of a source which has these tokens, or the first one behind that.
+pub(crate) fn spot_at<'a>(source: &'a str, tokens: &'a [Token], at: usize) -> Spot<'a> {
+    let count = tokens.iter().take_while(|token| token.at < at).count();
+    let before = tokens.get(..count).unwrap_or(tokens);
+    let (place, call) = match last_open(before) {
+        Some((last, values)) => (
+            place_behind(before, last),
+            call_behind(before, last, values),
+        ),
+        None => (Place::Events, NO_CALL),
+    };
+    Spot {
+        source,
+        at,
+        before,
+        from: behind(tokens, count),
+        place,
+        call,
+        event: spelled_at(last_from(before, &["txn", "start", "step", "begin"]), 0),
     }
-    false
 }
 
 impl<'a> Spot<'a> {
@@ -181,176 +287,83 @@ impl<'a> Spot<'a> {
         }
     }
 
-    /// Whether it is this symbol.
-    pub(crate) fn kind_is(self, symbol: Symbol) -> bool {
-        match self.kind() {
-            Some(kind) => kind.is_symbol(symbol),
-            None => false,
+    /// The name that it is; an empty one where it is none.
+    pub(crate) fn name(self) -> &'a str {
+        match self.from.first() {
+            Some(token) => name_of(token),
+            None => "",
         }
     }
 
-    /// What stands behind it.
-    pub(crate) fn next(self) -> Option<&'a TokenKind> {
-        match self.from.get(1) {
-            Some(token) => Some(&token.kind),
-            None => None,
-        }
+    /// How what stands so many tokens behind it is spelled, itself at 0.
+    pub(crate) fn ahead(self, count: usize) -> &'a str {
+        spelled_at(self.from, count)
     }
 
-    /// What stands before it: the last token, or one of those before that, counted from 0.
-    pub(crate) fn back(self, count: usize) -> Option<&'a TokenKind> {
+    /// How what stands before it is spelled: the last token at 0, that before it at 1.
+    pub(crate) fn back(self, count: usize) -> &'a str {
         match self.before.iter().rev().nth(count) {
-            Some(token) => Some(&token.kind),
-            None => None,
+            Some(token) => spelled(token),
+            None => "",
         }
     }
 
-    /// Whether this name stands so many tokens before it.
-    pub(crate) fn is_behind(self, count: usize, name: &str) -> bool {
-        match self.back(count) {
-            Some(kind) => kind.is_named(name),
-            None => false,
-        }
+    /// The last of these words that stands before it.
+    pub(crate) fn last_of(self, words: &[&str]) -> &'a str {
+        spelled_at(last_from(self.before, words), 0)
     }
 
-    /// Whether this word stands so many tokens before it.
-    pub(crate) fn is_behind_word(self, count: usize, word: Word) -> bool {
-        match self.back(count) {
-            Some(kind) => kind.is_word(word),
-            None => false,
-        }
+    /// Where a byte of the source stands.
+    pub(crate) fn position(self, at: usize) -> Position {
+        position_in(self.source.as_bytes(), at)
     }
 
-    /// Whether this symbol stands so many tokens before it.
-    pub(crate) fn is_behind_symbol(self, count: usize, symbol: Symbol) -> bool {
-        match self.back(count) {
-            Some(kind) => kind.is_symbol(symbol),
-            None => false,
-        }
-    }
-
-    /// What the brackets that are open there belong to.
-    pub(crate) fn place(self) -> Place {
-        let Some((last, _)) = last_open(self.before) else {
-            return Place::Events;
-        };
-        if self.is_parenthesis(last) {
-            return Place::Parentheses;
-        }
-        let Some(first) = first_open(self.before) else {
-            return Place::Events;
-        };
-        if is_of_a_transaction(front(self.before, first)) {
-            Place::Operations
-        } else {
-            Place::Statements
-        }
-    }
-
-    /// The parentheses that it stands in, if it does and something stands before them.
-    pub(crate) fn call(self) -> Option<Call<'a>> {
-        let (open, values) = last_open(self.before)?;
-        if open == 0 || !self.is_parenthesis(open) {
-            return None;
-        }
-        let word = self.at(open - 1)?;
-        let before = if open > 1 { self.at(open - 2) } else { None };
-        Some(Call {
-            word,
-            before,
-            values,
-        })
+    /// The text of the source from one byte to another; nothing where it has no such text.
+    pub(crate) fn between(self, from: usize, to: usize) -> &'a str {
+        self.source.get(from..to).unwrap_or("")
     }
 
     /// The byte at which a brace stands that is open there, unless parentheses are open in it.
     pub(crate) fn open_brace(self) -> Option<usize> {
         let (open, _) = last_open(self.before)?;
-        let token = self.before.get(open)?;
-        if token.kind.is_symbol(Symbol::LeftBrace) {
-            Some(token.at)
-        } else {
-            None
+        match self.before.get(open) {
+            Some(token) if spelled(token) == "{" => Some(token.at),
+            _ => None,
         }
-    }
-
-    /// The event that it stands in, of those that have several parts, or behind.
-    pub(crate) fn event(self) -> Option<Event> {
-        last_event(self.before)
     }
 
     /// Whether it stands between an `if` or a `for` and the brace that opens the block of that.
     pub(crate) fn is_before_a_block(self) -> bool {
-        for token in self.before.iter().rev() {
-            if token.kind.is_word(Word::If) || token.kind.is_word(Word::For) {
-                return true;
-            }
-            if is_end_of_statement(&token.kind) {
-                return false;
-            }
-        }
-        false
+        matches!(self.last_of(&["if", "for", "{", "}", ";"]), "if" | "for")
     }
 
     /// Whether it stands behind the `..` of a loop, and no block or statement has begun since.
     pub(crate) fn is_in_count(self) -> bool {
-        for token in self.before.iter().rev() {
-            if token.kind.is_symbol(Symbol::Dots) {
-                return true;
-            }
-            if is_end_of_statement(&token.kind) {
-                return false;
-            }
-        }
-        false
+        self.last_of(&["..", "{", "}", ";"]) == ".."
     }
 
     /// The word before the texts, numbers and names, with commas or a sign between them, behind which it stands.
-    fn word_of_list(self) -> Option<Word> {
-        for token in self.before.iter().rev() {
-            match &token.kind {
-                TokenKind::Word(word) => return Some(*word),
-                TokenKind::Text(_) | TokenKind::Number(_) | TokenKind::Name(_) => {}
-                TokenKind::Symbol(
-                    Symbol::Comma | Symbol::Assign | Symbol::Arithmetic(Operator::Sub),
-                ) => {}
-                _ => return None,
-            }
+    fn word_of_list(self) -> &'a str {
+        match self.before.iter().rev().find(|token| !is_of_list(token)) {
+            Some(token) => spelled(token),
+            None => "",
         }
-        None
     }
 
     /// Whether it stands behind a comma of a list that is given a name outside of programs.
     pub(crate) fn is_in_list(self) -> bool {
-        self.is_behind_symbol(0, Symbol::Comma) && self.word_of_list() == Some(Word::Let)
+        self.back(0) == "," && self.word_of_list() == "let"
     }
 
     /// Whether it stands among the items of a `for`.
     pub(crate) fn is_item(self) -> bool {
-        self.word_of_list() == Some(Word::In)
-    }
-
-    /// The token at an index before it.
-    fn at(self, index: usize) -> Option<&'a TokenKind> {
-        match self.before.get(index) {
-            Some(token) => Some(&token.kind),
-            None => None,
-        }
-    }
-
-    /// Whether the token at an index before it is a parenthesis.
-    fn is_parenthesis(self, index: usize) -> bool {
-        match self.at(index) {
-            Some(kind) => kind.is_symbol(Symbol::LeftParenthesis),
-            None => false,
-        }
+        self.word_of_list() == "in"
     }
 }
 
-/// The first of these tokens.
-fn front(tokens: &[Token], count: usize) -> &[Token] {
-    if count <= tokens.len() {
-        &tokens[..count]
-    } else {
-        tokens
-    }
+/// Whether a token can stand in a list of texts, numbers and names.
+fn is_of_list(token: &Token) -> bool {
+    is_literal(Some(token))
+        || !name_of(token).is_empty()
+        || matches!(spelled(token), "," | "=" | "-")
 }

@@ -3,18 +3,17 @@
 use crate::calls::{behind_asked, behind_value, is_argument, is_asked, is_parameter, value_in};
 use crate::compares::{is_chained, wanted_of_compares};
 use crate::forms::form_of;
-use crate::spots::{Event, Place, Spot};
+use crate::spots::{Place, Spot, is_comparison, is_one_of, spelled};
 use std::alloc::{AllocError, Global};
 use stm_explain::Said;
-use stm_program::Operator;
-use stm_tokens::{Symbol, TokenKind, Word};
+use stm_tokens::TokenKind;
 use strsim::osa_distance;
 
 /// A word of more bytes than this has no near miss.
 const MOST_NEAR: usize = 60;
 
 /// The words that begin an event, or what stands beside events.
-pub(crate) const EVENTS: [&str; 16] = [
+pub const EVENTS: [&str; 16] = [
     "program", "start", "step", "txn", "grant", "keep", "revoke", "advance", "watch", "poll",
     "cancel", "compact", "begin", "rule", "finally", "let",
 ];
@@ -38,6 +37,9 @@ pub(crate) const STATEMENT: &str = "statement";
 
 const STATEMENTS: [&str; 8] = ["put", "del", "emit", "abort", "let", "if", "for", "return"];
 
+/// What is wanted in a program behind a whole statement, where no word stands.
+const STATEMENT_OR_END: &str = "an operator, a statement, or the } that ends the block";
+
 /// The words behind which the parentheses of a value stand.
 pub(crate) const FUNCTIONS: [&str; 4] = ["get", "rev", "num_of", "text_of"];
 
@@ -52,9 +54,20 @@ const LEVELS: [&str; 4] = [
     "SerializableSnapshot",
 ];
 
+/// The signs behind which a value is wanted, beside those that compare two.
+const OPERATORS: [&str; 13] = [
+    "(", ",", "..", "=", "+=", "-=", "++=", "+", "-", "*", "/", "%", "++",
+];
+
+/// The names behind which a number stands.
+const NUMBER_NAMES: [&str; 12] = [
+    "begin", "limit", "grant", "ttl", "keep", "revoke", "to", "poll", "max", "cancel", "compact",
+    "from",
+];
+
 /// Whether a word is a level.
 pub(crate) fn is_level(word: &str) -> bool {
-    LEVELS.iter().any(|level| *level == word)
+    is_one_of(word, &LEVELS)
 }
 
 /// What is wanted in a place.
@@ -68,340 +81,208 @@ pub(crate) enum Wanted {
     OperatorOr(&'static str),
 }
 
-/// What is wanted behind a name that has a meaning in an event.
-fn behind_name(spot: Spot<'_>) -> Option<Wanted> {
-    if spot.is_behind(0, "start") {
-        return Some(Wanted::Said("the body of a program, { .. }, or a program by its name,"));
-    }
-    if spot.is_behind(0, "step") || spot.is_behind(0, "after") {
-        return Some(Wanted::Said("a runner, by its number or its name,"));
-    }
-    if spot.is_behind(0, "as") {
-        return Some(Wanted::Said("a name"));
-    }
-    if spot.is_behind(0, "at") {
-        return Some(Wanted::Words("level", &LEVELS, ""));
-    }
-    if spot.is_behind(0, "advance") {
-        return Some(Wanted::Said("to NUMBER"));
-    }
-    if spot.is_behind(0, "watch") {
-        return Some(Wanted::Said("a key, which is a text"));
-    }
-    if spot.is_behind(1, "start") {
-        return Some(Wanted::Said("the ( of its arguments, () if it has none,"));
-    }
-    None
-}
-
 /// Whether what stands before a place is a name behind which a number stands.
 pub(crate) fn is_behind_number_name(spot: Spot<'_>) -> bool {
-    for name in [
-        "begin", "limit", "grant", "ttl", "keep", "revoke", "to", "poll", "max", "cancel",
-        "compact", "from",
-    ] {
-        if spot.is_behind(0, name) {
-            return true;
-        }
-    }
-    false
+    is_one_of(spot.back(0), &NUMBER_NAMES)
 }
 
 /// What is wanted where a number stands, of which a name has no place in all.
 fn number_wanted(spot: Spot<'_>) -> Wanted {
-    match spot.kind() {
-        Some(TokenKind::Name(_)) => Wanted::Said("a number as it stands"),
-        _ => Wanted::Said("a whole number"),
+    if spot.name().is_empty() {
+        return Wanted::Said("a whole number");
     }
+    Wanted::Said("a number as it stands")
 }
 
-/// Whether a place is that of the level from which on a rule or a final is asked.
-fn is_level_of_a_rule(spot: Spot<'_>) -> bool {
-    spot.is_behind(0, "from")
-        && (spot.is_behind_word(2, Word::Rule) || spot.is_behind_word(2, Word::Finally))
-}
-
-/// What is wanted behind the word of a declaration.
+/// What is wanted behind the words of a declaration, outside of all brackets.
 fn behind_declaration(spot: Spot<'_>) -> Option<Wanted> {
-    if spot.is_behind_word(0, Word::Program) {
-        return Some(Wanted::Said("the name of the program"));
+    let said = match (spot.back(2), spot.back(1), spot.back(0)) {
+        (_, _, "program") => "the name of the program",
+        (_, _, "rule" | "finally") => "the name of the rule",
+        (_, _, "let") => "the name of the constant",
+        (_, "let", _) => "=",
+        ("let", _, _) => "a text or a number as it stands, or the name of one,",
+        _ if spot.is_in_list() =>
+            "a text or a number as it stands, or the name of one, as items are,",
+        _ => return None,
+    };
+    Some(Wanted::Said(said))
+}
+
+/// What is wanted behind the first words of an event.
+fn behind_name(spot: Spot<'_>) -> Option<Wanted> {
+    let said = match (spot.back(1), spot.back(0)) {
+        (_, "start") => "the body of a program, { .. }, or a program by its name,",
+        (_, "step" | "after") => "a runner, by its number or its name,",
+        (_, "as") => "a name",
+        (_, "at") => return Some(Wanted::Words("level", &LEVELS, "")),
+        (_, "advance") => "to NUMBER",
+        (_, "watch") => "a key, which is a text",
+        ("start", _) => "the ( of its arguments, () if it has none,",
+        _ => return None,
+    };
+    Some(Wanted::Said(said))
+}
+
+/// What is wanted in an event, outside of all brackets, behind what is neither.
+fn behind_event(spot: Spot<'_>) -> Wanted {
+    let wanted = wanted_of_compares(spot);
+    match (spot.back(1), spot.back(0)) {
+        _ if !wanted.is_empty() => Wanted::Said(wanted),
+        (_, "from") if matches!(spot.back(2), "rule" | "finally") => {
+            Wanted::Words("level", &LEVELS, "")
+        }
+        _ if is_behind_number_name(spot) => number_wanted(spot),
+        (_, "*") => Wanted::Said("a number of steps, as in step ana*2,"),
+        ("grant", _) => Wanted::Said("ttl SECONDS"),
+        ("poll", _) => Wanted::Said("max NUMBER"),
+        (_, "txn") => Wanted::Said("if COMPARE, or { .. } with its operations"),
+        (_, "if" | "&&") => Wanted::Words("compare", &COMPARES, ""),
+        (_, ")") if spot.event == "txn" => Wanted::Words("order", &ORDERS, ""),
+        _ if spot.event == "start" => Wanted::Words(OPTION_NOUN, &OPTIONS, ""),
+        _ => Wanted::Words(EVENT_NOUN, &EVENTS, ""),
     }
-    if spot.is_behind_word(0, Word::Rule) || spot.is_behind_word(0, Word::Finally) {
-        return Some(Wanted::Said("the name of the rule"));
-    }
-    if spot.is_behind_word(0, Word::Let) {
-        return Some(Wanted::Said("the name of the constant"));
-    }
-    if spot.is_behind_word(1, Word::Let) {
-        return Some(Wanted::Said("="));
-    }
-    if spot.is_behind_word(2, Word::Let) {
-        return Some(Wanted::Said("a text or a number as it stands, or the name of one,"));
-    }
-    None
 }
 
 /// What is wanted in an event, outside of all brackets.
 fn in_event(spot: Spot<'_>) -> Wanted {
-    if let Some(wanted) = behind_declaration(spot) {
-        return wanted;
-    }
-    if spot.is_in_list() {
-        return Wanted::Said("a text or a number as it stands, or the name of one, as items are,");
-    }
-    if let Some(wanted) = behind_name(spot) {
-        return wanted;
-    }
-    let wanted = wanted_of_compares(spot);
-    if !wanted.is_empty() {
-        return Wanted::Said(wanted);
-    }
-    if is_level_of_a_rule(spot) {
-        return Wanted::Words("level", &LEVELS, "");
-    }
-    if is_behind_number_name(spot) {
-        return number_wanted(spot);
-    }
-    if spot.is_behind_symbol(0, Symbol::Arithmetic(Operator::Mul)) {
-        return Wanted::Said("a number of steps, as in step ana*2,");
-    }
-    if spot.is_behind(1, "grant") {
-        return Wanted::Said("ttl SECONDS");
-    }
-    if spot.is_behind(1, "poll") {
-        return Wanted::Said("max NUMBER");
-    }
-    if spot.is_behind(0, "txn") {
-        return Wanted::Said("if COMPARE, or { .. } with its operations");
-    }
-    if spot.is_behind_word(0, Word::If) || spot.is_behind_symbol(0, Symbol::And) {
-        return Wanted::Words("compare", &COMPARES, "");
-    }
-    match spot.event() {
-        Some(Event::Transaction) if spot.is_behind_symbol(0, Symbol::RightParenthesis) => {
-            Wanted::Words("order", &ORDERS, "")
-        }
-        Some(Event::Start) => Wanted::Words(OPTION_NOUN, &OPTIONS, ""),
-        _ => Wanted::Words(EVENT_NOUN, &EVENTS, ""),
+    match behind_declaration(spot).or(behind_name(spot)) {
+        Some(wanted) => wanted,
+        None => behind_event(spot),
     }
 }
 
 /// Whether a value is wanted behind what stands before a place: an operator, a comma, an opened parenthesis or a sign of assignment.
 pub(crate) fn is_behind_operator(spot: Spot<'_>) -> bool {
-    match spot.back(0) {
-        Some(TokenKind::Symbol(symbol)) => matches!(
-            symbol,
-            Symbol::LeftParenthesis
-                | Symbol::Comma
-                | Symbol::Dots
-                | Symbol::Assign
-                | Symbol::AddAssign
-                | Symbol::SubtractAssign
-                | Symbol::ConcatenateAssign
-                | Symbol::Equal
-                | Symbol::NotEqual
-                | Symbol::Less
-                | Symbol::LessOrEqual
-                | Symbol::Greater
-                | Symbol::GreaterOrEqual
-                | Symbol::Arithmetic(_)
-                | Symbol::Concatenate
-        ),
-        _ => false,
-    }
+    let word = spot.back(0);
+    is_comparison(word) || is_one_of(word, &OPERATORS)
 }
 
 /// Whether a condition is wanted behind what stands before a place: `if`, `!`, `&&` or `||`, with opened parentheses or without.
 pub(crate) fn is_behind_condition_word(spot: Spot<'_>) -> bool {
-    for token in spot.before.iter().rev() {
-        if token.kind.is_symbol(Symbol::LeftParenthesis) {
-            continue;
-        }
-        return token.kind.is_word(Word::If)
-            || token.kind.is_symbol(Symbol::Not)
-            || token.kind.is_symbol(Symbol::And)
-            || token.kind.is_symbol(Symbol::Or);
+    match spot.before.iter().rev().find(|token| spelled(token) != "(") {
+        Some(token) => matches!(spelled(token), "if" | "!" | "&&" | "||"),
+        None => false,
     }
-    false
 }
 
 /// Whether what stands before a place is a word behind which an opened parenthesis stands.
 fn is_behind_call(spot: Spot<'_>) -> bool {
-    match spot.back(0) {
-        Some(kind) => form_of(kind).is_some(),
-        None => false,
-    }
-}
-
-/// Whether a token is a name or a word.
-fn is_worded(kind: Option<&TokenKind>) -> bool {
-    matches!(kind, Some(TokenKind::Name(_) | TokenKind::Word(_)))
+    form_of(spot.back(0)).is_some()
 }
 
 /// Whether a block begins behind a loop's count: that needs its greatest number of turns, where it is no number.
 fn is_count_without_max(spot: Spot<'_>) -> bool {
-    let begins = match spot.kind() {
-        Some(kind) => kind.is_symbol(Symbol::LeftBrace),
-        None => false,
-    };
-    begins && !spot.is_behind(1, "max") && spot.is_in_count()
+    spot.ahead(0) == "{" && spot.back(1) != "max" && spot.is_in_count()
 }
 
 /// What is wanted in a program, where a new statement may begin.
 fn statement_or_more(spot: Spot<'_>) -> Wanted {
-    if spot.is_before_a_block() && is_chained(spot) {
-        return Wanted::Said("&&, as in 1 < n && n < 3,");
+    let is_before_a_block = spot.is_before_a_block();
+    match spot.kind() {
+        _ if is_before_a_block && is_chained(spot) => Wanted::Said("&&, as in 1 < n && n < 3,"),
+        _ if is_before_a_block && is_count_without_max(spot) => {
+            Wanted::OperatorOr("max NUMBER, since the count is no number as it stands,")
+        }
+        _ if is_before_a_block => Wanted::Said("an operator, or the { of the block,"),
+        Some(TokenKind::Name(_) | TokenKind::Word(_)) => {
+            Wanted::Words(STATEMENT, &STATEMENTS, ", or a variable and =")
+        }
+        _ => Wanted::Said(STATEMENT_OR_END),
     }
-    if spot.is_before_a_block() && is_count_without_max(spot) {
-        return Wanted::OperatorOr("max NUMBER, since the count is no number as it stands,");
-    }
-    if spot.is_before_a_block() {
-        return Wanted::Said("an operator, or the { of the block,");
-    }
-    if is_worded(spot.kind()) {
-        return Wanted::Words(STATEMENT, &STATEMENTS, ", or a variable and =");
-    }
-    Wanted::Said("an operator, a statement, or the } that ends the block")
 }
 
 /// What is wanted in a program, outside of parentheses.
 fn in_program(spot: Spot<'_>) -> Wanted {
-    if spot.is_behind_word(0, Word::Let) {
-        return Wanted::Said("a name");
-    }
-    if spot.is_behind_word(0, Word::For) {
-        return Wanted::Said("a name, as in for NAME in 0..COUNT max 100 { .. },");
-    }
-    if spot.is_behind_word(1, Word::Let) {
-        return Wanted::Said("=");
-    }
-    if spot.is_behind_word(1, Word::For) {
-        return Wanted::Said("in, and 0..COUNT or ITEM, ITEM behind it,");
-    }
-    if spot.is_behind_word(0, Word::In) {
-        return Wanted::Said("0..COUNT, or texts or numbers with commas between them,");
-    }
-    if is_behind_call(spot) {
-        return Wanted::Said("(");
-    }
-    if spot.is_behind_symbol(0, Symbol::Not) {
-        return Wanted::Said("a condition in parentheses, !( .. ),");
-    }
-    if is_behind_condition_word(spot) {
-        return Wanted::Said("a condition, which compares two values");
-    }
-    if is_behind_operator(spot) {
-        return Wanted::Said("a value");
-    }
-    statement_or_more(spot)
+    let said = match (spot.back(1), spot.back(0)) {
+        (_, "let") => "a name",
+        (_, "for") => "a name, as in for NAME in 0..COUNT max 100 { .. },",
+        ("let", _) => "=",
+        ("for", _) => "in, and 0..COUNT or ITEM, ITEM behind it,",
+        (_, "in") => "0..COUNT, or texts or numbers with commas between them,",
+        _ if is_behind_call(spot) => "(",
+        (_, "!") => "a condition in parentheses, !( .. ),",
+        _ if is_behind_condition_word(spot) => "a condition, which compares two values",
+        _ if is_behind_operator(spot) => "a value",
+        _ => return statement_or_more(spot),
+    };
+    Wanted::Said(said)
 }
 
-/// Whether what stands before a place opens parentheses, or ends a value in them.
-fn is_behind_opening(spot: Spot<'_>) -> bool {
-    spot.is_behind_symbol(0, Symbol::LeftParenthesis) || spot.is_behind_symbol(0, Symbol::Comma)
-}
-
-/// Whether a number stands where a transaction has the value of a put.
-fn is_number_of_transaction(spot: Spot<'_>) -> bool {
-    spot.event() == Some(Event::Transaction)
-        && spot.is_behind_symbol(0, Symbol::Comma)
-        && matches!(spot.kind(), Some(TokenKind::Number(_)))
+/// What is wanted in parentheses where a value begins, behind the `(` or a comma.
+fn behind_opening(spot: Spot<'_>) -> &'static str {
+    match spot.back(0) {
+        _ if is_parameter(spot) => "the name of a parameter",
+        "," if spot.event == "txn" && matches!(spot.kind(), Some(TokenKind::Number(_))) => {
+            "a text, in quotes,"
+        }
+        "(" if is_asked(spot) => "a runner, by its name without quotes or its number,",
+        _ if is_argument(spot) => "a text or a number as it stands, or the name of one,",
+        _ => value_in(spot),
+    }
 }
 
 /// What is wanted in parentheses.
 fn in_parentheses(spot: Spot<'_>) -> Wanted {
-    if is_behind_call(spot) {
-        return Wanted::Said("(");
-    }
-    if is_behind_opening(spot) && is_parameter(spot) {
-        return Wanted::Said("the name of a parameter");
-    }
-    if is_number_of_transaction(spot) {
-        return Wanted::Said("a text, in quotes,");
-    }
-    if spot.is_behind_symbol(0, Symbol::LeftParenthesis) && is_asked(spot) {
-        return Wanted::Said("a runner, by its name without quotes or its number,");
-    }
-    if is_behind_opening(spot) && is_argument(spot) {
-        return Wanted::Said("a text or a number as it stands, or the name of one,");
-    }
-    if is_behind_opening(spot) {
-        return Wanted::Said(value_in(spot));
-    }
-    if is_behind_operator(spot) {
-        return Wanted::Said("a value");
-    }
-    if is_asked(spot) {
-        return Wanted::Said(behind_asked(spot));
-    }
-    if is_argument(spot) {
-        return Wanted::Said(
-            "a comma, or the ) behind the arguments, which are texts and numbers as they stand,",
-        );
-    }
-    if is_parameter(spot) {
-        return Wanted::Said(
-            "a comma, or the ) behind the parameters, which have names and no types,",
-        );
-    }
-    if spot.event() == Some(Event::Transaction) {
-        return Wanted::Said(behind_value(spot));
-    }
-    Wanted::OperatorOr(behind_value(spot))
-}
-
-/// Whether what stands before a place is the `else` of a look-up.
-fn is_behind_else_of_look_up(spot: Spot<'_>) -> bool {
-    spot.is_behind_word(0, Word::Else) && spot.is_behind_symbol(1, Symbol::RightParenthesis)
+    let said = match spot.back(0) {
+        _ if is_behind_call(spot) => "(",
+        "(" | "," => behind_opening(spot),
+        _ if is_behind_operator(spot) => "a value",
+        _ if is_asked(spot) => behind_asked(spot),
+        _ if is_argument(spot) => {
+            "a comma, or the ) behind the arguments, which are texts and numbers as they stand,"
+        }
+        _ if is_parameter(spot) => {
+            "a comma, or the ) behind the parameters, which have names and no types,"
+        }
+        _ if spot.event == "txn" => behind_value(spot),
+        _ => return Wanted::OperatorOr(behind_value(spot)),
+    };
+    Wanted::Said(said)
 }
 
 /// Whether the sign of a number stands before a place: a `-` where a value may begin.
 pub(crate) fn is_behind_sign(spot: Spot<'_>) -> bool {
-    match spot.back(1) {
-        Some(TokenKind::Symbol(symbol)) => {
-            *symbol != Symbol::RightParenthesis
-                && spot.is_behind_symbol(0, Symbol::Arithmetic(Operator::Sub))
-        }
-        _ => false,
-    }
+    let is_symbol = match spot.before.iter().rev().nth(1) {
+        Some(token) => matches!(token.kind, TokenKind::Symbol(_)),
+        None => false,
+    };
+    is_symbol && spot.back(1) != ")" && spot.back(0) == "-"
 }
 
 /// What is wanted in a place.
 pub(crate) fn wanted_at(spot: Spot<'_>) -> Wanted {
-    if is_behind_sign(spot) {
-        return Wanted::Said("a number as it stands, and else 0 - VALUE,");
+    match (spot.place, spot.back(0)) {
+        _ if is_behind_sign(spot) => Wanted::Said("a number as it stands, and else 0 - VALUE,"),
+        (_, "else") if spot.back(1) == ")" => {
+            Wanted::Said("a text: as it stands, a name, get(..), or a value in parentheses,")
+        }
+        (Place::Events, _) => in_event(spot),
+        (Place::Statements, _) => in_program(spot),
+        (Place::Operations, _) if is_behind_call(spot) => Wanted::Said("("),
+        (Place::Operations, _) => Wanted::Words("operation", &OPERATIONS, ""),
+        (Place::Parentheses, _) => in_parentheses(spot),
     }
-    if is_behind_else_of_look_up(spot) {
-        return Wanted::Said("a text: as it stands, a name, get(..), or a value in parentheses,");
-    }
-    match spot.place() {
-        Place::Events => in_event(spot),
-        Place::Statements => in_program(spot),
-        Place::Operations if is_behind_call(spot) => Wanted::Said("("),
-        Place::Operations => Wanted::Words("operation", &OPERATIONS, ""),
-        Place::Parentheses => in_parentheses(spot),
+}
+
+/// Whether a statement, an event or what stands beside events may begin in a place.
+pub(crate) fn begins_anew_at(spot: Spot<'_>) -> bool {
+    match wanted_at(spot) {
+        Wanted::Words(noun, _, _) => is_one_of(noun, &[STATEMENT, EVENT_NOUN, OPTION_NOUN]),
+        Wanted::Said(said) => said == STATEMENT_OR_END,
+        Wanted::OperatorOr(_) => false,
     }
 }
 
 /// Which numbers may stand in a place.
 pub(crate) fn numbers_at(spot: Spot<'_>) -> &'static str {
-    if spot.is_behind(0, "max") || spot.is_behind_symbol(0, Symbol::Dots) {
-        return match spot.place() {
-            Place::Statements => "0 to 1000",
-            _ => "0 to 9223372036854775807",
-        };
-    }
-    if spot.is_behind(0, "begin") {
-        return "1 to 9223372036854775806";
-    }
-    if spot.is_behind(0, "limit") {
-        return match spot.event() {
-            Some(Event::Begin) => "1 to 128",
-            _ => "0 to 4294967295",
-        };
-    }
-    match spot.place() {
-        Place::Events | Place::Operations => "0 to 9223372036854775807",
+    match (spot.back(0), spot.place) {
+        ("max" | "..", Place::Statements) => "0 to 1000",
+        ("max" | "..", _) => "0 to 9223372036854775807",
+        ("begin", _) => "1 to 9223372036854775806",
+        ("limit", _) if spot.event == "begin" => "1 to 128",
+        ("limit", _) => "0 to 4294967295",
+        (_, Place::Events | Place::Operations) => "0 to 9223372036854775807",
         _ => "-9223372036854775808 to 9223372036854775807, and as a lease from 0 on",
     }
 }

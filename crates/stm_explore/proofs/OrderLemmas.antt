@@ -17,7 +17,8 @@ use Rattle.stm_explore.specs.declared.turns.TurnPlace.{TurnPlace}
 use Rattle.stm_explore.specs.declared.orders.Compared.{Compared}
 use Rattle.stm_explore.specs.declared.orders.Compared.TheVariants.{Serial as AllSerial, Odd, Undecided as NotKnown}
 use Rattle.stm_explore.specs.declared.orders.SerialAnswer.TheVariants.{Serial, Anomaly, Undecided}
-use Rattle.stm_explore.specs.Orders.{Answers, AreCompared, IsExplained, IsSought, IsWithin, explained_by}
+use Rattle.stm_explore.specs.Explored.{AreAllOutcomes}
+use Rattle.stm_explore.specs.Orders.{Answers, AreCompared, IsExplained, IsSought, IsWithin, NoneIsSooner, explained_by}
 use Rattle.stm_explore.specs.Turns.{IsSerial, counted, turn_steps}
 use Rattle.stm_explore.specs.Witnesses.{AreOrdered, AreWitnesses, IsWitness}
 use Rattle.stm_explore.proofs.TurnLemmas.{no_order, order_found, start_of}
@@ -78,7 +79,7 @@ pub within_lists : (p : Place) (ends : Ends) (outcomes : List Outcome) (schedule
     AreCompared p ends outcomes c → IsWithin outcomes schedules c
 within_lists p ends outcomes schedules AllSerial are compared = tt
 within_lists p ends outcomes schedules (Odd i) are compared = (compared.0, subst (λ (n : ℕ). i < n) (sym (as_many p ends outcomes schedules are)) compared.0)
-within_lists p ends outcomes schedules (NotKnown i) are compared = (compared, subst (λ (n : ℕ). i < n) (sym (as_many p ends outcomes schedules are)) compared)
+within_lists p ends outcomes schedules (NotKnown i) are compared = (compared.0, subst (λ (n : ℕ). i < n) (sym (as_many p ends outcomes schedules are)) compared.0)
 
 behind : (s : List Move) (schedules : List (List Move)) (j : ℕ) (e : List Move) → AllByRecursion (λ (other : List Move). length s ≤ length other) schedules →
     j < length schedules → length s ≤ length (get_or schedules j e)
@@ -107,30 +108,39 @@ before_index P outcomes i j o all less within =
     let long : length (take i outcomes) ≡ i = length-take-le i outcomes (omega (arith, within)) in
     subst P (get_or-take i outcomes j o less) (all j o (omega (arith, less, long)))
 
--- what stands at the index is that outcome and its witness, and no other odd outcome has a shorter one
+-- where some serial order comes to each outcome before the index, no odd one has a shorter witness than the one at the index
+none_sooner : (p : Place) (ends : Ends) (outcomes : List Outcome) (schedules : List (List Move)) (i : ℕ) (schedule : List Move) →
+    schedule ≡ get_or schedules i schedule → AreAllOutcomes p ends outcomes → AreWitnesses p ends outcomes schedules → AreOrdered schedules → i < length outcomes →
+    All (IsSerial p ends) (take i outcomes) → NoneIsSooner p ends schedule
+none_sooner p ends outcomes schedules i schedule scheduled all are ordered within before other o comes odd =
+    let there = (all.0 o).1 (other, comes) in
+    let j : ℕ = there.0 in
+    elim (less_or_not j i) [
+      | inl less ↦ absurd (odd (subst (IsSerial p ends) there.2 (before_index (IsSerial p ends) outcomes i j o before less within)))
+      | inr not ↦
+          let there_too : j < length schedules = subst (λ (n : ℕ). j < n) (sym (as_many p ends outcomes schedules are)) there.1 in
+          let first : length (get_or schedules i schedule) ≤ length (get_or schedules j other) = no_longer schedules i j schedule other ordered not there_too in
+          let same : length schedule ≡ length (get_or schedules i schedule) = ap length scheduled in
+          let least : length (get_or schedules j other) ≤ length other =
+          (witness_at p ends outcomes schedules j o other are there.1).shortest other (subst (Comes other p ends) (sym there.2) comes) in
+          omega (arith, first, same, least)
+    ]
+
+-- what stands at the index is that outcome and its witness
 pub anomaly_by : (outcomes : List Outcome) (schedules : List (List Move)) (i : ℕ) (it : Outcome) (schedule : List Move) → it ≡ get_or outcomes i it →
     schedule ≡ get_or schedules i schedule → Answers outcomes schedules (Odd i) (Anomaly it schedule)
 anomaly_by outcomes schedules i it schedule at scheduled p ends all are ordered compared = (
   witness_of p ends outcomes schedules i it schedule are compared.0 at scheduled,
   λ serial. compared.1 it (subst (IsSerial p ends) at serial),
-  λ other o comes odd.
-      let there = (all.0 o).1 (other, comes) in
-      let j : ℕ = there.0 in
-      elim (less_or_not j i) [
-        | inl less ↦ absurd (odd (subst (IsSerial p ends) there.2 (before_index (IsSerial p ends) outcomes i j o compared.2 less compared.0)))
-        | inr not ↦
-            let within : j < length schedules = subst (λ (n : ℕ). j < n) (sym (as_many p ends outcomes schedules are)) there.1 in
-            let first : length (get_or schedules i schedule) ≤ length (get_or schedules j other) = no_longer schedules i j schedule other ordered not within in
-            let same : length schedule ≡ length (get_or schedules i schedule) = ap length scheduled in
-            let least : length (get_or schedules j other) ≤ length other =
-            (witness_at p ends outcomes schedules j o other are there.1).shortest other (subst (Comes other p ends) (sym there.2) comes) in
-            omega (arith, first, same, least)
-      ],
+  none_sooner p ends outcomes schedules i schedule scheduled all are ordered compared.0 compared.2,
 )
 
 pub unknown_by : (outcomes : List Outcome) (schedules : List (List Move)) (i : ℕ) (it : Outcome) (schedule : List Move) → it ≡ get_or outcomes i it →
     schedule ≡ get_or schedules i schedule → Answers outcomes schedules (NotKnown i) (Undecided it schedule)
-unknown_by outcomes schedules i it schedule at scheduled p ends all are ordered compared = witness_of p ends outcomes schedules i it schedule are compared at scheduled
+unknown_by outcomes schedules i it schedule at scheduled p ends all are ordered compared = (
+  witness_of p ends outcomes schedules i it schedule are compared.0 at scheduled,
+  none_sooner p ends outcomes schedules i schedule scheduled all are ordered compared.0 compared.1,
+)
 
 pub serial_by : (outcomes : List Outcome) (schedules : List (List Move)) (count : ℕ) → length outcomes ≡ count → Answers outcomes schedules AllSerial (Serial count)
 serial_by outcomes schedules count is p ends all are ordered compared = (outcomes, all, compared, is)

@@ -1,8 +1,10 @@
 //! Whether whole schedules come to what serial orders come to.
-ghost use Rattle.std.specs.Prelude.{◌≡◌, ◌<◌, None, filter, length, slice_index_or, IfOk};
-ghost use Rattle.stm_visited.specs.Answers.{IsVisited};
-ghost use Rattle.stm_explore.specs.Explored.{AreAllOutcomes, AreOutcomes, OutcomesAreWitnessed};
+ghost use Rattle.std.specs.Prelude.{◌≡◌, ◌<◌, ◌≤◌, ℕ, None, filter, length, slice_index_or, IfOk};
+ghost use Rattle.stm_schedules.specs.Places.{Place};
+ghost use Rattle.stm_visited.specs.Answers.{IsVisited, OpenIsSpent};
+ghost use Rattle.stm_explore.specs.Explored.{AreAllOutcomes, AreOutcomes, OutcomesAreWitnessed, OpenOutcomesAreSpent, OpenOutcomesAreFar};
 ghost use Rattle.stm_explore.specs.Orders.{Answers, AreCompared, IsExplained, IsSerialAnswer, IsSought, IsWithin, explained_by};
+ghost use Rattle.stm_explore.specs.Orders.{OpenAnswerIsSpent, OpenAnswerIsFar, UnknownIsSpent, NotKnownIsSpent};
 ghost use Rattle.stm_explore.specs.Turns.{counted, counts, turn_steps};
 ghost use Rattle.stm_explore.specs.Witnesses.{AreOrdered, AreWitnesses};
 
@@ -46,7 +48,7 @@ pub enum SerialAnswer {
     Undecided {
         /// The outcome.
         outcome: Outcome,
-        /// A schedule that comes to it: none that does is shorter.
+        /// A schedule that comes to it: none that does is shorter, nor is one that comes to an outcome to which no serial order does.
         moves: Sequence<Move>,
     },
 }
@@ -118,7 +120,9 @@ fn seek<O: Observer>(
     start: TurnPlace,
     budget: &mut Budget<O>,
 ) -> Result<Visited<Move>, AllocError>
-    ensures { IfOk result (IsVisited (turn_steps turns.now.wanted.now turns.now.goal.now turns.now.gathered.others.now) start) }
+    ensures visited { IfOk result (IsVisited (turn_steps turns.now.wanted.now turns.now.goal.now turns.now.gathered.others.now) start) }
+    ensures left { budget.new.left ≤ budget.old.left }
+    ensures spent { IfOk result (OpenIsSpent budget.new.left) }
 {
     let mut quiet = Budget {
         left: budget.left,
@@ -138,7 +142,9 @@ fn find_order<O: Observer>(
     outcome: &Outcome,
     budget: &mut Budget<O>,
 ) -> Result<Visited<Move>, AllocError>
-    ensures { IfOk result (IsSought outcome.now (record { world = world.now; others = others.now }) ends.now) }
+    ensures sought { IfOk result (IsSought outcome.now (record { world = world.now; others = others.now }) ends.now) }
+    ensures left { budget.new.left ≤ budget.old.left }
+    ensures spent { IfOk result (OpenIsSpent budget.new.left) }
 {
     let goal = counted(alloc, outcome)?;
     let start = start_in_turn(alloc, world, ends)?;
@@ -161,7 +167,8 @@ pub(crate) enum Explained {
 
 /// Whether a serial order comes to an outcome, by what was found.
 fn explained_by(visited: &Visited<Move>) -> Explained
-    ensures { result ≡ explained_by visited.now }
+    ensures explained { result ≡ explained_by visited.now }
+    ensures spent { (left : ℕ) → OpenIsSpent left visited.now → UnknownIsSpent left result }
 {
     match visited {
         Visited::Broken { .. } => Explained::Yes,
@@ -179,7 +186,9 @@ fn explain<O: Observer>(
     outcome: &Outcome,
     budget: &mut Budget<O>,
 ) -> Result<Explained, AllocError>
-    ensures { IfOk result (IsExplained outcome.now (record { world = world.now; others = others.now }) ends.now) }
+    ensures explained { IfOk result (IsExplained outcome.now (record { world = world.now; others = others.now }) ends.now) }
+    ensures left { budget.new.left ≤ budget.old.left }
+    ensures spent { IfOk result (UnknownIsSpent budget.new.left) }
 {
     let visited = find_order(alloc, others, world, ends, outcome, budget)?;
     Ok(explained_by(&visited))
@@ -205,7 +214,9 @@ fn compare<O: Observer>(
     outcomes: &[Outcome],
     budget: &mut Budget<O>,
 ) -> Result<Compared, AllocError>
-    ensures { IfOk result (AreCompared (record { world = world.now; others = others.now }) ends.now outcomes.now) }
+    ensures compared { IfOk result (AreCompared (record { world = world.now; others = others.now }) ends.now outcomes.now) }
+    ensures left { budget.new.left ≤ budget.old.left }
+    ensures spent { IfOk result (NotKnownIsSpent budget.new.left) }
 {
     for i in 0..outcomes.len() {
         let explained = explain(alloc, others, world, ends, &outcomes[i], budget)?;
@@ -234,7 +245,9 @@ fn answer_of(
     compared: Compared,
 ) -> SerialAnswer
     requires { IsWithin outcomes schedules compared }
-    ensures { Answers outcomes schedules compared result }
+    ensures answers { Answers outcomes schedules compared result }
+    ensures spent { (left : ℕ) → NotKnownIsSpent left compared → OpenAnswerIsSpent left result }
+    ensures far { (p : Place) (made : ℕ) → OpenAnswerIsFar p made result }
 {
     match compared {
         Compared::Serial => SerialAnswer::Serial {
@@ -263,7 +276,10 @@ fn answer_about<O: Observer>(
 ) -> Result<SerialAnswer, AllocError>
     requires all { AreAllOutcomes (record { world = world.now; others = others.now }) ends.now outcomes }
     requires witnessed { AreWitnesses (record { world = world.now; others = others.now }) ends.now outcomes schedules × AreOrdered schedules }
-    ensures { IfOk result (IsSerialAnswer (record { world = world.now; others = others.now }) ends.now) }
+    ensures answer { IfOk result (IsSerialAnswer (record { world = world.now; others = others.now }) ends.now) }
+    ensures left { budget.new.left ≤ budget.old.left }
+    ensures spent { IfOk result (OpenAnswerIsSpent budget.new.left) }
+    ensures far { (p : Place) (made : ℕ) → IfOk result (OpenAnswerIsFar p made) }
 {
     let world = shared_copy(alloc, world)?;
     let compared = compare(alloc, others, &world, ends, outcomes.as_slice(), budget)?;
@@ -281,7 +297,11 @@ fn answer_by<O: Observer>(
 ) -> Result<SerialAnswer, AllocError>
     requires all { AreOutcomes (record { world = world.now; others = others.now }) ends.now found }
     requires witnessed { OutcomesAreWitnessed (record { world = world.now; others = others.now }) ends.now found }
-    ensures { IfOk result (IsSerialAnswer (record { world = world.now; others = others.now }) ends.now) }
+    requires spent { OpenOutcomesAreSpent budget.old.left found }
+    ensures answer { IfOk result (IsSerialAnswer (record { world = world.now; others = others.now }) ends.now) }
+    ensures left { budget.new.left ≤ budget.old.left }
+    ensures spent { IfOk result (OpenAnswerIsSpent budget.new.left) }
+    ensures far { (p : Place) (made : ℕ) → OpenOutcomesAreFar p made found → IfOk result (OpenAnswerIsFar p made) }
 {
     match found {
         Outcomes::Found {
@@ -300,7 +320,10 @@ fn look<O: Observer>(
     ends: &[Option<RunnerEnd>],
     budget: &mut Budget<O>,
 ) -> Result<SerialAnswer, AllocError>
-    ensures { IfOk result (IsSerialAnswer (record { world = world.now; others = others.now }) ends.now) }
+    ensures answer { IfOk result (IsSerialAnswer (record { world = world.now; others = others.now }) ends.now) }
+    ensures left { budget.new.left ≤ budget.old.left }
+    ensures spent { IfOk result (OpenAnswerIsSpent budget.new.left) }
+    ensures far { IfOk result (OpenAnswerIsFar (record { world = world.now; others = others.now }) budget.old.left) }
 {
     let found = gather_outcomes(alloc, world, others, ends, budget)?;
     answer_by(alloc, world, others, ends, found, budget)
@@ -310,8 +333,9 @@ fn look<O: Observer>(
 /// bring.
 ///
 /// First all outcomes are found, as by `find_outcomes`, and then for each in turn a serial order that comes to it. At most as many moves are made in all as
-/// `budget` has left: it keeps those that are not. Its observer is notified of how far the first search is. `ends` has what is known of the runners' ends
-/// before, by the runners' numbers, as `ends_reported` returns it.
+/// `budget` has left: it keeps those that are not, and the answer is `Open` or `Undecided` only where none is left, `Open` as far as that of `find_outcomes`.
+/// Its observer is notified of how far the first search is. `ends` has what is known of the runners' ends before, by the runners' numbers, as `ends_reported`
+/// returns it.
 ///
 /// It fails only when out of memory. The world is left as it was.
 pub fn find_anomaly<O: Observer>(
@@ -321,7 +345,10 @@ pub fn find_anomaly<O: Observer>(
     ends: &[Option<RunnerEnd>],
     budget: &mut Budget<O>,
 ) -> Result<SerialAnswer, AllocError>
-    ensures { IfOk result (IsSerialAnswer (record { world = world.now; others = others.now }) ends.now) }
+    ensures answer { IfOk result (IsSerialAnswer (record { world = world.now; others = others.now }) ends.now) }
+    ensures left { budget.new.left ≤ budget.old.left }
+    ensures spent { IfOk result (OpenAnswerIsSpent budget.new.left) }
+    ensures far { IfOk result (OpenAnswerIsFar (record { world = world.now; others = others.now }) budget.old.left) }
 {
     let answer = look(alloc, world, others, ends, budget);
     budget.observer.ended();

@@ -23,7 +23,7 @@ use Rattle.stm_explore.specs.declared.asking.When.TheVariants.{Each, Last}
 use Rattle.stm_explore.specs.declared.exploring.Explored.{Explored}
 use Rattle.stm_explore.specs.declared.exploring.Explored.TheVariants.{Always, Broken, Open}
 use Rattle.stm_explore.specs.declared.waits.Wait.{Wait}
-use Rattle.stm_explore.specs.Asked.{asks, end_for, laid, laid_or, laid_over, seen_by}
+use Rattle.stm_explore.specs.Asked.{asks, end_for, laid, laid_or, seen_by}
 use Rattle.stm_explore.specs.Explored.{IsExplored}
 use Rattle.stm_explore.specs.Waiting.{AreAllowed, IsExploredPatiently, IsPatient, PatientKeepUpTo, SomePatient, allowed, is_allowed, kept_after}
 use Rattle.stm_explore.proofs.ExploreLemmas.{merges_keep}

@@ -1,5 +1,5 @@
 -- What is found of outcomes from one of two places that agree is so from the other, once its schedules are made there.
-use Rattle.std.proofs.Common.{◌≡◌, ◌≢◌, ◌↔◌, ◌<◌, ◌≤◌, ℕ, zero, suc, Bool, List, [], ◌∷◌, length, map, filter, get_or, All, Option, None, refl, sym, ap, ◌∙◌, subst, arith}
+use Rattle.std.proofs.Common.{◌≡◌, ◌≢◌, ◌<◌, ℕ, zero, suc, Bool, List, [], ◌∷◌, length, filter, get_or, All, Option, None, refl, sym, ap, ◌∙◌, subst, arith}
 use Rattle.std.specs.Prelude.{Contains}
 use Rattle.std.specs.List.{AllByRecursion}
 use Rattle.std.proofs.lemmas.List.{length-map}
@@ -16,8 +16,8 @@ use Rattle.stm_explore.specs.declared.orders.SerialAnswer.{SerialAnswer}
 use Rattle.stm_explore.specs.declared.orders.SerialAnswer.TheVariants as serial
 use Rattle.stm_explore.specs.Explored.{AreAllOutcomes, AreOutcomesUpTo}
 use Rattle.stm_explore.specs.Gathering.{AreDistinct}
-use Rattle.stm_explore.specs.Orders.{IsSerialAnswer}
-use Rattle.stm_explore.specs.Turns.{AreInTurn, IsOrderFor, IsSerial, counted, counts, is_in_turn, last_turn, moves_in_turn, turn_of}
+use Rattle.stm_explore.specs.Orders.{IsSerialAnswer, NoneIsSooner}
+use Rattle.stm_explore.specs.Turns.{AreInTurn, IsOrderFor, IsSerial, counts, is_in_turn, last_turn, moves_in_turn, turn_of}
 use Rattle.stm_explore.specs.Witnesses.{AreWitnesses, IsWitness}
 use Rattle.stm_narrow.specs.AgreeingPlaces.{AreSearchedAlike, PlacesAgree}
 use Rattle.stm_narrow.proofs.Searching.{agreeing_places_are_same}
@@ -240,6 +240,12 @@ module _ (touched : List ℕ → Bool) (leased : ℕ → Bool) (since : ℕ) (en
   all_serial p q agree (it ∷ outcomes) (s ∷ schedules) come all (suc i) d within =
       all_serial p q agree outcomes schedules come.1 (λ j e there. all (suc j) e (omega (arith, there))) i d (omega (arith, within))
 
+  none_sooner_there : (p q : Place) → Agreed p q → (s : List Move) → NoneIsSooner p ends s → NoneIsSooner q ends s
+  none_sooner_there p q agree s none other o comes odd =
+      let here : Comes other p ends (outcome_after other p ends) = comes_there q p (alike p q agree).turned other o comes in
+      none other (outcome_after other p ends) here
+      (λ ordered. odd (subst (IsSerial q ends) comes.to (serial_there p q agree other (outcome_after other p ends) here ordered)))
+
   pub answered_there : (p q : Place) → Agreed p q → (answer : SerialAnswer) → IsSerialAnswer p ends answer → IsSerialAnswer q ends (answer_there q ends answer)
   answered_there p q agree (serial.Serial count) is =
       let outcomes : List Outcome = is.0 in
@@ -253,10 +259,7 @@ module _ (touched : List ℕ → Bool) (leased : ℕ → Bool) (since : ℕ) (en
   answered_there p q agree (serial.Anomaly it s) is = (
     witness p q agree it s is.0,
     λ ordered. is.1 (serial_back p q agree s it is.0.comes ordered),
-    λ other o comes odd.
-        let here : Comes other p ends (outcome_after other p ends) = comes_there q p (alike p q agree).turned other o comes in
-        is.2 other (outcome_after other p ends) here
-        (λ ordered. odd (subst (IsSerial q ends) comes.to (serial_there p q agree other (outcome_after other p ends) here ordered))),
+    none_sooner_there p q agree s is.2,
   )
   answered_there p q agree (serial.Open gone_through) is = sym ((alike p q agree).goes_on (suc gone_through)) ∙ is
-  answered_there p q agree (serial.Undecided it s) is = witness p q agree it s is
+  answered_there p q agree (serial.Undecided it s) is = (witness p q agree it s is.0, none_sooner_there p q agree s is.1)

@@ -86,13 +86,17 @@ Searches waits level d (Err Device) =
     (d.scenario_failed ≡ true)
     ⊎ ((d.scenario_failed ≡ false) × (d.keeps_failed ≡ true) × (s : Scenario) × IfSome d.scenario (λ all. asked_in level all ≡ Ok s))
 
--- The same of one source and rules that are known.
-abbrev pub SearchesFor : List Wait → Option Level → List Rule → Option (List ℕ) → Bool → Result Printed ExploreFault → Type 0
-SearchesFor waits level rules known failed (Ok p) =
-    (failed ≡ false) × (s : Scenario) × IfSome known (λ all. asked_in level all ≡ Ok s) × (first_stranger s waits ≡ None) × IsPrinted waits s rules p
-SearchesFor waits level rules known failed (Err OutOfMemory) = failed ≡ false
-SearchesFor waits level rules known failed (Err (BadScenario fault)) = (failed ≡ false) × IfSome known (λ all. asked_in level all ≡ Err fault)
-SearchesFor waits level rules known failed (Err (BadProgram fault)) = ⊥
-SearchesFor waits level rules known failed (Err (BadWait fault)) =
+-- The same of one source: this is so of its scenario and what is printed.
+abbrev pub SearchesOne : (Scenario → Printed → Type 0) → List Wait → Option Level → Option (List ℕ) → Bool → Result Printed ExploreFault → Type 0
+SearchesOne Is waits level known failed (Ok p) =
+    (failed ≡ false) × (s : Scenario) × IfSome known (λ all. asked_in level all ≡ Ok s) × (first_stranger s waits ≡ None) × Is s p
+SearchesOne Is waits level known failed (Err OutOfMemory) = failed ≡ false
+SearchesOne Is waits level known failed (Err (BadScenario fault)) = (failed ≡ false) × IfSome known (λ all. asked_in level all ≡ Err fault)
+SearchesOne Is waits level known failed (Err (BadProgram fault)) = ⊥
+SearchesOne Is waits level known failed (Err (BadWait fault)) =
     (failed ≡ false) × (s : Scenario) × IfSome known (λ all. asked_in level all ≡ Ok s) × IsWaitFault s waits (BadWait fault)
-SearchesFor waits level rules known failed (Err Device) = failed ≡ true
+SearchesOne Is waits level known failed (Err Device) = failed ≡ true
+
+-- of rules that are known
+abbrev pub SearchesFor : List Wait → Option Level → List Rule → Option (List ℕ) → Bool → Result Printed ExploreFault → Type 0
+SearchesFor waits level rules known failed searched = SearchesOne (λ s p. IsPrinted waits s rules p) waits level known failed searched

@@ -1,5 +1,5 @@
 -- What is known of rules at each of the four levels, and what is printed of that.
-use Rattle.std.specs.Prelude.{◌≡◌, ℕ, nat_lt, List, [], ◌∷◌, ◌++◌, map, All, Bool, true, false, if◌then◌else◌, Option, None, Some, Result, Ok, Err, IfSome, codes}
+use Rattle.std.specs.Prelude.{◌≡◌, ℕ, nat_lt, List, [], ◌∷◌, ◌++◌, map, All, Bool, true, false, if◌then◌else◌, Option, None, Some, Result, codes}
 use Rattle.std.specs.List.{concat, list_all, list_any}
 use Rattle.serde_json.specs.Data.{Data, null, string}
 use Rattle.stm_report_lines.specs.LineData.{list}
@@ -15,12 +15,10 @@ use Rattle.stm_exploring.specs.declared.printed.SearchAnswer.{SearchAnswer}
 use Rattle.stm_exploring.specs.declared.printed.SearchAnswer.TheVariants as verdict
 use Rattle.stm_exploring.specs.declared.printed.Printed.{Printed}
 use Rattle.stm_exploring.specs.declared.reading.ExploreFault.{ExploreFault}
-use Rattle.stm_exploring.specs.declared.reading.ExploreFault.TheVariants.{OutOfMemory, BadScenario, BadProgram, BadWait, Device}
 use Rattle.stm_exploring.specs.declared.rules.Rule.{Rule}
 use Rattle.stm_exploring.specs.declared.rules.RuleAnswer.{RuleAnswer}
-use Rattle.stm_exploring.specs.Exploring.{asked_in}
+use Rattle.stm_exploring.specs.Exploring.{SearchesOne}
 use Rattle.stm_exploring.specs.Judging.{AreFound, is_broken, is_kept, named_parts}
-use Rattle.stm_exploring.specs.Waits.{first_stranger, IsWaitFault}
 
 -- the levels, the weakest first
 abbrev pub levels : List Level
@@ -109,11 +107,4 @@ ArePrintedAt waits rules s p = (at : List LevelAnswers) × AreFoundAt levels wai
 
 -- what a search of a source at each level did, by its answer: all but the levels is as with one
 abbrev pub SearchesLevels : List Wait → List Rule → Option (List ℕ) → Bool → Result Printed ExploreFault → Type 0
-SearchesLevels waits rules known failed (Ok p) =
-    (failed ≡ false) × (s : Scenario) × IfSome known (λ all. asked_in None all ≡ Ok s) × (first_stranger s waits ≡ None) × ArePrintedAt waits rules s p
-SearchesLevels waits rules known failed (Err OutOfMemory) = failed ≡ false
-SearchesLevels waits rules known failed (Err (BadScenario fault)) = (failed ≡ false) × IfSome known (λ all. asked_in None all ≡ Err fault)
-SearchesLevels waits rules known failed (Err (BadProgram fault)) = ⊥
-SearchesLevels waits rules known failed (Err (BadWait fault)) =
-    (failed ≡ false) × (s : Scenario) × IfSome known (λ all. asked_in None all ≡ Ok s) × IsWaitFault s waits (BadWait fault)
-SearchesLevels waits rules known failed (Err Device) = failed ≡ true
+SearchesLevels waits rules known failed searched = SearchesOne (ArePrintedAt waits rules) waits None known failed searched

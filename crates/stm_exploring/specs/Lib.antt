@@ -7,6 +7,7 @@ pub mod Exploring
 pub mod Levels
 pub mod Replaying
 pub mod Narrowing
+pub mod Beginnings
 pub mod SerialLevels
 pub mod Questions
 pub mod Laws

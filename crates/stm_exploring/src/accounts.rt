@@ -7,6 +7,7 @@ use crate::asked_keys::{rule_word, tell_of_rules, tell_of_runners};
 use crate::audience::Audience;
 use crate::counted_ends::{Came, count_end, push_ends};
 use crate::final_words::{AskedOutput, outputs_asked, wrong_ends};
+use crate::judging::Searched;
 use crate::key_use::{KeyUse, VaryingRule, varying_rules};
 use crate::lost_leases::tell_lost_leases;
 use crate::rules::{RuleAnswer, has_kept};
@@ -22,7 +23,6 @@ use stm_meaning::{End, Run};
 use stm_program::Program;
 use stm_retry::World;
 use stm_serial_search::{Follower, go_through_orders};
-use stm_texts::WorldEvent;
 
 /// At most this many moves are made for an account of serial orders.
 const MOST_MOVES: u64 = 10000;
@@ -36,6 +36,17 @@ pub(crate) enum Told {
     Never,
     /// Of none. It is only said which keys the rules ask for in vain.
     None,
+}
+
+impl Told {
+    /// Whether it tells of a runner that has committed, or never has.
+    pub(crate) fn is_of(self, has_committed: bool) -> bool {
+        match self {
+            Told::All => true,
+            Told::Never => !has_committed,
+            Told::None => false,
+        }
+    }
 }
 
 /// What is said at the end of a search: all where that is wanted, and where a rule is always kept which runners never committed.
@@ -93,7 +104,7 @@ pub(crate) struct Account<'a> {
     /// How many moves may still be made.
     left: u64,
     /// Whether all orders were gone through so far.
-    is_whole: bool,
+    pub(crate) is_whole: bool,
     /// Whether an allocation failed.
     is_cut: bool,
 }
@@ -195,32 +206,6 @@ impl<'a> Account<'a> {
     /// The same of a key that no program puts by its spelling, either.
     pub(crate) fn is_strange(&self, key: &Text) -> bool {
         self.is_unput(key) && !self.keys.is_spelled(key)
-    }
-
-    /// Nothing is known of the runs of so many runners, and this of keys and outputs.
-    fn new(
-        alloc: Global,
-        count: usize,
-        keys: KeyUse,
-        outputs: Vec<AskedOutput>,
-        varying: Vec<VaryingRule<'a>>,
-        programs: &'a [Program],
-        told: Told,
-    ) -> Result<Account<'a>, AllocError> {
-        let runners = no_account(alloc, count)?;
-        Ok(Account {
-            alloc,
-            varying,
-            programs,
-            runners,
-            keys,
-            outputs,
-            told,
-            waiting: count,
-            left: MOST_MOVES,
-            is_whole: true,
-            is_cut: false,
-        })
     }
 
     /// Notes what the rules ask for at a place that make keys of variables.
@@ -345,14 +330,7 @@ fn line_of(alloc: Global, runner: usize, runs: &Runs, of: &str, is_kept: bool) -
 
 /// Whether it is to be said how the runs of a runner ended, if there were any.
 pub(crate) fn is_said(runs: &Runs, told: Told) -> bool {
-    if runs.ends.is_empty() {
-        return false;
-    }
-    match told {
-        Told::All => true,
-        Told::Never => !runs.has_committed,
-        Told::None => false,
-    }
+    !runs.ends.is_empty() && told.is_of(runs.has_committed)
 }
 
 /// Says to which fault the program of a runner first comes, where that was noted.
@@ -488,17 +466,16 @@ fn tell_ended<O: Audience>(
     }
 }
 
-/// Says what an account of serial orders has, which begin in this world, with these events of the others.
+/// Says what an account of serial orders has.
 fn tell_orders<O: Audience>(
     account: &Account<'_>,
-    world: &World,
-    others: &[WorldEvent],
+    at: &Searched<'_>,
     answers: &[RuleAnswer],
     seen: Option<&SeenEnds>,
     audience: &mut O,
 ) -> Result<(), AllocError> {
     tell_ended(account, answers, seen, audience)?;
-    tell_lost_leases(account, world, others, audience)?;
+    tell_lost_leases(account, at.whole, at.others, audience)?;
     tell_of_runners(account, audience)?;
     tell_without_abort(account.alloc, answers, audience)?;
     tell_of_rules(account, answers, audience)?;
@@ -511,38 +488,19 @@ fn tell_orders<O: Audience>(
 fn note_keys(
     alloc: Global,
     keys: &mut KeyUse,
-    others: &[WorldEvent],
-    programs: &[Program],
+    at: &Searched<'_>,
     answers: &[RuleAnswer],
 ) -> Result<(), AllocError> {
     keys.note_rules(alloc, answers)?;
-    keys.note_programs(alloc, programs)?;
-    keys.note_events(others)
+    keys.note_programs(alloc, at.programs)?;
+    keys.note_events(at.others)
 }
 
-/// The outputs that rules ask for, and the rules that may ask for another key at each place.
-fn asked_by(
-    alloc: Global,
-    answers: &[RuleAnswer],
-) -> Result<(Vec<AskedOutput>, Vec<VaryingRule<'_>>), AllocError> {
-    let outputs = outputs_asked(alloc, answers)?;
-    let varying = varying_rules(alloc, answers)?;
-    Ok((outputs, varying))
-}
-
-/// The account of no run of so many runners, of which this is known of keys.
-fn account_of<'a>(
-    alloc: Global,
-    count: usize,
-    keys: KeyUse,
-    programs: &'a [Program],
-    answers: &'a [RuleAnswer],
-    told: Told,
-) -> Result<Account<'a>, AllocError> {
-    match asked_by(alloc, answers) {
-        Ok((outputs, varying)) => {
-            Account::new(alloc, count, keys, outputs, varying, programs, told)
-        }
+/// What is known of keys before any run.
+fn keys_of(alloc: Global, at: &Searched<'_>, answers: &[RuleAnswer]) -> Result<KeyUse, AllocError> {
+    let mut keys = KeyUse::new(alloc, at.whole)?;
+    match note_keys(alloc, &mut keys, at, answers) {
+        Ok(()) => Ok(keys),
         Err(_) => {
             drop(keys);
             Err(AllocError)
@@ -553,62 +511,62 @@ fn account_of<'a>(
 /// The account of no run, about rules.
 fn account_before<'a>(
     alloc: Global,
-    world: &World,
-    others: &[WorldEvent],
-    programs: &'a [Program],
+    at: &Searched<'a>,
     answers: &'a [RuleAnswer],
     told: Told,
 ) -> Result<Account<'a>, AllocError> {
-    let mut keys = KeyUse::new(alloc, world)?;
-    match note_keys(alloc, &mut keys, others, programs, answers) {
-        Ok(()) => account_of(alloc, world.runner_count(), keys, programs, answers, told),
-        Err(_) => {
-            drop(keys);
-            Err(AllocError)
-        }
-    }
+    let outputs = outputs_asked(alloc, answers)?;
+    let varying = varying_rules(alloc, answers)?;
+    let waiting = at.whole.runner_count();
+    let runners = no_account(alloc, waiting)?;
+    let keys = keys_of(alloc, at, answers)?;
+    Ok(Account {
+        alloc,
+        varying,
+        programs: at.programs,
+        runners,
+        keys,
+        outputs,
+        told,
+        waiting,
+        left: MOST_MOVES,
+        is_whole: true,
+        is_cut: false,
+    })
 }
 
 /// Makes an account, and says it. The orders are gone through in a world that stands for the whole one.
 fn make_account<O: Audience>(
     alloc: Global,
-    world: &World,
-    whole: &World,
-    others: &[WorldEvent],
-    programs: &[Program],
+    at: &Searched<'_>,
     answers: &[RuleAnswer],
     seen: Option<&SeenEnds>,
     told: Told,
     audience: &mut O,
 ) -> Result<(), AllocError>
-    requires { AreProgramsOf programs.now world.now.runners }
+    requires { AreProgramsOf at.now.programs.now at.now.world.now.runners }
 {
-    let mut account = account_before(alloc, whole, others, programs, answers, told)?;
-    go_through_orders(alloc, world, others, programs, &mut account)?;
+    let mut account = account_before(alloc, at, answers, told)?;
+    go_through_orders(alloc, at.world, at.others, at.programs, &mut account)?;
     if account.is_cut {
         return Err(AllocError);
     }
-    tell_orders(&account, whole, others, answers, seen, audience)
+    tell_orders(&account, at, answers, seen, audience)
 }
 
 /// Says how the runs ended of the runners of which it is told, each program run alone in every serial order, or at the ends of schedules, where these
 /// were seen, and which keys the rules ask for that are not there in the whole world and that nothing puts. Or it says that an allocation failed for it.
 pub(crate) fn tell_account<O: Audience>(
     alloc: Global,
-    world: &World,
-    whole: &World,
-    others: &[WorldEvent],
-    programs: &[Program],
+    at: &Searched<'_>,
     answers: &[RuleAnswer],
     seen: Option<&SeenEnds>,
     audience: &mut O,
 )
-    requires { AreProgramsOf programs.now world.now.runners }
+    requires { AreProgramsOf at.now.programs.now at.now.world.now.runners }
 {
     let told = told_of(audience.wants_all(), has_kept(answers));
-    if let Err(_) = make_account(
-        alloc, world, whole, others, programs, answers, seen, told, audience,
-    ) {
+    if let Err(_) = make_account(alloc, at, answers, seen, told, audience) {
         audience.hear(NO_MEMORY);
     }
 }

@@ -4,23 +4,13 @@ use crate::audience::Audience;
 use crate::judging::is_open;
 use crate::printed::SearchAnswer;
 use crate::rules::RuleAnswer;
+use crate::setup::is_start;
 use std::alloc::Global;
 use stm_explain::Said;
 use stm_explore::{Wait, When};
 use stm_program::Level;
 use stm_serial_search::are_orderly;
 use stm_texts::WorldEvent;
-
-/// How many runs these events start.
-fn run_count(events: &[WorldEvent]) -> usize {
-    let mut count = 0usize;
-    for event in events {
-        if matches!(event, WorldEvent::Start { .. }) {
-            count = count.saturating_add(1);
-        }
-    }
-    count
-}
 
 /// Whether an event starts a run that may send a second commit, after one that failed: at ReadCommitted none fails.
 fn may_go_on(event: &WorldEvent) -> bool {
@@ -32,7 +22,7 @@ fn may_go_on(event: &WorldEvent) -> bool {
 
 /// The line of what may decide a search through these events: a level that compares, too, where serial orders decide then.
 fn advice_line(alloc: Global, events: &[WorldEvent], has_orders: bool) -> Said {
-    let has_runners = run_count(events) > 1;
+    let has_runners = events.iter().filter(|event| is_start(event)).count() > 1;
     let has_limit = events.iter().any(may_go_on);
     let has_level = has_orders && !are_orderly(events);
     let runners = if has_runners { "fewer runners, " } else { "" };
@@ -76,11 +66,6 @@ pub(crate) fn tell_if_open<O: Audience>(
     }
 }
 
-/// Whether a rule was not decided.
-fn is_undecided(a: &RuleAnswer) -> bool {
-    is_open(&a.answer)
-}
-
 /// Whether a rule was not decided of which serial orders can decide something: a final is none.
 fn is_for_orders(a: &RuleAnswer) -> bool {
     a.rule.when == When::Each && is_open(&a.answer)
@@ -96,7 +81,7 @@ pub(crate) fn tell_open<O: Audience>(
     has_levels: bool,
     audience: &mut O,
 ) {
-    if answers.iter().any(is_undecided) {
+    if answers.iter().any(|a| is_open(&a.answer)) {
         let has_orders = has_levels && waits.is_empty() && answers.iter().any(is_for_orders);
         tell_advice(alloc, events, has_orders, audience);
     }

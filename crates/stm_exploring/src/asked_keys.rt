@@ -1,7 +1,9 @@
 //! What is said of keys that rules and runners ask for and that nothing puts: most are misspelt, and some are to stay absent.
+ghost use Rattle.std.specs.Prelude.{◌<◌};
 
 use crate::accounts::{Account, Runs, is_said, shown_text};
 use crate::audience::Audience;
+use crate::elses::have_else;
 use crate::key_use::AskedKey;
 use crate::near_keys::{are_of_a_list, nearest};
 use crate::rules::RuleAnswer;
@@ -52,28 +54,52 @@ fn places_words(is_sure: bool) -> &'static str {
     if is_sure { "" } else { " in any serial order" }
 }
 
-/// The line that says that somebody asks for a key that nothing puts, and which one is nearest.
-fn key_line(alloc: Global, who: &str, key: &Text, is_sure: bool, near: &str) -> Said {
+/// What somebody does who looks a key up in some run.
+const ASKS: &str = "asks for";
+
+/// The same, where it says what stands for the key that is absent.
+const ASKS_ELSE: &str = "asks, with an else, for";
+
+/// What a runner does with a key that stands in its program and that a run looked up, or none was seen to.
+fn verb(account: &Account<'_>, is_looked_up: bool) -> &'static str {
+    if is_looked_up {
+        ASKS
+    } else if account.is_whole {
+        "names, but looks up in no serial order,"
+    } else {
+        "names"
+    }
+}
+
+/// The line that says that somebody asks for a key that nothing puts, or only names it, and which one is nearest.
+fn key_line(alloc: Global, who: &str, verb: &str, key: &Text, is_sure: bool, near: &str) -> Said {
     let key = shown_text(alloc, key.as_str())?;
     let places = places_words(is_sure);
     let near = near_words(alloc, near)?;
     format!(in alloc;
-        "{who} asks for the key {key}, which is not there and which nothing puts{places}{near}"
+        "{who} {verb} the key {key}, which is not there and which nothing puts{places}{near}"
     )
 }
 
-/// A key that is so near to one which nothing puts that this is most likely misspelt; an empty text where there is none.
-fn meant<'a>(account: &'a Account<'_>, key: &Text) -> Result<&'a str, AllocError> {
+/// The nearest key to one, not further than that part of it, unless the two are of a list, of which one may well ask for more than is there; an empty text where
+/// there is none.
+fn near_one<'a>(account: &'a Account<'_>, key: &Text, part: usize) -> Result<&'a str, AllocError>
+    requires { 0 < part }
+{
     let alloc = account.alloc;
-    if !account.is_strange(key) {
-        return Ok("");
-    }
-    let keys = &account.keys;
-    let near = nearest(alloc, keys, key, MEANT)?;
+    let near = nearest(alloc, &account.keys, key, part)?;
     if are_of_a_list(alloc, key.as_str(), near)? {
         return Ok("");
     }
     Ok(near)
+}
+
+/// A key that is so near to one which nothing puts that this is most likely misspelt; an empty text where there is none.
+fn meant<'a>(account: &'a Account<'_>, key: &Text) -> Result<&'a str, AllocError> {
+    if !account.is_strange(key) {
+        return Ok("");
+    }
+    near_one(account, key, MEANT)
 }
 
 /// The line of a key that a runner asks for and that nothing puts.
@@ -81,7 +107,8 @@ fn runner_key_line(account: &Account<'_>, asked: &AskedKey, near: &str) -> Said 
     let alloc = account.alloc;
     let who = runner_word(alloc, asked.who)?;
     let is_sure = !account.keys.may_be_put(&asked.key);
-    key_line(alloc, who.as_str(), &asked.key, is_sure, near)
+    let verb = verb(account, account.keys.is_looked_up(asked));
+    key_line(alloc, who.as_str(), verb, &asked.key, is_sure, near)
 }
 
 /// Whether a runner came to a fault, and asks for a key that some program puts: that no run puts it says nothing of the key, since the runs ended before.
@@ -89,9 +116,11 @@ fn is_behind_fault(account: &Account<'_>, asked: &AskedKey, runs: &Runs) -> bool
     runs.has_faulted && account.keys.may_be_put(&asked.key)
 }
 
-/// The keys of a runner that nothing puts and of which that is worth no doubt, as they are said.
+/// Keys of a runner that nothing puts and of which that is worth no doubt, as they are said: those that a run looked up, or the others.
 #[derive(Drop)]
 struct Vain {
+    /// What it does with them.
+    verb: &'static str,
     keys: String,
     count: usize,
     /// Whether it is sure of each that nothing puts it, and not so in all serial orders alone.
@@ -99,6 +128,16 @@ struct Vain {
 }
 
 impl Vain {
+    /// None so far.
+    fn new(alloc: Global, verb: &'static str) -> Vain {
+        Vain {
+            verb,
+            keys: String::new(alloc),
+            count: 0,
+            are_sure: true,
+        }
+    }
+
     /// Adds a key.
     fn add(&mut self, alloc: Global, key: &Text, is_sure: bool) -> Result<(), AllocError> {
         if self.count > 0 {
@@ -111,38 +150,68 @@ impl Vain {
         Ok(())
     }
 
-    /// The line of a runner that asks for them.
+    /// Says them of a runner, if there are any.
+    fn tell<O: Audience>(
+        &self,
+        alloc: Global,
+        runner: usize,
+        audience: &mut O,
+    ) -> Result<(), AllocError> {
+        if self.count > 0 {
+            let line = self.line(alloc, runner)?;
+            audience.hear(line.as_str());
+        }
+        Ok(())
+    }
+
+    /// The line of a runner that has them in its program.
     fn line(&self, alloc: Global, runner: usize) -> Said {
         let who = runner_word(alloc, runner)?;
         let who = who.as_str();
+        let verb = self.verb;
         let keys = self.keys.as_str();
         let words = if self.count == 1 { "key" } else { "keys" };
         let are = if self.count == 1 { "is" } else { "are" };
         let places = places_words(self.are_sure);
         format!(in alloc;
-            "{who} asks for the {words} {keys}, which {are} not there and which nothing puts{places}"
+            "{who} {verb} the {words} {keys}, which {are} not there and which nothing puts{places}"
         )
     }
 }
 
+/// Whether a runner's program says what stands for a key that is absent.
+fn runner_has_else(account: &Account<'_>, asked: &AskedKey) -> bool {
+    match account.programs.get(asked.who) {
+        Some(program) => have_else(program.statements(), asked.key.as_str()),
+        None => false,
+    }
+}
+
 /// Says of a key that a runner asks for that nothing puts it: where another key is most likely meant, and where it is to be said how its runs ended, unless
-/// that was by a fault before the key could be put. That is worth a doubt, if none of them committed; else it is added to those that stand in one line.
+/// that was by a fault before the key could be put. That is worth a doubt, if none of them committed, unless the program says what stands for the key; else it
+/// is added to those that stand in one line.
 fn tell_asked<O: Audience>(
     account: &Account<'_>,
     asked: &AskedKey,
     runs: &Runs,
-    vain: &mut Vain,
+    looked_up: &mut Vain,
+    named: &mut Vain,
     audience: &mut O,
 ) -> Result<(), AllocError> {
     let alloc = account.alloc;
-    let meant = meant(account, &asked.key)?;
     let is_said = is_said(runs, account.told) && !is_behind_fault(account, asked, runs);
-    if !meant.is_empty() || (is_said && !runs.has_committed) {
+    let is_meant = !meant(account, &asked.key)?.is_empty() || (is_said && !runs.has_committed);
+    if is_meant && !runner_has_else(account, asked) {
         let near = nearest(alloc, &account.keys, &asked.key, NEAR)?;
         let line = runner_key_line(account, asked, near)?;
         audience.doubt(line.as_str());
     } else if is_said {
         let is_sure = !account.keys.may_be_put(&asked.key);
+        let vain = if account.keys.is_looked_up(asked) {
+            looked_up
+        } else {
+            named
+        };
         vain.add(alloc, &asked.key, is_sure)?;
     }
     Ok(())
@@ -155,21 +224,16 @@ fn tell_of_runner<O: Audience>(
     runs: &Runs,
     audience: &mut O,
 ) -> Result<(), AllocError> {
-    let mut vain = Vain {
-        keys: String::new(account.alloc),
-        count: 0,
-        are_sure: true,
-    };
+    let alloc = account.alloc;
+    let mut looked_up = Vain::new(alloc, verb(account, true));
+    let mut named = Vain::new(alloc, verb(account, false));
     for asked in account.keys.by_runners.as_slice() {
         if asked.who == runner && account.is_unput(&asked.key) {
-            tell_asked(account, asked, runs, &mut vain, audience)?;
+            tell_asked(account, asked, runs, &mut looked_up, &mut named, audience)?;
         }
     }
-    if vain.count > 0 {
-        let line = vain.line(account.alloc, runner)?;
-        audience.hear(line.as_str());
-    }
-    Ok(())
+    looked_up.tell(alloc, runner, audience)?;
+    named.tell(alloc, runner, audience)
 }
 
 /// Says which keys the runners ask for that nothing puts.
@@ -183,7 +247,15 @@ pub(crate) fn tell_of_runners<O: Audience>(
     Ok(())
 }
 
-/// Says that a rule asks for a key that nothing puts, and which one is nearest.
+/// Whether a rule's program says what stands for a key that is absent.
+fn rule_has_else(answers: &[RuleAnswer], asked: &AskedKey) -> bool {
+    match answers.get(asked.who) {
+        Some(a) => have_else(a.rule.program.statements(), asked.key.as_str()),
+        None => false,
+    }
+}
+
+/// Says that a rule asks for a key that nothing puts, and which one is nearest. That is a hint, where its program says what stands for the key.
 fn tell_of_rule<O: Audience>(
     account: &Account<'_>,
     answers: &[RuleAnswer],
@@ -195,7 +267,15 @@ fn tell_of_rule<O: Audience>(
     let key = &asked.key;
     let near = nearest(alloc, keys, key, NEAR)?;
     let who = rule_word(alloc, answers, asked.who)?;
-    let line = key_line(alloc, who.as_str(), key, !keys.may_be_put(key), near)?;
+    let is_sure = !keys.may_be_put(key);
+    if rule_has_else(answers, asked) {
+        let who = who.as_str();
+        let who = format!(in alloc; "hint: {who}")?;
+        let line = key_line(alloc, who.as_str(), ASKS_ELSE, key, is_sure, near)?;
+        audience.hear(line.as_str());
+        return Ok(());
+    }
+    let line = key_line(alloc, who.as_str(), ASKS, key, is_sure, near)?;
     audience.doubt(line.as_str());
     Ok(())
 }
@@ -213,17 +293,6 @@ fn tell_of_made<O: Audience>(
         }
     }
     Ok(())
-}
-
-/// The key for which one is most likely misspelt that a rule asks for: a near one, unless the two are of a list, of which a rule may well ask for more than is
-/// there; an empty text where there is none.
-fn likely<'a>(account: &'a Account<'_>, key: &Text) -> Result<&'a str, AllocError> {
-    let alloc = account.alloc;
-    let near = nearest(alloc, &account.keys, key, NEAR)?;
-    if are_of_a_list(alloc, key.as_str(), near)? {
-        return Ok("");
-    }
-    Ok(near)
 }
 
 /// What is said first of keys that rules ask for, that nothing puts and to which none is near.
@@ -278,8 +347,11 @@ fn tell_or_add<O: Audience>(
     hint: &mut Hint,
     audience: &mut O,
 ) -> Result<(), AllocError> {
-    if !likely(account, &asked.key)?.is_empty() {
+    if !near_one(account, &asked.key, NEAR)?.is_empty() {
         return tell_of_rule(account, answers, asked, audience);
+    }
+    if rule_has_else(answers, asked) {
+        return Ok(());
     }
     let is_sure = !account.keys.may_be_put(&asked.key);
     hint.add(account.alloc, answers, asked, is_sure)

@@ -3,11 +3,15 @@
 use std::alloc::Global;
 use stm_explain::Said;
 use stm_explore::{Nobody, Observer};
+use stm_program::Level;
 
 /// Who is notified of how far a search is, and told what is said of it.
 pub trait Audience: Observer {
     /// Whether all is to be said: of every runner how its runs ended, and not only of those that never committed, and which events are the others'.
     fn wants_all(&self) -> bool;
+
+    /// A search at all levels begins at this one.
+    fn begins(&mut self, _level: Level) {}
 
     /// This is said, without a line feed at its end.
     fn hear(&mut self, line: &str);

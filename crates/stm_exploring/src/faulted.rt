@@ -1,11 +1,10 @@
 //! Rules and finals that are broken by a fault, and why they come to it.
 
 use crate::audience::Audience;
+use crate::beginning::{run_setup, world_of};
 use crate::judging::Answer;
 use crate::rules::RuleAnswer;
 use crate::schedule_lines::push_scheduled;
-use crate::searching::world_of;
-use crate::setup::run_setup;
 use std::alloc::{AllocError, Global};
 use stm_explain::Said;
 use stm_explore::{Explored, KeyValue, Move, RunnerEnd, When, laid};

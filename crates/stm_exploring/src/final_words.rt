@@ -3,14 +3,14 @@
 use crate::rules::RuleAnswer;
 use std::alloc::{AllocError, Global};
 use stm_explore::When;
-use stm_named_keys::{Compared, Name, keys_looked_up, values_compared};
+use stm_named_keys::{Compared, keys_looked_up, values_compared};
 use strsim::levenshtein;
 
 /// What the key of how a runner ended begins with, before the runner's number.
 const END_KEY: &str = "#end/";
 
 /// What the key of an output begins with, before the runner's number, a slash and the output's place.
-const OUTPUT_KEY: &str = "#out/";
+pub(crate) const OUTPUT_KEY: &str = "#out/";
 
 /// How a runner ends.
 const ENDS: [&str; 5] = ["committed", "aborted", "faulted", "gaveup", "ended"];
@@ -26,16 +26,6 @@ pub(crate) struct WrongEnd {
     pub(crate) word: String,
     /// The end that is nearest to that.
     pub(crate) near: &'static str,
-}
-
-/// Whether a word is among these.
-fn is_among(ends: &[&str], word: &str) -> bool {
-    for end in ends {
-        if *end == word {
-            return true;
-        }
-    }
-    false
 }
 
 /// The end that is nearest to a word.
@@ -63,7 +53,7 @@ fn add_wrong(
     let Some(runner) = compared.key.text.as_str().strip_prefix(END_KEY) else {
         return Ok(());
     };
-    if !compared.key.is_whole || word.is_empty() || is_among(&ENDS, word) {
+    if !compared.key.is_whole || word.is_empty() || ENDS.contains(&word) {
         return Ok(());
     }
     let near = nearest_end(alloc, &ENDS, word)?;
@@ -78,19 +68,6 @@ fn add_wrong(
     Ok(())
 }
 
-/// Adds those among comparisons that are of a runner's end with what is none.
-fn add_all(
-    alloc: Global,
-    wrong: &mut Vec<WrongEnd>,
-    rule: usize,
-    all: &[Compared],
-) -> Result<(), AllocError> {
-    for compared in all {
-        add_wrong(alloc, wrong, rule, compared)?;
-    }
-    Ok(())
-}
-
 /// The comparisons of a runner's end with what is none, in finals.
 pub(crate) fn wrong_ends(
     alloc: Global,
@@ -100,7 +77,9 @@ pub(crate) fn wrong_ends(
     for (rule, a) in answers.iter().enumerate() {
         if a.rule.when == When::Last {
             let all = values_compared(alloc, &a.rule.program)?;
-            add_all(alloc, &mut wrong, rule, all.as_slice())?;
+            for compared in all.as_slice() {
+                add_wrong(alloc, &mut wrong, rule, compared)?;
+            }
         }
     }
     Ok(wrong)
@@ -131,20 +110,6 @@ fn output_of(rule: usize, key: &str) -> Option<AskedOutput> {
     }
 }
 
-/// Adds the outputs that are asked for by these keys.
-fn add_outputs(
-    asked: &mut Vec<AskedOutput>,
-    rule: usize,
-    names: &[Name],
-) -> Result<(), AllocError> {
-    for name in names {
-        if let (true, Some(output)) = (name.is_whole, output_of(rule, name.text.as_str())) {
-            asked.push(output)?;
-        }
-    }
-    Ok(())
-}
-
 /// The outputs that finals ask for by their spelling.
 pub(crate) fn outputs_asked(
     alloc: Global,
@@ -154,7 +119,11 @@ pub(crate) fn outputs_asked(
     for (rule, a) in answers.iter().enumerate() {
         if a.rule.when == When::Last {
             let names = keys_looked_up(alloc, &a.rule.program)?;
-            add_outputs(&mut asked, rule, names.as_slice())?;
+            for name in names.as_slice() {
+                if let (true, Some(output)) = (name.is_whole, output_of(rule, name.text.as_str())) {
+                    asked.push(output)?;
+                }
+            }
         }
     }
     Ok(asked)

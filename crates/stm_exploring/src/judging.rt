@@ -1,4 +1,4 @@
-//! Whether rules are kept after every schedule: by schedules, and by serial orders where these are enough.
+//! Whether rules are kept after every schedule: by schedules, and by serial orders where these are enough. Or after those in which runners wait.
 ghost use Rattle.std.specs.Prelude.{◌≡◌, ◌<◌, List, [], ◌∷◌, length, map, IfOk, IfSome, OnOk};
 ghost use Rattle.std.specs.List.{AllZip};
 ghost use Rattle.stm_program.specs.Syntax.{ProgramTree};
@@ -8,11 +8,13 @@ ghost use Rattle.stm_serial.specs.Serial.{IsComparing};
 ghost use Rattle.stm_serial_search.specs.Replaying.{AreJudged, IsJudged};
 ghost use Rattle.stm_serial_search.specs.Search.{AreProgramsOf};
 ghost use Rattle.stm_exploring.specs.declared.judging.Answer.TheVariants.{BySchedules};
-ghost use Rattle.stm_exploring.specs.Judging.{AreAnswers, IsAnswer};
+ghost use Rattle.stm_exploring.specs.Beginnings.{CanSearch, place_at};
+ghost use Rattle.stm_exploring.specs.Judging.{AreAnswers, AreFoundPatiently, IsAnswer};
 
+use crate::seen_ends::SeenEnds;
 use std::alloc::{AllocError, Global};
 use std::{mem, slice};
-use stm_explore::{Budget, Explored, Observer, explore};
+use stm_explore::{Budget, Explored, Observer, RunnerEnd, Wait, When, explore, explore_waiting};
 use stm_meaning::Run;
 use stm_program::Program;
 use stm_retry::World;
@@ -34,6 +36,25 @@ pub(crate) enum Answer {
     AlwaysByOrders,
     /// It is not kept after this schedule, which runs one program after another. It need not be the first one, nor among the shortest.
     BrokenByOrder(Break),
+}
+
+/// What a search for rules goes through: where it begins, and which runners wait.
+#[derive(Clone, Copy)]
+pub(crate) struct Searched<'a> {
+    /// The world from which all schedules go.
+    pub(crate) world: &'a World,
+    /// That in the place of which it is searched: the same, or a larger one.
+    pub(crate) whole: &'a World,
+    /// What the others have yet to bring.
+    pub(crate) others: &'a [WorldEvent],
+    /// What is known of the runners' ends.
+    pub(crate) ends: &'a [Option<RunnerEnd>],
+    /// The runners' programs.
+    pub(crate) programs: &'a [Program],
+    /// Whether it is known that they all commit at levels that compare their reads.
+    pub(crate) comparing: bool,
+    /// Which runners wait.
+    pub(crate) waits: &'a [Wait],
 }
 
 /// The observer of a part of a search, after which this many moves may still be made. The search has not ended with it.
@@ -88,14 +109,13 @@ impl<O: Observer> Follower for Spending<'_, O> {
 /// Searches through schedules for these rules, for which at most this many moves are made.
 fn explore_part<O: Observer>(
     alloc: Global,
-    world: &World,
-    others: &[WorldEvent],
+    at: &Searched<'_>,
     rules: &[Program],
     most: u64,
     budget: &mut Budget<O>,
 ) -> Result<Vec<Explored>, AllocError>
-    ensures explored { IfOk result (λ all. AllZip (λ rule. IsExplored rule (record { world = world.now; others = others.now })) rules.now all.items) }
-    ensures merges { IfOk result (λ all. AllZip (λ rule. MergesAreKept rule (record { world = world.now; others = others.now })) rules.now all.items) }
+    ensures explored { IfOk result (λ all. AllZip (λ rule. IsExplored rule (place_at at.now)) rules.now all.items) }
+    ensures merges { IfOk result (λ all. AllZip (λ rule. MergesAreKept rule (place_at at.now)) rules.now all.items) }
 {
     let later = budget.left.saturating_sub(most);
     let first = budget.left - later;
@@ -107,7 +127,7 @@ fn explore_part<O: Observer>(
         left: first,
         observer,
     };
-    let explored = explore(alloc, world, others, rules, &mut part);
+    let explored = explore(alloc, at.world, at.others, rules, &mut part);
     let left = part.left;
     budget.left = later.saturating_add(left);
     explored
@@ -127,15 +147,14 @@ pub(crate) fn by_schedules(alloc: Global, all: Vec<Explored>) -> Result<Vec<Answ
 /// What is known of these rules by a search through schedules, for which at most this many moves are made.
 fn judge_part<O: Observer>(
     alloc: Global,
-    world: &World,
-    others: &[WorldEvent],
+    at: &Searched<'_>,
     rules: &[Program],
     most: u64,
     budget: &mut Budget<O>,
 ) -> Result<Vec<Answer>, AllocError>
-    ensures { IfOk result (λ answers. AreAnswers rules.now (record { world = world.now; others = others.now }) answers.items) }
+    ensures { IfOk result (λ answers. AreAnswers rules.now (place_at at.now) answers.items) }
 {
-    let all = explore_part(alloc, world, others, rules, most, budget)?;
+    let all = explore_part(alloc, at, rules, most, budget)?;
     let answers = by_schedules(alloc, all)?;
     Ok(answers)
 }
@@ -143,21 +162,27 @@ fn judge_part<O: Observer>(
 /// What serial orders say of the rules that are asked.
 fn judge_orders<O: Observer>(
     alloc: Global,
-    world: &World,
-    others: &[WorldEvent],
-    programs: &[Program],
+    at: &Searched<'_>,
     rules: &[Program],
     asked: &[bool],
     budget: &mut Budget<O>,
 ) -> Result<Vec<Judged>, AllocError>
-    requires enough { IsComparing (record { world = world.now; others = others.now }) }
-    requires programs { AreProgramsOf programs.now world.now.runners }
+    requires enough { IsComparing (place_at at.now) }
+    requires programs { AreProgramsOf at.now.programs.now at.now.world.now.runners }
     requires asked { length asked.now ≡ length rules.now }
-    ensures { IfOk result (λ judged. AreJudged rules.now (record { world = world.now; others = others.now }) judged.items) }
+    ensures { IfOk result (λ judged. AreJudged rules.now (place_at at.now) judged.items) }
 {
     let most = budget.left;
     let mut spending = Spending { budget, most };
-    judge_by_orders(alloc, world, others, programs, rules, asked, &mut spending)
+    judge_by_orders(
+        alloc,
+        at.world,
+        at.others,
+        at.programs,
+        rules,
+        asked,
+        &mut spending,
+    )
 }
 
 /// Whether a search has not come to an end.
@@ -228,19 +253,18 @@ fn last_of(answers: Vec<Answer>) -> Option<Answer>
 /// Searches through all schedules for a rule for which neither a part of them nor the orders came to an end.
 fn search_again<O: Observer>(
     alloc: Global,
-    world: &World,
-    others: &[WorldEvent],
+    at: &Searched<'_>,
     rule: &Program,
     answer: &mut Answer,
     budget: &mut Budget<O>,
 ) -> Result<(), AllocError>
-    ensures { OnOk result (IsAnswer rule.now (record { world = world.now; others = others.now }) answer.old → IsAnswer rule.now (record { world = world.now; others = others.now }) answer.new) }
+    ensures { OnOk result (IsAnswer rule.now (place_at at.now) answer.old → IsAnswer rule.now (place_at at.now) answer.new) }
 {
     if !is_open(answer) || budget.left == 0 {
         return Ok(());
     }
     let rules = slice::from_ref(rule);
-    let answers = judge_part(alloc, world, others, rules, u64::MAX, budget)?;
+    let answers = judge_part(alloc, at, rules, u64::MAX, budget)?;
     match last_of(answers) {
         None => Ok(()),
         Some(further) => {
@@ -253,20 +277,19 @@ fn search_again<O: Observer>(
 /// The same of each rule, for which as many moves may be made.
 fn search_each<O: Observer>(
     alloc: Global,
-    world: &World,
-    others: &[WorldEvent],
+    at: &Searched<'_>,
     rules: &[Program],
     answers: &mut Vec<Answer>,
     budget: &mut Budget<O>,
 ) -> Result<(), AllocError>
-    requires { AreAnswers rules.now (record { world = world.now; others = others.now }) answers.old.items }
-    ensures { OnOk result (AreAnswers rules.now (record { world = world.now; others = others.now }) answers.new.items) }
+    requires { AreAnswers rules.now (place_at at.now) answers.old.items }
+    ensures { OnOk result (AreAnswers rules.now (place_at at.now) answers.new.items) }
 {
     let most = budget.left;
     for index in 0..rules.len() {
         budget.left = most;
         let rule = &rules[index];
-        search_again(alloc, world, others, rule, &mut answers[index], budget)?;
+        search_again(alloc, at, rule, &mut answers[index], budget)?;
     }
     Ok(())
 }
@@ -274,89 +297,91 @@ fn search_each<O: Observer>(
 /// What is known of rules by serial orders, and else by all schedules, where a part of these did not decide them.
 fn judge_further<O: Observer>(
     alloc: Global,
-    world: &World,
-    others: &[WorldEvent],
-    programs: &[Program],
+    at: &Searched<'_>,
     rules: &[Program],
     answers: &mut Vec<Answer>,
     budget: &mut Budget<O>,
 ) -> Result<(), AllocError>
-    requires enough { IsComparing (record { world = world.now; others = others.now }) }
-    requires programs { AreProgramsOf programs.now world.now.runners }
-    requires answers { AreAnswers rules.now (record { world = world.now; others = others.now }) answers.old.items }
-    ensures { OnOk result (AreAnswers rules.now (record { world = world.now; others = others.now }) answers.new.items) }
+    requires enough { IsComparing (place_at at.now) }
+    requires programs { AreProgramsOf at.now.programs.now at.now.world.now.runners }
+    requires answers { AreAnswers rules.now (place_at at.now) answers.old.items }
+    ensures { OnOk result (AreAnswers rules.now (place_at at.now) answers.new.items) }
 {
     let asked = are_open(alloc, answers.as_slice())?;
-    let mut judged = judge_orders(
-        alloc,
-        world,
-        others,
-        programs,
-        rules,
-        asked.as_slice(),
-        budget,
-    )?;
+    let mut judged = judge_orders(alloc, at, rules, asked.as_slice(), budget)?;
     improve_each(answers, &mut judged);
-    search_each(alloc, world, others, rules, answers, budget)
+    search_each(alloc, at, rules, answers, budget)
 }
 
-/// Whether each of these rules is kept after every schedule: the moves of this world's runners, which have these programs and commit at levels that
-/// compare their reads, and of others that have these events yet to bring.
+/// Whether each of these rules is kept after every schedule of runners that commit at levels which compare their reads.
 ///
 /// At most 4000 moves are made for schedules, since these tell the first schedule that breaks a rule, and the length of the longest. Then serial
 /// orders are judged, which are enough and far fewer. Where an order that breaks a rule does not break it step by step, all schedules are searched.
 /// It fails only when out of memory.
 fn judge_by_both<O: Observer>(
     alloc: Global,
-    world: &World,
-    others: &[WorldEvent],
-    programs: &[Program],
+    at: &Searched<'_>,
     rules: &[Program],
     budget: &mut Budget<O>,
 ) -> Result<Vec<Answer>, AllocError>
-    requires enough { IsComparing (record { world = world.now; others = others.now }) }
-    requires programs { AreProgramsOf programs.now world.now.runners }
-    ensures { IfOk result (λ answers. AreAnswers rules.now (record { world = world.now; others = others.now }) answers.items) }
+    requires enough { IsComparing (place_at at.now) }
+    requires programs { AreProgramsOf at.now.programs.now at.now.world.now.runners }
+    ensures { IfOk result (λ answers. AreAnswers rules.now (place_at at.now) answers.items) }
 {
-    let mut answers = judge_part(alloc, world, others, rules, FIRST_MOVES, budget)?;
+    let mut answers = judge_part(alloc, at, rules, FIRST_MOVES, budget)?;
     if !has_open(answers.as_slice()) || budget.left == 0 {
         return Ok(answers);
     }
-    judge_further(alloc, world, others, programs, rules, &mut answers, budget)?;
+    judge_further(alloc, at, rules, &mut answers, budget)?;
     Ok(answers)
+}
+
+/// Whether each of these rules is kept after every schedule, where no runner waits: by serial orders, too, where it is known that these are enough.
+fn judge_schedules<O: Observer>(
+    alloc: Global,
+    at: &Searched<'_>,
+    rules: &[Program],
+    budget: &mut Budget<O>,
+) -> Result<Vec<Answer>, AllocError>
+    requires { CanSearch at.now }
+    ensures { IfOk result (λ answers. AreAnswers rules.now (place_at at.now) answers.items) }
+{
+    if at.comparing {
+        return judge_by_both(alloc, at, rules, budget);
+    }
+    judge_part(alloc, at, rules, u64::MAX, budget)
 }
 
 /// The same, and the observer is notified that the search has ended.
-pub(crate) fn judge_comparing<O: Observer>(
+pub(crate) fn judge<O: Observer>(
     alloc: Global,
-    world: &World,
-    others: &[WorldEvent],
-    programs: &[Program],
+    at: &Searched<'_>,
     rules: &[Program],
     budget: &mut Budget<O>,
 ) -> Result<Vec<Answer>, AllocError>
-    requires enough { IsComparing (record { world = world.now; others = others.now }) }
-    requires programs { AreProgramsOf programs.now world.now.runners }
-    ensures { IfOk result (λ answers. AreAnswers rules.now (record { world = world.now; others = others.now }) answers.items) }
+    requires { CanSearch at.now }
+    ensures { IfOk result (λ answers. AreAnswers rules.now (place_at at.now) answers.items) }
 {
-    let answers = judge_by_both(alloc, world, others, programs, rules, budget);
+    let answers = judge_schedules(alloc, at, rules, budget);
     budget.observer.ended();
     let answers = answers?;
     Ok(answers)
 }
 
-/// Whether each of these rules is kept after every schedule, by schedules alone.
-pub(crate) fn judge_schedules<O: Observer>(
+/// Whether each of these rules, asked then, is kept after every schedule in which the runners wait, whose ends are seen.
+pub(crate) fn judge_waiting<O: Observer>(
     alloc: Global,
-    world: &World,
-    others: &[WorldEvent],
+    at: &Searched<'_>,
+    when: When,
     rules: &[Program],
+    seen: &SeenEnds,
     budget: &mut Budget<O>,
 ) -> Result<Vec<Answer>, AllocError>
-    ensures { IfOk result (λ answers. AreAnswers rules.now (record { world = world.now; others = others.now }) answers.items) }
+    ensures { IfOk result (λ answers. AreFoundPatiently at.now.waits.now when rules.now (place_at at.now) at.now.ends.now answers.items) }
 {
-    let answers = judge_part(alloc, world, others, rules, u64::MAX, budget);
-    budget.observer.ended();
-    let answers = answers?;
+    let all = explore_waiting(
+        alloc, at.world, at.others, at.ends, at.waits, when, rules, seen, budget,
+    )?;
+    let answers = by_schedules(alloc, all)?;
     Ok(answers)
 }

@@ -28,6 +28,8 @@ pub(crate) struct KeyUse {
     pub(crate) by_rules: Vec<AskedKey>,
     /// The same of programs.
     pub(crate) by_runners: Vec<AskedKey>,
+    /// Those of them that a run looked up.
+    looked_up: Vec<AskedKey>,
     /// The keys that rules ask for at some place, which they make of variables, and that are not there.
     pub(crate) made: Vec<AskedKey>,
     /// The keys that an event of the others or a run puts.
@@ -187,6 +189,7 @@ impl KeyUse {
             by_rules: Vec::new(alloc),
             made: Vec::new(alloc),
             by_runners: Vec::new(alloc),
+            looked_up: Vec::new(alloc),
             put: Vec::new(alloc),
             spelled: Vec::new(alloc),
             fronts: Vec::new(alloc),
@@ -306,12 +309,14 @@ impl KeyUse {
         if let End::Done = &run.end {
             self.note_writes(run.writes.as_slice())?;
         }
-        note_keys(
-            &mut self.by_runners,
-            &self.state,
-            place,
-            run.reads.as_slice(),
-        )
+        let reads = run.reads.as_slice();
+        note_keys(&mut self.by_runners, &self.state, place, reads)?;
+        note_keys(&mut self.looked_up, &self.state, place, reads)
+    }
+
+    /// Whether a run of a runner looked up a key that its program asks for.
+    pub(crate) fn is_looked_up(&self, asked: &AskedKey) -> bool {
+        is_noted(self.looked_up.as_slice(), asked.who, &asked.key)
     }
 
     /// Whether a rule asks for a key by its spelling, or where the schedules begin.

@@ -3,7 +3,7 @@ ghost use Rattle.std.specs.Prelude.{◌≡◌, ◌≤◌, ◌+◌, false, IfOk, 
 ghost use Rattle.stm_devices.specs.declared.transfer.TheConstants.{MOST_READ};
 ghost use Rattle.stm_serial_search.specs.Started.{HaveNoStep};
 ghost use Rattle.stm_exploring.specs.Judging.{AreFound};
-ghost use Rattle.stm_exploring.specs.Levels.{AreFoundAt, ArePrintedAt, SearchesLevels, leveled, levels};
+ghost use Rattle.stm_exploring.specs.Levels.{AreFoundAt, ArePrintedAt, SearchesLevels, leveled};
 
 use crate::advice::tell_open;
 use crate::asking::put_levels;
@@ -76,6 +76,7 @@ fn judge_level<O: Audience>(
     ensures found { IfOk result (λ a. AreFound waits.now rules.now scenario.new a.answers) }
 {
     put_level(alloc, scenario, level);
+    audience.begins(level);
     let observer = AtLevel {
         alloc,
         level,
@@ -121,22 +122,6 @@ fn judge_levels<O: Audience>(
     Ok(at)
 }
 
-/// What is known of each rule about a scenario at each level.
-fn judge_each<O: Audience>(
-    alloc: Global,
-    scenario: &mut Scenario,
-    waits: &[Wait],
-    rules: &[Rule],
-    budget: &mut Budget<O>,
-) -> Result<Vec<LevelAnswers>, AllocError>
-    requires { HaveNoStep scenario.old.events }
-    ensures { IfOk result (λ at. AreFoundAt levels waits.now rules.now scenario.old at.items) }
-{
-    let most = budget.left;
-    let audience = &mut budget.observer;
-    judge_levels(alloc, scenario, &LEVELS, waits, rules, most, audience)
-}
-
 /// What is printed of rules about a scenario at each level.
 fn search_levels<O: Audience>(
     alloc: Global,
@@ -148,7 +133,9 @@ fn search_levels<O: Audience>(
     requires { HaveNoStep scenario.old.events }
     ensures { IfOk result (ArePrintedAt waits.now rules.now scenario.old) }
 {
-    let at = judge_each(alloc, scenario, waits, rules, budget)?;
+    let most = budget.left;
+    let audience = &mut budget.observer;
+    let at = judge_levels(alloc, scenario, &LEVELS, waits, rules, most, audience)?;
     tell_enough(at.as_slice(), &mut budget.observer);
     print_levels(alloc, at.as_slice())
 }

@@ -1,35 +1,30 @@
 //! What the whole schedules of a scenario come to, from its source to what is printed.
-ghost use Rattle.std.specs.Prelude.{◌≡◌, ◌≤◌, ◌+◌, [], false, IfOk, IfSome, string_bytes};
+ghost use Rattle.std.specs.Prelude.{◌≡◌, ◌≤◌, ◌+◌, [], false, IfOk, string_bytes};
 ghost use Rattle.stm_devices.specs.declared.transfer.TheConstants.{MOST_READ};
-ghost use Rattle.stm_schedules.specs.Outcomes.{after_replies};
-ghost use Rattle.stm_world.specs.World.{world_after, replies_to};
-ghost use Rattle.stm_serial_search.specs.Search.{AreProgramsOf};
 ghost use Rattle.stm_serial_search.specs.Started.{HaveNoStep};
 ghost use Rattle.stm_exploring.specs.Asking.{place_of, ends_of};
-ghost use Rattle.stm_exploring.specs.Narrowing.{StandsFor};
+ghost use Rattle.stm_exploring.specs.Beginnings.{IsReady, whole_place};
 ghost use Rattle.stm_exploring.specs.Questions.{AreGathered, AreListed, ArePrinted, Gathers, all_text, found_texts, gathered_text, printed_outcomes, verdict_of_outcomes};
 
 use crate::advice::tell_if_open;
-use crate::audience::{Audience, tell_parts};
-use crate::narrowing::narrowed;
+use crate::audience::Audience;
+use crate::beginning::{Begun, begin};
 use crate::outcome_lines::{counted_text, each_line, each_witness};
+use crate::outcome_runs::tell_runs;
 use crate::printed::{Printed, SearchAnswer};
 use crate::question::Question;
 use crate::reading::{ExploreFault, scenario_of};
 use crate::replaying::outcomes_there;
-use crate::searching::{programs_of, world_of};
 use crate::serial::compare;
 use crate::serial_levels::compare_at_levels;
-use crate::setup::{run_setup, setup_and_others};
 use std::alloc::{AllocError, Global};
 use std::collections::BTreeSet;
 use stm_devices::Source;
 use stm_explain::Said;
-use stm_explore::{Budget, Move, Outcome, Outcomes, RunnerEnd, Sequence, find_outcomes};
+use stm_explore::{Budget, Move, Outcome, Outcomes, Sequence, find_outcomes};
 use stm_history::Text;
-use stm_program::{Level, Program};
-use stm_retry::World;
-use stm_texts::{Scenario, WorldEvent};
+use stm_program::Level;
+use stm_texts::Scenario;
 
 /// The texts of these outcomes, each once, ascending by bytes: with schedules that come to them, where these are asked for.
 fn found_texts(
@@ -115,51 +110,27 @@ fn print(
     })
 }
 
-/// What whole schedules come to, by a search in a small world that stands for the whole one, where there is one.
+/// What whole schedules come to, by a search in the small world, where there is one.
 fn gather_in_either<O: Audience>(
     alloc: Global,
-    small: &Option<World>,
-    world: &World,
-    others: &[WorldEvent],
-    ends: &[Option<RunnerEnd>],
+    begun: &Begun<'_>,
     budget: &mut Budget<O>,
 ) -> Result<Outcomes, AllocError>
-    requires { IfSome small.now (λ s. StandsFor [] (record { world = s; others = others.now }) (record { world = world.now; others = others.now })) }
-    ensures { IfOk result (AreGathered (record { world = world.now; others = others.now }) ends.now) }
+    requires { IsReady [] begun.now }
+    ensures { IfOk result (AreGathered (whole_place begun.now) begun.now.ends.items) }
 {
-    match small {
+    let ends = begun.ends.as_slice();
+    match &begun.small {
         None => {
-            let found = find_outcomes(alloc, world, others, ends, budget)?;
+            let found = find_outcomes(alloc, &begun.world, begun.others, ends, budget)?;
             Ok(found)
         }
         Some(small) => {
-            let found = find_outcomes(alloc, small, others, ends, budget)?;
-            let there = outcomes_there(alloc, world, others, ends, found)?;
+            let found = find_outcomes(alloc, small, begun.others, ends, budget)?;
+            let there = outcomes_there(alloc, &begun.world, begun.others, ends, found)?;
             Ok(there)
         }
     }
-}
-
-/// What whole schedules come to, once these events were run in a world, which start these programs.
-fn gather_from<O: Audience>(
-    alloc: Global,
-    world: &mut World,
-    setup: &[WorldEvent],
-    others: &[WorldEvent],
-    programs: &[Program],
-    budget: &mut Budget<O>,
-) -> Result<Outcomes, AllocError>
-    requires new { world.old.runners ≡ [] }
-    requires programs { AreProgramsOf programs.now (world_after setup.now world.old).runners }
-    ensures { IfOk result (AreGathered (record { world = world_after setup.now world.old; others = others.now })
-        (after_replies (replies_to setup.now world.old) [])) }
-{
-    let ends = run_setup(alloc, world, setup)?;
-    tell_parts(alloc, setup.len(), others.len(), &mut budget.observer);
-    let small = narrowed(alloc, world, setup, others, programs, &[])?;
-    let gathered = gather_in_either(alloc, &small, world, others, ends.as_slice(), budget);
-    drop(small);
-    gathered
 }
 
 /// What the whole schedules of a scenario come to.
@@ -171,18 +142,10 @@ fn gather_scenario<O: Audience>(
     requires { HaveNoStep scenario.now.events }
     ensures { IfOk result (AreGathered (place_of scenario.now) (ends_of scenario.now)) }
 {
-    let programs = programs_of(alloc, scenario)?;
-    let (setup, others) = setup_and_others(scenario.events.as_slice());
-    let mut world = world_of(alloc, scenario)?;
-    let gathered = gather_from(
-        alloc,
-        &mut world,
-        setup,
-        others,
-        programs.as_slice(),
-        budget,
-    );
-    drop(world);
+    let begun = begin(alloc, scenario, &[], &mut budget.observer)?;
+    let gathered = gather_in_either(alloc, &begun, budget);
+    tell_runs(alloc, &begun, &mut budget.observer);
+    drop(begun);
     gathered
 }
 

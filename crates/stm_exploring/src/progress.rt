@@ -2,6 +2,17 @@
 use std::io::Write;
 use std::time::{Clock, Instant};
 use stm_explore::Observer;
+use stm_program::Level;
+
+/// What stands before how far a search is at one of the four levels, the weakest of which is the first.
+fn at_level(level: Level) -> &'static str {
+    match level {
+        Level::ReadCommitted => "at ReadCommitted (1 of 4): ",
+        Level::RepeatableReads => "at RepeatableReads (2 of 4): ",
+        Level::Serializable => "at Serializable (3 of 4): ",
+        Level::SerializableSnapshot => "at SerializableSnapshot (4 of 4): ",
+    }
+}
 
 /// Puts the cursor at the start of its line, and wipes the line out.
 const WIPE: &str = "\r\x1b[K";
@@ -22,6 +33,8 @@ pub struct ProgressLine<W> {
     length: u64,
     /// Whether the line is shown.
     is_shown: bool,
+    /// At which level the search is, of one at all four.
+    at: &'static str,
 }
 
 impl<W> ProgressLine<W> {
@@ -33,7 +46,13 @@ impl<W> ProgressLine<W> {
             left: most,
             length: 0,
             is_shown: false,
+            at: "",
         }
+    }
+
+    /// A search at all levels begins at this one.
+    pub fn begin(&mut self, level: Level) {
+        self.at = at_level(level);
     }
 }
 
@@ -43,10 +62,11 @@ impl<W: Write> ProgressLine<W> {
         let length = self.length;
         let most = self.most;
         let made = most.saturating_sub(self.left);
+        let at = self.at;
         if let Some(terminal) = &mut self.terminal {
             let _ = write!(
                 terminal,
-                "\rstmrun: schedules of up to {length} moves done, {made} of {most} moves made"
+                "\rstmrun: {at}schedules of up to {length} moves done, {made} of {most} moves made"
             );
             self.is_shown = true;
         }
@@ -94,6 +114,8 @@ pub struct ProgressNotes<'a, W, C> {
     left: u64,
     /// All schedules of at most this many moves were gone through.
     length: u64,
+    /// At which level the search is, of one at all four.
+    at: &'static str,
 }
 
 /// So many seconds pass from one line to the next, at least.
@@ -110,7 +132,13 @@ impl<'a, W, C: Clock> ProgressNotes<'a, W, C> {
             most,
             left: most,
             length: 0,
+            at: "",
         }
+    }
+
+    /// A search at all levels begins at this one.
+    pub fn begin(&mut self, level: Level) {
+        self.at = at_level(level);
     }
 
     /// How many seconds ago the search began.
@@ -131,10 +159,11 @@ impl<W: Write, C: Clock> ProgressNotes<'_, W, C> {
         let length = self.length;
         let most = self.most;
         let made = most.saturating_sub(self.left);
+        let at = self.at;
         let out = &mut self.out;
         let _ = writeln!(
             out,
-            "stmrun: {begin}schedules of up to {length} moves done, {made} of {most} moves made, {seconds} seconds"
+            "stmrun: {begin}{at}schedules of up to {length} moves done, {made} of {most} moves made, {seconds} seconds"
         );
     }
 

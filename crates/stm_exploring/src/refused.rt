@@ -2,7 +2,7 @@
 
 use crate::accounts::{NO_MEMORY, shown_text};
 use crate::audience::Audience;
-use crate::searching::world_of;
+use crate::beginning::world_of;
 use crate::setup::{is_start, setup_and_others};
 use std::alloc::{AllocError, Global};
 use stm_events::EventRefusal;
@@ -14,12 +14,6 @@ use stm_texts::{Scenario, WorldEvent};
 /// What is said of a scenario that starts nothing.
 const NO_START: &str =
     "no start: there is nothing to interleave; what is to run side by side has to be started";
-
-/// What is said of an event of the set-up that is refused: nothing more, since it comes once.
-const ONCE: &str = "";
-
-/// What is said of an event of the others that is refused whatever the runners did before it.
-const IN_EVERY_ORDER: &str = " in every order";
 
 /// A word of an event, or more, with the number behind it.
 fn numbered(alloc: Global, words: &str, number: u64) -> Said {
@@ -48,7 +42,7 @@ fn watch_words(alloc: Global, key: &str) -> Said {
 }
 
 /// An event as a source has it, without what is long.
-fn event_words(alloc: Global, event: &WorldEvent) -> Said {
+pub(crate) fn event_words(alloc: Global, event: &WorldEvent) -> Said {
     match event {
         WorldEvent::Start { limit, .. } => numbered(alloc, "start with limit", *limit as u64),
         WorldEvent::Step { runner } => numbered(alloc, "step", *runner),
@@ -96,23 +90,6 @@ fn tell_refusal<O: Audience>(
     Ok(())
 }
 
-/// Says which of these events are refused, one after another, and that they are it then.
-fn tell_refusals<O: Audience>(
-    alloc: Global,
-    world: &mut World,
-    events: &[WorldEvent],
-    audience: &mut O,
-) -> Result<(), AllocError> {
-    let mut number = 0u64;
-    for event in events {
-        number = number.saturating_add(1);
-        if let Some(cause) = refusal_of(world, event)? {
-            tell_refusal(alloc, number, event, ONCE, cause, audience)?;
-        }
-    }
-    Ok(())
-}
-
 /// Whether a transaction that is refused for this cause is so whatever its keys are: for its form, or since it puts on a lease and compares nothing. No
 /// runner grants or ends a lease.
 fn is_sure_of_txn(txn: &Txn, cause: EventRefusal) -> bool {
@@ -142,23 +119,26 @@ fn depends_on_revision(event: &WorldEvent, cause: EventRefusal) -> bool {
     is_by_revision && !is_txn
 }
 
-/// Says which events of the others are refused in every order, by one in which no runner steps before them. These events stand before them.
-fn tell_of_others<O: Audience>(
+/// Says which of these events are refused, one after another, before which so many stand: of the set-up each that is, and of the others those that are it in
+/// every order, by one in which no runner steps before them.
+fn tell_refusals<O: Audience>(
     alloc: Global,
     world: &mut World,
     before: usize,
-    others: &[WorldEvent],
+    events: &[WorldEvent],
+    is_setup: bool,
     audience: &mut O,
 ) -> Result<(), AllocError> {
+    let when = if is_setup { "" } else { " in every order" };
     let mut number = before as u64;
-    for event in others {
+    for event in events {
         number = number.saturating_add(1);
         if let Some(cause) = refusal_of(world, event)? {
-            if depends_on_revision(event, cause) {
+            if !is_setup && depends_on_revision(event, cause) {
                 return Ok(());
             }
-            if is_sure(event, cause) {
-                tell_refusal(alloc, number, event, IN_EVERY_ORDER, cause, audience)?;
+            if is_setup || is_sure(event, cause) {
+                tell_refusal(alloc, number, event, when, cause, audience)?;
             }
         }
     }
@@ -206,11 +186,11 @@ fn tell_in<O: Audience>(
     let (setup, others) = setup_and_others(events);
     if setup.is_empty() {
         audience.doubt(NO_START);
-        return tell_refusals(alloc, world, others, audience);
+        return tell_refusals(alloc, world, 0, others, true, audience);
     }
-    tell_refusals(alloc, world, setup, audience)?;
+    tell_refusals(alloc, world, 0, setup, true, audience)?;
     tell_early(alloc, setup, audience)?;
-    tell_of_others(alloc, world, setup.len(), others, audience)
+    tell_refusals(alloc, world, setup.len(), others, false, audience)
 }
 
 /// The same of a scenario.

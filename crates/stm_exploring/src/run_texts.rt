@@ -4,6 +4,7 @@
 use crate::accounts::shown_text;
 use crate::asked_keys::{near_words, rule_word};
 use crate::audience::Audience;
+use crate::final_words::OUTPUT_KEY;
 use crate::near_keys::{NearText, nearest_name};
 use crate::rules::RuleAnswer;
 use std::alloc::{AllocError, Global};
@@ -15,9 +16,6 @@ use stm_program::{Block, Expr, ExprNode, Program, Stmt, StmtNode};
 
 /// What the key of a run's text or cause begins with, before the runner's number.
 const REASON_KEY: &str = "#why/";
-
-/// What the key of an output begins with, before the runner's number, a slash and the output's place.
-const OUTPUT_KEY: &str = "#out/";
 
 /// The faults and refusals that end a run.
 const CAUSES: [&str; 25] = [
@@ -166,24 +164,14 @@ fn add_statements(
     }
 }
 
-/// Adds these causes.
-fn add_causes(
-    alloc: Global,
-    texts: &mut Sequence<Name>,
-    causes: &[&str],
-) -> Result<(), AllocError> {
-    for cause in causes {
-        add_name(alloc, texts, cause, true)?;
-    }
-    Ok(())
-}
-
 /// The texts that are asked for, of the runs of a program, as far as its spelling says them, but for numbers and for the keys over which they give up.
 fn texts_of(alloc: Global, asked: Asked, program: &Program) -> Result<Sequence<Name>, AllocError> {
     let mut texts = Sequence::new(alloc);
     add_statements(alloc, &mut texts, asked, program.statements())?;
     if asked == Asked::Reason {
-        add_causes(alloc, &mut texts, &CAUSES)?;
+        for cause in CAUSES {
+            add_name(alloc, &mut texts, cause, true)?;
+        }
     }
     Ok(texts)
 }
@@ -318,21 +306,6 @@ fn tell_compared<O: Audience>(
     }
 }
 
-/// The same of each of these comparisons.
-fn tell_all<O: Audience>(
-    alloc: Global,
-    answers: &[RuleAnswer],
-    place: usize,
-    programs: &[Program],
-    all: &[Compared],
-    audience: &mut O,
-) -> Result<(), AllocError> {
-    for compared in all {
-        tell_compared(alloc, answers, place, programs, compared, audience)?;
-    }
-    Ok(())
-}
-
 /// Says of finals which texts they compare with one of a runner to which no run of its program comes. The runners have these programs.
 pub(crate) fn tell_texts<O: Audience>(
     alloc: Global,
@@ -343,7 +316,9 @@ pub(crate) fn tell_texts<O: Audience>(
     for (place, a) in answers.iter().enumerate() {
         if a.rule.when == When::Last {
             let all = values_compared(alloc, &a.rule.program)?;
-            tell_all(alloc, answers, place, programs, all.as_slice(), audience)?;
+            for compared in all.as_slice() {
+                tell_compared(alloc, answers, place, programs, compared, audience)?;
+            }
         }
     }
     Ok(())

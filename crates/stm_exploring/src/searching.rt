@@ -1,125 +1,67 @@
 //! A search about a scenario and rules, and what is printed of it.
-ghost use Rattle.std.specs.Prelude.{◌≡◌, ◌++◌, true, List, [], All, IfOk, IfSome, OnOk};
-ghost use Rattle.stm_schedules.specs.Outcomes.{after_replies};
-ghost use Rattle.stm_world.specs.World.{opened, replies_to, world_after};
-ghost use Rattle.stm_serial.specs.Serial.{IsComparing};
-ghost use Rattle.stm_serial_search.specs.Search.{AreProgramsOf};
+ghost use Rattle.std.specs.Prelude.{◌≡◌, ◌++◌, List, All, IfOk, OnOk};
 ghost use Rattle.stm_serial_search.specs.Started.{HaveNoStep};
 ghost use Rattle.stm_exploring.specs.declared.rules.Rule.{Rule as RuleValue};
-ghost use Rattle.stm_exploring.specs.Asking.{opening_of, place_of};
+ghost use Rattle.stm_exploring.specs.Beginnings.{AreFoundThere, CanSearch, IsReady, place_at, whole_place};
 ghost use Rattle.stm_exploring.specs.Exploring.{IsPrinted};
-ghost use Rattle.stm_exploring.specs.Judging.{AreAnswers, AreFound, AreFoundBeside, AreFoundFrom, AreFoundWhen};
-ghost use Rattle.stm_exploring.specs.Narrowing.{StandsFor};
+ghost use Rattle.stm_exploring.specs.Judging.{AreFound, AreFoundBeside, AreFoundFrom, AreFoundWhen};
 
 use crate::accounts::tell_account;
 use crate::advice::tell_open;
-use crate::audience::{Audience, tell_parts};
+use crate::audience::Audience;
+use crate::beginning::{Begun, begin};
 use crate::faulted::tell_faults;
 use crate::grouping::{asked_by, end_of_group, group_of, push_answers};
-use crate::judging::{Answer, judge_comparing, judge_schedules};
-use crate::narrowing::narrowed;
+use crate::judging::{Answer, Searched, judge, judge_waiting};
+use crate::left_out::tell_left;
 use crate::printed::Printed;
 use crate::printing::print;
 use crate::rules::{Rule, RuleAnswer};
 use crate::seen_ends::SeenEnds;
-use crate::setup::{run_setup, setup_and_others};
-use crate::watching::judge_waiting;
 use std::alloc::{AllocError, Global};
-use stm_explore::{Budget, Observer, RunnerEnd, Wait, When};
+use stm_explore::{Budget, Observer, Wait, When};
 use stm_program::Program;
-use stm_retry::World;
-use stm_serial_search::{are_orderly, programs_started};
-use stm_texts::{Scenario, WorldEvent, opens_with};
+use stm_texts::Scenario;
 
-/// Whether each of these rules is kept after every schedule, from where a world is, whose runners have these programs: by serial orders, too, where all
-/// commit at levels that compare.
-fn judge<O: Observer>(
-    alloc: Global,
-    world: &World,
-    others: &[WorldEvent],
-    programs: &[Program],
-    comparing: bool,
-    rules: &[Program],
-    budget: &mut Budget<O>,
-) -> Result<Vec<Answer>, AllocError>
-    requires programs { AreProgramsOf programs.now world.now.runners }
-    requires comparing { comparing ≡ true → IsComparing (record { world = world.now; others = others.now }) }
-    ensures { IfOk result (λ answers. AreAnswers rules.now (record { world = world.now; others = others.now }) answers.items) }
-{
-    if comparing {
-        return judge_comparing(alloc, world, others, programs, rules, budget);
-    }
-    judge_schedules(alloc, world, others, rules, budget)
-}
-
-/// Whether each is kept after every schedule in which these runners wait, of whose ends this is known.
+/// Whether each is kept after every schedule in which the runners wait.
 fn judge_beside<O: Observer>(
     alloc: Global,
-    world: &World,
-    others: &[WorldEvent],
-    ends: &[Option<RunnerEnd>],
-    programs: &[Program],
-    comparing: bool,
-    waits: &[Wait],
+    at: &Searched<'_>,
     rules: &[Program],
     seen: &SeenEnds,
     budget: &mut Budget<O>,
 ) -> Result<Vec<Answer>, AllocError>
-    requires programs { AreProgramsOf programs.now world.now.runners }
-    requires comparing { comparing ≡ true → IsComparing (record { world = world.now; others = others.now }) }
-    ensures { IfOk result (λ answers. AreFoundBeside waits.now rules.now (record { world = world.now; others = others.now }) ends.now answers.items) }
+    requires { CanSearch at.now }
+    ensures { IfOk result (λ answers. AreFoundBeside at.now.waits.now rules.now (place_at at.now) at.now.ends.now answers.items) }
 {
-    match waits {
-        [] => judge(alloc, world, others, programs, comparing, rules, budget),
-        [_, ..] => judge_waiting(
-            alloc,
-            world,
-            others,
-            ends,
-            waits,
-            When::Each,
-            rules,
-            seen,
-            budget,
-        ),
+    match at.waits {
+        [] => judge(alloc, at, rules, budget),
+        [_, ..] => judge_waiting(alloc, at, When::Each, rules, seen, budget),
     }
 }
 
 /// The same of rules that are asked then.
 fn judge_when<O: Observer>(
     alloc: Global,
-    world: &World,
-    others: &[WorldEvent],
-    ends: &[Option<RunnerEnd>],
-    programs: &[Program],
-    comparing: bool,
-    waits: &[Wait],
+    at: &Searched<'_>,
     when: When,
     rules: &[Program],
     seen: &SeenEnds,
     budget: &mut Budget<O>,
 ) -> Result<Vec<Answer>, AllocError>
-    requires programs { AreProgramsOf programs.now world.now.runners }
-    requires comparing { comparing ≡ true → IsComparing (record { world = world.now; others = others.now }) }
-    ensures { IfOk result (λ answers. AreFoundWhen when waits.now rules.now (record { world = world.now; others = others.now }) ends.now answers.items) }
+    requires { CanSearch at.now }
+    ensures { IfOk result (λ answers. AreFoundWhen when at.now.waits.now rules.now (place_at at.now) at.now.ends.now answers.items) }
 {
     match when {
-        When::Each => judge_beside(
-            alloc, world, others, ends, programs, comparing, waits, rules, seen, budget,
-        ),
-        When::Last => judge_waiting(alloc, world, others, ends, waits, when, rules, seen, budget),
+        When::Each => judge_beside(alloc, at, rules, seen, budget),
+        When::Last => judge_waiting(alloc, at, when, rules, seen, budget),
     }
 }
 
 /// What is known of these rules, all of which are asked then: they are searched for in one walk, for which at most so many moves are made.
 fn judge_group<O: Observer>(
     alloc: Global,
-    world: &World,
-    others: &[WorldEvent],
-    ends: &[Option<RunnerEnd>],
-    programs: &[Program],
-    comparing: bool,
-    waits: &[Wait],
+    at: &Searched<'_>,
     when: When,
     rules: &[Rule],
     seen: &SeenEnds,
@@ -127,27 +69,13 @@ fn judge_group<O: Observer>(
     budget: &mut Budget<O>,
     answers: &mut Vec<RuleAnswer>,
 ) -> Result<(), AllocError>
-    requires programs { AreProgramsOf programs.now world.now.runners }
-    requires comparing { comparing ≡ true → IsComparing (record { world = world.now; others = others.now }) }
+    requires search { CanSearch at.now }
     requires when { All (λ (rule : RuleValue). rule.when ≡ when) rules.now }
-    ensures { OnOk result ((before : List RuleValue) → AreFoundFrom waits.now before (record { world = world.now; others = others.now }) ends.now answers.old.items
-        → AreFoundFrom waits.now (before ++ rules.now) (record { world = world.now; others = others.now }) ends.now answers.new.items) }
+    ensures { OnOk result ((before : List RuleValue) → AreFoundThere at.now before answers.old.items → AreFoundThere at.now (before ++ rules.now) answers.new.items) }
 {
     let asked = asked_by(alloc, rules)?;
     budget.left = most;
-    let found = judge_when(
-        alloc,
-        world,
-        others,
-        ends,
-        programs,
-        comparing,
-        waits,
-        when,
-        asked.as_slice(),
-        seen,
-        budget,
-    )?;
+    let found = judge_when(alloc, at, when, asked.as_slice(), seen, budget)?;
     push_answers(rules, when, found, answers)?;
     Ok(())
 }
@@ -156,19 +84,13 @@ fn judge_group<O: Observer>(
 /// moves may be made as `budget` has left.
 fn judge_rules<O: Observer>(
     alloc: Global,
-    world: &World,
-    others: &[WorldEvent],
-    ends: &[Option<RunnerEnd>],
-    programs: &[Program],
-    comparing: bool,
-    waits: &[Wait],
+    at: &Searched<'_>,
     rules: &[Rule],
     seen: &SeenEnds,
     budget: &mut Budget<O>,
 ) -> Result<Vec<RuleAnswer>, AllocError>
-    requires programs { AreProgramsOf programs.now world.now.runners }
-    requires comparing { comparing ≡ true → IsComparing (record { world = world.now; others = others.now }) }
-    ensures { IfOk result (λ answers. AreFoundFrom waits.now rules.now (record { world = world.now; others = others.now }) ends.now answers.items) }
+    requires { CanSearch at.now }
+    ensures { IfOk result (λ answers. AreFoundThere at.now rules.now answers.items) }
 {
     let most = budget.left;
     let mut answers = Vec::new(alloc);
@@ -180,21 +102,7 @@ fn judge_rules<O: Observer>(
         let when = rules[done].when;
         let end = end_of_group(rules, done, when);
         let group = group_of(rules, done, end);
-        judge_group(
-            alloc,
-            world,
-            others,
-            ends,
-            programs,
-            comparing,
-            waits,
-            when,
-            group,
-            seen,
-            most,
-            budget,
-            &mut answers,
-        )?;
+        judge_group(alloc, at, when, group, seen, most, budget, &mut answers)?;
         done = end;
     }
     Ok(answers)
@@ -208,163 +116,70 @@ fn seen_if_waiting<'a>(waits: &[Wait], seen: &'a SeenEnds) -> Option<&'a SeenEnd
     Some(seen)
 }
 
-/// The same, and it is said what that covers, of the whole world in the place of which this one is searched. These ends are seen.
+/// The same, and it is said what that covers. These ends are seen.
 fn judge_seen<O: Audience>(
     alloc: Global,
-    world: &World,
-    whole: &World,
-    others: &[WorldEvent],
-    ends: &[Option<RunnerEnd>],
-    programs: &[Program],
-    comparing: bool,
-    waits: &[Wait],
+    at: &Searched<'_>,
     rules: &[Rule],
     seen: &SeenEnds,
     budget: &mut Budget<O>,
 ) -> Result<Vec<RuleAnswer>, AllocError>
-    requires programs { AreProgramsOf programs.now world.now.runners }
-    requires comparing { comparing ≡ true → IsComparing (record { world = world.now; others = others.now }) }
-    ensures { IfOk result (λ answers. AreFoundFrom waits.now rules.now (record { world = world.now; others = others.now }) ends.now answers.items) }
+    requires { CanSearch at.now }
+    ensures { IfOk result (λ answers. AreFoundThere at.now rules.now answers.items) }
 {
-    let answers = judge_rules(
-        alloc, world, others, ends, programs, comparing, waits, rules, seen, budget,
-    )?;
+    let answers = judge_rules(alloc, at, rules, seen, budget)?;
+    let seen = seen_if_waiting(at.waits, seen);
     let audience = &mut budget.observer;
-    let seen = seen_if_waiting(waits, seen);
-    tell_account(
-        alloc,
-        world,
-        whole,
-        others,
-        programs,
-        answers.as_slice(),
-        seen,
-        audience,
-    );
+    tell_account(alloc, at, answers.as_slice(), seen, audience);
     Ok(answers)
 }
 
 /// The same.
 fn judge_and_tell<O: Audience>(
     alloc: Global,
-    world: &World,
-    whole: &World,
-    others: &[WorldEvent],
-    ends: &[Option<RunnerEnd>],
-    programs: &[Program],
-    comparing: bool,
-    waits: &[Wait],
+    at: &Searched<'_>,
     rules: &[Rule],
     budget: &mut Budget<O>,
 ) -> Result<Vec<RuleAnswer>, AllocError>
-    requires programs { AreProgramsOf programs.now world.now.runners }
-    requires comparing { comparing ≡ true → IsComparing (record { world = world.now; others = others.now }) }
-    ensures { IfOk result (λ answers. AreFoundFrom waits.now rules.now (record { world = world.now; others = others.now }) ends.now answers.items) }
+    requires { CanSearch at.now }
+    ensures { IfOk result (λ answers. AreFoundThere at.now rules.now answers.items) }
 {
-    let seen = SeenEnds::new(alloc, world.runner_count())?;
-    let answers = judge_seen(
-        alloc, world, whole, others, ends, programs, comparing, waits, rules, &seen, budget,
-    );
+    let seen = SeenEnds::new(alloc, at.world.runner_count())?;
+    let answers = judge_seen(alloc, at, rules, &seen, budget);
     drop(seen);
     answers
 }
 
-/// The same, by a search in a small world that stands for the whole one, where there is one.
+/// Whether each rule is kept after every schedule in which these runners wait, by a search in the small world, where there is one.
 fn judge_in_either<O: Audience>(
     alloc: Global,
-    small: &Option<World>,
-    world: &World,
-    others: &[WorldEvent],
-    ends: &[Option<RunnerEnd>],
-    programs: &[Program],
-    comparing: bool,
+    begun: &Begun<'_>,
     waits: &[Wait],
     rules: &[Rule],
     budget: &mut Budget<O>,
 ) -> Result<Vec<RuleAnswer>, AllocError>
-    requires programs { AreProgramsOf programs.now world.now.runners }
-    requires comparing { comparing ≡ true → IsComparing (record { world = world.now; others = others.now }) }
-    requires small { IfSome small.now (λ s. StandsFor rules.now (record { world = s; others = others.now }) (record { world = world.now; others = others.now })) }
-    ensures { IfOk result (λ answers. AreFoundFrom waits.now rules.now (record { world = world.now; others = others.now }) ends.now answers.items) }
+    requires { IsReady rules.now begun.now }
+    ensures { IfOk result (λ answers. AreFoundFrom waits.now rules.now (whole_place begun.now) begun.now.ends.items answers.items) }
 {
-    match small {
-        None => judge_and_tell(
-            alloc, world, world, others, ends, programs, comparing, waits, rules, budget,
-        ),
-        Some(small) => judge_and_tell(
-            alloc, small, world, others, ends, programs, comparing, waits, rules, budget,
-        ),
+    let whole = Searched {
+        world: &begun.world,
+        whole: &begun.world,
+        others: begun.others,
+        ends: begun.ends.as_slice(),
+        programs: begun.programs.as_slice(),
+        comparing: begun.comparing,
+        waits,
+    };
+    match &begun.small {
+        None => judge_and_tell(alloc, &whole, rules, budget),
+        Some(small) => {
+            let at = Searched {
+                world: small,
+                ..whole
+            };
+            judge_and_tell(alloc, &at, rules, budget)
+        }
     }
-}
-
-/// Whether each rule is kept after every schedule in which these runners wait, once these events were run in a world, which start these programs.
-fn explore_from<O: Audience>(
-    alloc: Global,
-    world: &mut World,
-    setup: &[WorldEvent],
-    others: &[WorldEvent],
-    programs: &[Program],
-    comparing: bool,
-    waits: &[Wait],
-    rules: &[Rule],
-    budget: &mut Budget<O>,
-) -> Result<Vec<RuleAnswer>, AllocError>
-    requires new { world.old.runners ≡ [] }
-    requires programs { AreProgramsOf programs.now (world_after setup.now world.old).runners }
-    requires comparing { comparing ≡ true → IsComparing (record { world = world_after setup.now world.old; others = others.now }) }
-    ensures { IfOk result (λ answers. AreFoundFrom waits.now rules.now (record { world = world_after setup.now world.old; others = others.now })
-        (after_replies (replies_to setup.now world.old) []) answers.items) }
-{
-    let ends = run_setup(alloc, world, setup)?;
-    tell_parts(alloc, setup.len(), others.len(), &mut budget.observer);
-    let known = ends.as_slice();
-    let small = narrowed(alloc, world, setup, others, programs, rules)?;
-    let answers = judge_in_either(
-        alloc, &small, world, others, known, programs, comparing, waits, rules, budget,
-    );
-    drop(small);
-    answers
-}
-
-/// The world of a scenario before its first event.
-pub(crate) fn world_of(alloc: Global, scenario: &Scenario) -> Result<World, AllocError>
-    ensures { IfOk result (λ world. world ≡ opened (opening_of scenario.now)) }
-{
-    let opening = opens_with(scenario.opening);
-    let world = World::with_limits(alloc, opening.revision(), opening.operations())?;
-    Ok(world)
-}
-
-/// Whether each rule is kept after every schedule of a scenario in which these runners wait. The runners have these programs.
-fn explore_programs<O: Audience>(
-    alloc: Global,
-    scenario: &Scenario,
-    programs: &[Program],
-    waits: &[Wait],
-    rules: &[Rule],
-    budget: &mut Budget<O>,
-) -> Result<Vec<RuleAnswer>, AllocError>
-    requires programs { AreProgramsOf programs.now (place_of scenario.now).world.runners }
-    ensures { IfOk result (λ answers. AreFound waits.now rules.now scenario.now answers.items) }
-{
-    let (setup, others) = setup_and_others(scenario.events.as_slice());
-    let comparing = are_orderly(scenario.events.as_slice());
-    let mut world = world_of(alloc, scenario)?;
-    let answers = explore_from(
-        alloc, &mut world, setup, others, programs, comparing, waits, rules, budget,
-    );
-    drop(world);
-    answers
-}
-
-/// The programs of a scenario's runners, by their numbers.
-pub(crate) fn programs_of(alloc: Global, scenario: &Scenario) -> Result<Vec<Program>, AllocError>
-    requires { HaveNoStep scenario.now.events }
-    ensures { IfOk result (λ programs. AreProgramsOf programs.items (place_of scenario.now).world.runners) }
-{
-    let (setup, _) = setup_and_others(scenario.events.as_slice());
-    let programs = programs_started(alloc, setup)?;
-    Ok(programs)
 }
 
 /// Whether each rule is kept after every schedule of a scenario in which these runners wait.
@@ -378,9 +193,9 @@ fn judge_scenario<O: Audience>(
     requires stepless { HaveNoStep scenario.now.events }
     ensures { IfOk result (λ answers. AreFound waits.now rules.now scenario.now answers.items) }
 {
-    let programs = programs_of(alloc, scenario)?;
-    let answers = explore_programs(alloc, scenario, programs.as_slice(), waits, rules, budget);
-    drop(programs);
+    let begun = begin(alloc, scenario, rules, &mut budget.observer)?;
+    let answers = judge_in_either(alloc, &begun, waits, rules, budget);
+    drop(begun);
     answers
 }
 
@@ -415,5 +230,6 @@ pub(crate) fn search<O: Audience>(
     let events = scenario.events.as_slice();
     let audience = &mut budget.observer;
     tell_open(alloc, events, waits, answers.as_slice(), true, audience);
+    tell_left(alloc, scenario, answers.as_slice(), audience);
     print(alloc, scenario, answers.as_slice())
 }

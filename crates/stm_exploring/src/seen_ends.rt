@@ -165,18 +165,6 @@ fn line_of(alloc: Global, runner: usize, ends: &Ends, is_all: bool) -> Said {
     Ok(line)
 }
 
-/// Whether it is to be said how the runs of a runner ended, if an end was seen.
-fn is_said(ends: &Ends, told: Told) -> bool {
-    if ends.words.is_empty() {
-        return false;
-    }
-    match told {
-        Told::All => true,
-        Told::Never => !ends.has_committed,
-        Told::None => false,
-    }
-}
-
 /// Says how the runs of each runner ended of which it is to be said.
 fn tell_each<O: Audience>(
     alloc: Global,
@@ -187,7 +175,7 @@ fn tell_each<O: Audience>(
 ) -> Result<(), AllocError> {
     for index in 0..runners.len() {
         let ends = &runners[index];
-        if is_said(ends, told) {
+        if !ends.words.is_empty() && told.is_of(ends.has_committed) {
             let line = line_of(alloc, index + 1, ends, is_all)?;
             if is_all && !ends.has_committed {
                 audience.doubt(line.as_str());

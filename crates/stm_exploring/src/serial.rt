@@ -1,35 +1,28 @@
 //! Whether the whole schedules of a scenario come to what serial orders come to, and what is printed of that.
-ghost use Rattle.std.specs.Prelude.{◌≡◌, ◌++◌, [], map, IfOk, IfSome, OnOk, string_bytes};
+ghost use Rattle.std.specs.Prelude.{◌≡◌, ◌++◌, [], map, IfOk, OnOk, string_bytes};
 ghost use Rattle.serde_json.specs.View.{view};
 ghost use Rattle.stm_report_lines.specs.Text.{line_text};
 ghost use Rattle.stm_explore.specs.Orders.{IsSerialAnswer};
-ghost use Rattle.stm_schedules.specs.Outcomes.{after_replies};
-ghost use Rattle.stm_world.specs.World.{world_after, replies_to};
-ghost use Rattle.stm_serial_search.specs.Search.{AreProgramsOf};
 ghost use Rattle.stm_serial_search.specs.Started.{HaveNoStep};
 ghost use Rattle.stm_exploring.specs.Asking.{place_of, ends_of};
 ghost use Rattle.stm_exploring.specs.Anomalies.{anomaly_parts, printed_serial, serial_line, serial_parts, serial_schedule, serial_text, verdict_of_serial, IsPrintedSerial};
-ghost use Rattle.stm_exploring.specs.Narrowing.{StandsFor};
+ghost use Rattle.stm_exploring.specs.Beginnings.{IsReady, whole_place};
 
-use crate::audience::{Audience, tell_parts};
+use crate::audience::Audience;
+use crate::beginning::{Begun, begin};
 use crate::lines::count_parts;
 use crate::lists::list_json;
 use crate::naming::tell_name;
-use crate::narrowing::narrowed;
 use crate::printed::{Printed, SearchAnswer};
 use crate::replaying::answer_there;
 use crate::schedule_lines::push_scheduled;
-use crate::searching::{programs_of, world_of};
-use crate::setup::{run_setup, setup_and_others};
 use serde_json::Value as Json;
 use std::alloc::{AllocError, Global};
 use stm_explain::Said;
-use stm_explore::{Budget, Outcome, RunnerEnd, SerialAnswer, find_anomaly};
+use stm_explore::{Budget, Outcome, SerialAnswer, find_anomaly};
 use stm_history::Text;
-use stm_program::Program;
 use stm_report_lines::push_line;
-use stm_retry::World;
-use stm_texts::{Scenario, WorldEvent};
+use stm_texts::Scenario;
 
 /// The elements of the line of an outcome that no serial order comes to, and to which a schedule of so many moves does.
 fn anomaly_parts(alloc: Global, outcome: &Outcome, moves: u64) -> Result<Vec<Json>, AllocError>
@@ -122,50 +115,24 @@ fn print(alloc: Global, scenario: &Scenario, answer: &SerialAnswer) -> Result<Pr
     })
 }
 
-/// Whether whole schedules come to what serial orders come to, by a search in a small world that stands for the whole one, where there is one.
+/// Whether whole schedules come to what serial orders come to, by a search in the small world, where there is one.
 fn compare_in_either<O: Audience>(
     alloc: Global,
-    small: &Option<World>,
-    world: &World,
-    others: &[WorldEvent],
-    ends: &[Option<RunnerEnd>],
+    begun: &Begun<'_>,
     budget: &mut Budget<O>,
 ) -> Result<SerialAnswer, AllocError>
-    requires { IfSome small.now (λ s. StandsFor [] (record { world = s; others = others.now }) (record { world = world.now; others = others.now })) }
-    ensures { IfOk result (IsSerialAnswer (record { world = world.now; others = others.now }) ends.now) }
+    requires { IsReady [] begun.now }
+    ensures { IfOk result (IsSerialAnswer (whole_place begun.now) begun.now.ends.items) }
 {
-    match small {
-        None => find_anomaly(alloc, world, others, ends, budget),
+    let ends = begun.ends.as_slice();
+    match &begun.small {
+        None => find_anomaly(alloc, &begun.world, begun.others, ends, budget),
         Some(small) => {
-            let answer = find_anomaly(alloc, small, others, ends, budget)?;
-            let there = answer_there(alloc, world, others, ends, answer)?;
+            let answer = find_anomaly(alloc, small, begun.others, ends, budget)?;
+            let there = answer_there(alloc, &begun.world, begun.others, ends, answer)?;
             Ok(there)
         }
     }
-}
-
-/// Whether whole schedules come to what serial orders come to, once these events were run in a world, which start these programs.
-fn compare_from<O: Audience>(
-    alloc: Global,
-    world: &mut World,
-    setup: &[WorldEvent],
-    others: &[WorldEvent],
-    programs: &[Program],
-    budget: &mut Budget<O>,
-) -> Result<SerialAnswer, AllocError>
-    requires new { world.old.runners ≡ [] }
-    requires programs { AreProgramsOf programs.now (world_after setup.now world.old).runners }
-    ensures { IfOk result (IsSerialAnswer (record { world = world_after setup.now world.old; others = others.now })
-        (after_replies (replies_to setup.now world.old) [])) }
-{
-    let ends = run_setup(alloc, world, setup)?;
-    tell_parts(alloc, setup.len(), others.len(), &mut budget.observer);
-    let small = narrowed(alloc, world, setup, others, programs, &[])?;
-    let answer = compare_in_either(alloc, &small, world, others, ends.as_slice(), budget);
-    drop(small);
-    let answer = answer?;
-    tell_name(alloc, world, others, &answer, &mut budget.observer);
-    Ok(answer)
 }
 
 /// Whether the whole schedules of a scenario come to what serial orders come to.
@@ -177,18 +144,14 @@ pub(crate) fn compare_scenario<O: Audience>(
     requires { HaveNoStep scenario.now.events }
     ensures { IfOk result (IsSerialAnswer (place_of scenario.now) (ends_of scenario.now)) }
 {
-    let programs = programs_of(alloc, scenario)?;
-    let (setup, others) = setup_and_others(scenario.events.as_slice());
-    let mut world = world_of(alloc, scenario)?;
-    let answer = compare_from(
-        alloc,
-        &mut world,
-        setup,
-        others,
-        programs.as_slice(),
-        budget,
-    );
-    drop(world);
+    let mut begun = begin(alloc, scenario, &[], &mut budget.observer)?;
+    let answer = compare_in_either(alloc, &begun, budget);
+    if let Ok(found) = &answer {
+        let others = begun.others;
+        let audience = &mut budget.observer;
+        tell_name(alloc, &mut begun.world, others, found, audience);
+    }
+    drop(begun);
     answer
 }
 

@@ -6,7 +6,7 @@ ghost use Rattle.stm_report_lines.specs.Text.{line_text};
 ghost use Rattle.stm_serial_search.specs.Started.{HaveNoStep};
 ghost use Rattle.stm_explore.specs.Orders.{IsSerialAnswer};
 ghost use Rattle.stm_exploring.specs.Asking.{ends_of, place_of};
-ghost use Rattle.stm_exploring.specs.Levels.{leveled, levels};
+ghost use Rattle.stm_exploring.specs.Levels.{leveled};
 ghost use Rattle.stm_exploring.specs.SerialLevels.{AreComparedAt, ArePrintedAt, enough_serial, is_odd, is_serial, printed_at, serial_level_line, serial_level_text, serial_levels_text, verdict_at};
 
 use crate::audience::Audience;
@@ -49,6 +49,7 @@ fn compare_level<O: Audience>(
     ensures answer { IfOk result (λ a. IsSerialAnswer (place_of scenario.new) (ends_of scenario.new) a.answer) }
 {
     put_level(alloc, scenario, level);
+    audience.begins(level);
     let observer = AtLevel {
         alloc,
         level,
@@ -82,20 +83,6 @@ fn compare_levels<O: Audience>(
     }
     tell_heard(alloc, heard.as_slice(), audience);
     Ok(at)
-}
-
-/// What is known of a scenario at each level.
-fn compare_each<O: Audience>(
-    alloc: Global,
-    scenario: &mut Scenario,
-    budget: &mut Budget<O>,
-) -> Result<Vec<SerialLevel>, AllocError>
-    requires { HaveNoStep scenario.old.events }
-    ensures { IfOk result (λ at. AreComparedAt levels scenario.old at.items) }
-{
-    let most = budget.left;
-    let audience = &mut budget.observer;
-    compare_levels(alloc, scenario, &LEVELS, most, audience)
 }
 
 /// Whether a serial order comes to each outcome.
@@ -212,7 +199,9 @@ pub(crate) fn compare_at_levels<O: Audience>(
     requires { HaveNoStep scenario.old.events }
     ensures { IfOk result (ArePrintedAt scenario.old) }
 {
-    let at = compare_each(alloc, scenario, budget)?;
+    let most = budget.left;
+    let audience = &mut budget.observer;
+    let at = compare_levels(alloc, scenario, &LEVELS, most, audience)?;
     tell_enough_serial(at.as_slice(), &mut budget.observer);
     print_at(alloc, at.as_slice())
 }

@@ -1,13 +1,7 @@
-//! Where the schedules of a scenario begin.
-ghost use Rattle.std.specs.Prelude.{◌≡◌, ◌≤◌, [], length, take, drop, IfOk, OnOk};
-ghost use Rattle.stm_schedules.specs.Outcomes.{after_replies};
+//! What of a scenario's events is its set-up.
+ghost use Rattle.std.specs.Prelude.{◌≡◌, ◌≤◌, length, take, drop};
 ghost use Rattle.stm_schedules.specs.Scenarios.{is_start, up_to_last_start, after_last_start};
-ghost use Rattle.stm_world.specs.World.{world_after, replies_to};
 
-use std::alloc::{AllocError, Global};
-use stm_explore::ends_reported;
-use stm_retry::World;
-use stm_schedules::RunnerEnd;
 use stm_texts::WorldEvent;
 
 /// Whether an event is a start.
@@ -39,19 +33,4 @@ pub(crate) fn setup_and_others(events: &[WorldEvent]) -> (&[WorldEvent], &[World
     ensures others { result.1.now ≡ after_last_start events.now }
 {
     events.split_at(setup_length(events))
-}
-
-/// Runs these events in a world, and returns what is known then of the runners' ends. Out of memory is the only refusal.
-pub(crate) fn run_setup(
-    alloc: Global,
-    world: &mut World,
-    events: &[WorldEvent],
-) -> Result<Vec<Option<RunnerEnd>>, AllocError>
-    ensures ends { IfOk result (λ ends. ends.items ≡ after_replies (replies_to events.now world.old) []) }
-    ensures world { OnOk result (world.new ≡ world_after events.now world.old) }
-{
-    match world.run(events) {
-        Ok(replies) => ends_reported(alloc, replies.as_slice()),
-        Err(_) => Err(AllocError),
-    }
 }

@@ -20,6 +20,15 @@ use stm_records::{Disk, DiskFault};
 #[derive(Drop)]
 pub struct FileDisk {
     pub(crate) rt: HostRuntime,
+    /// None in a copy.
+    pub(crate) files: Option<WrittenFiles>,
+    pub(crate) calls: Vec<Call>,
+    pub(crate) failure: Option<io::Error>,
+}
+
+/// The files that a disk writes.
+#[derive(Drop)]
+pub(crate) struct WrittenFiles {
     pub(crate) path: String,
     pub(crate) next_path: String,
     pub(crate) file: File,
@@ -27,9 +36,6 @@ pub struct FileDisk {
     pub(crate) folder: File,
     pub(crate) is_name_new: bool,
     pub(crate) lock: File,
-    pub(crate) calls: Vec<Call>,
-    pub(crate) failure: Option<io::Error>,
-    pub(crate) is_copy: bool,
 }
 
 impl FileDisk {
@@ -51,31 +57,31 @@ impl FileDisk {
 
     /// Writes bytes of the file.
     fn write_file(&self, at: usize, bytes: &[u8]) -> io::Result<()> {
-        if self.is_copy {
+        let Some(files) = &self.files else {
             return Ok(());
-        }
-        self.file.write_all_at(bytes, at as u64)
+        };
+        files.file.write_all_at(bytes, at as u64)
     }
 
     /// Cuts the file.
     fn cut_file(&self, len: usize) -> io::Result<()> {
-        if self.is_copy {
+        let Some(files) = &self.files else {
             return Ok(());
-        }
-        self.file.set_len(len as u64)
+        };
+        files.file.set_len(len as u64)
     }
 
     /// Syncs the file, and its folder where its name is new.
     fn sync_all(&mut self) -> io::Result<()>
         ensures { self.new.calls ≡ self.old.calls }
     {
-        if self.is_copy {
+        let Some(files) = &mut self.files else {
             return Ok(());
-        }
-        self.file.sync_data()?;
-        if self.is_name_new {
-            self.folder.sync_all()?;
-            self.is_name_new = false;
+        };
+        files.file.sync_data()?;
+        if files.is_name_new {
+            files.folder.sync_all()?;
+            files.is_name_new = false;
         }
         Ok(())
     }
@@ -83,8 +89,8 @@ impl FileDisk {
     /// Removes the next file where it could not be made, or given the name: the disk may be full. A disk is not usable behind a call that failed, and its
     /// next opening makes that file anew.
     fn remove_failed(&self, answer: &io::Result<()>) {
-        if answer.is_err() {
-            let _ = fs::remove_file(&self.rt, self.next_path.as_str());
+        if let (Some(files), Err(_)) = (&self.files, answer) {
+            let _ = fs::remove_file(&self.rt, files.next_path.as_str());
         }
     }
 
@@ -92,28 +98,26 @@ impl FileDisk {
     fn make_next(&mut self, bytes: &[u8]) -> io::Result<()>
         ensures { self.new.calls ≡ self.old.calls }
     {
-        if self.is_copy {
+        let Some(files) = &mut self.files else {
             return Ok(());
-        }
+        };
         let mut next = OpenOptions::new()
             .read(true)
             .write(true)
             .create(true)
             .truncate(true)
-            .open(&self.rt, self.next_path.as_str())?;
+            .open(&self.rt, files.next_path.as_str())?;
         next.write_all(bytes)?;
-        self.next = Some(next);
+        files.next = Some(next);
         Ok(())
     }
 
     /// Syncs the next file.
-    fn sync_made(&mut self) -> io::Result<()>
-        ensures { self.new.calls ≡ self.old.calls }
-    {
-        if self.is_copy {
+    fn sync_made(&self) -> io::Result<()> {
+        let Some(files) = &self.files else {
             return Ok(());
-        }
-        match &self.next {
+        };
+        match &files.next {
             Some(next) => next.sync_all(),
             None => Err(io::ErrorKind::NotFound.into()),
         }
@@ -123,15 +127,15 @@ impl FileDisk {
     fn take_name(&mut self) -> io::Result<()>
         ensures { self.new.calls ≡ self.old.calls }
     {
-        if self.is_copy {
+        let Some(files) = &mut self.files else {
             return Ok(());
-        }
-        let Some(next) = self.next.take() else {
+        };
+        let Some(next) = files.next.take() else {
             return Err(io::ErrorKind::NotFound.into());
         };
-        fs::rename(&self.rt, self.next_path.as_str(), self.path.as_str())?;
-        self.file = next;
-        self.is_name_new = true;
+        fs::rename(&self.rt, files.next_path.as_str(), files.path.as_str())?;
+        files.file = next;
+        files.is_name_new = true;
         Ok(())
     }
 

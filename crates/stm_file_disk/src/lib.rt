@@ -9,4 +9,4 @@ mod file_disk;
 mod opening;
 
 pub use file_disk::FileDisk;
-pub use opening::{OpenError, open, open_to_read};
+pub use opening::{OpenError, Part, open, open_to_read};

@@ -6,5 +6,6 @@ pub mod FormatKeptKeys
 pub mod FormatLoops
 pub mod FormatRowLemmas
 pub mod FormatWidths
+pub mod FormatWraps
 pub mod FormatPages
 pub mod FormatAttempts

@@ -6,7 +6,7 @@ use Rattle.stm_formats.specs.declared.format_row.Row.{Row}
 use Rattle.stm_formats.specs.declared.format_label.TheConstants.{MOST_COLUMNS}
 use Rattle.stm_formats.specs.declared.format_label.RunnerLabel.{RunnerLabel}
 use Rattle.stm_formats.specs.FormatLabels.{title}
-use Rattle.stm_formats.specs.declared.format_columns.TheConstants.{LEAST_WIDTH, MOST_WIDTH, MOST_TOGETHER, WIDEST, MOST_PLACE}
+use Rattle.stm_formats.specs.declared.format_columns.TheConstants.{LEAST_WIDTH, LAST_WIDTH, MOST_WIDTH, MOST_TOGETHER, WIDEST, MOST_PLACE}
 
 -- the number of the column's runner, 0 for the store
 abbrev pub lane_number : Lane → ℕ
@@ -26,9 +26,13 @@ last_column (row ∷ rows) = max (column row.lane) (last_column rows)
 abbrev pub width_in : ℕ → ℕ → Row → ℕ
 width_in limit c row = if nat_eq (column row.lane) c then min (length row.words) limit else 0
 
+-- the width of a column's shortest title: `store`, or a runner's number
+abbrev pub shortest : ℕ → ℕ
+shortest c = if nat_eq c 0 then 5 else 1
+
 -- how wide a column with this title is at least
-abbrev pub least_width : ℕ → List ℕ → ℕ
-least_width limit title = max (min (length title) limit) LEAST_WIDTH
+abbrev pub least_width : ℕ → ℕ → List ℕ → ℕ
+least_width limit c title = max (min (max (length title) LEAST_WIDTH) limit) (shortest c)
 
 -- how wide a column is that is at least so wide: as its longest words
 abbrev pub width : ℕ → ℕ → ℕ → List Row → ℕ
@@ -36,13 +40,17 @@ width limit least c [] = least
 width limit least c (row ∷ rows) = max (width_in limit c row) (width limit least c rows)
 
 abbrev pub titled_width : ℕ → List RunnerLabel → ℕ → List Row → ℕ
-titled_width limit labels c rows = width limit (least_width limit (title labels c)) c rows
+titled_width limit labels c rows = width limit (least_width limit c (title labels c)) c rows
 
--- The limit of a report of this width with so many runners' columns: the last one begins before the middle, unless the least widths are too much for that.
--- Without a width those of three runners are as wide as any, and more of them together as wide as three.
+-- how wide each of so many columns is, which stand behind the number of an event in so many characters, with two spaces behind each
+abbrev pub each : ℕ → ℕ → ℕ
+each characters columns = ((characters - 8) / max columns 1) - 2
+
+-- The limit of a report of this width with so many runners' columns: the last one begins before the middle, or columns have the least width, or what leaves
+-- LAST_WIDTH for the last one. Without a width those of three runners are as wide as any, and more of them together as wide as three.
 abbrev pub most_width : Option ℕ → ℕ → ℕ
-most_width None last = min (MOST_TOGETHER / max last 1) MOST_WIDTH
-most_width (Some width) last = min (((width / 2 - 8) / max last 1) - 2) WIDEST
+most_width None last = max (min (MOST_TOGETHER / max last 1) MOST_WIDTH) LEAST_WIDTH
+most_width (Some width) last = min (max (min (each (width - LAST_WIDTH) last) LEAST_WIDTH) (each (width / 2) last)) WIDEST
 
 -- how many characters stand before a column: each is followed by two spaces
 abbrev pub begin : ℕ → List RunnerLabel → List Row → ℕ → ℕ

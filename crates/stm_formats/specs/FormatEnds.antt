@@ -56,18 +56,19 @@ noted words reads = if nat_lt (length reads) 2 then [] else joined (words ∷ co
 abbrev pub end_words : List RunnerLabel → List ℕ → ℕ → ℕ → List ℕ
 end_words labels word runner number = joined (runner_words labels runner ∷ word ∷ decimal number ∷ [])
 
--- the note of the event after that many, which was taken
-abbrev pub taken_note : Cuts → List RunnerLabel → History → List (Result Reply Denied) → ℕ → Reply → List (List ℕ)
-taken_note cuts labels h replies before (Aborted runner text) =
-    noted (end_words labels (codes " aborts at event ") runner (before + 1)) (attempt_reads cuts h runner replies before)
-taken_note cuts labels h replies before (Faulted runner fault) =
-    noted (end_words labels (codes " faults at event ") runner (before + 1)) (attempt_reads cuts h runner replies before)
-taken_note cuts labels h replies before other = []
+-- the run that a reply ends by an abort or a fault, and the words for that
+abbrev pub ended : Result Reply Denied → Option (ℕ × List ℕ)
+ended (Ok (Aborted runner text)) = Some (runner, codes " aborts at event ")
+ended (Ok (Faulted runner fault)) = Some (runner, codes " faults at event ")
+ended other = None
 
--- that of one that was taken, or refused
+abbrev pub ended_note : Cuts → List RunnerLabel → History → List (Result Reply Denied) → ℕ → Option (ℕ × List ℕ) → List (List ℕ)
+ended_note cuts labels h replies before None = []
+ended_note cuts labels h replies before (Some end) = noted (end_words labels end.1 end.0 (before + 1)) (attempt_reads cuts h end.0 replies before)
+
+-- the note of the event after that many, with this reply
 abbrev pub end_note : Cuts → List RunnerLabel → History → List (Result Reply Denied) → ℕ → Result Reply Denied → List (List ℕ)
-end_note cuts labels h replies before (Ok reply) = taken_note cuts labels h replies before reply
-end_note cuts labels h replies before (Err denied) = []
+end_note cuts labels h replies before reply = ended_note cuts labels h replies before (ended reply)
 
 -- those of these replies, the first of them to the event after that many
 abbrev pub end_notes : Cuts → List RunnerLabel → History → List (Result Reply Denied) → ℕ → List (Result Reply Denied) → List (List ℕ)

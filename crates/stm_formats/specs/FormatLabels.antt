@@ -1,5 +1,5 @@
 -- What a report calls runners: by the labels of a list, which are those of the runners 1, 2 and so on.
-use Rattle.std.specs.Prelude.{ℕ, ◌-◌, List, [], ◌∷◌, nat_eq, nat_le, if◌then◌else◌, slice_get, Option, None, Some, codes, decimal}
+use Rattle.std.specs.Prelude.{ℕ, ◌-◌, List, [], ◌∷◌, nat_eq, nat_lt, nat_le, if◌then◌else◌, slice_get, Option, None, Some, codes, decimal}
 use Rattle.stm_formats.specs.declared.format_label.RunnerLabel.{RunnerLabel}
 use Rattle.stm_formats.specs.declared.format_label.TheConstants.{MOST_COLUMNS}
 use Rattle.stm_formats.specs.FormatShown.{plain}
@@ -43,4 +43,4 @@ short_by (Some name) title = joined (plain name ∷ [])
 
 -- the same without the number of a runner that has a name
 abbrev pub short_title : List RunnerLabel → ℕ → List ℕ
-short_title labels column = short_by (name_of labels column) (title labels column)
+short_title labels column = if nat_lt column MOST_COLUMNS then short_by (name_of labels column) (title labels column) else title labels column

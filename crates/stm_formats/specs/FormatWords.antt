@@ -8,7 +8,7 @@ use Rattle.stm_events.specs.declared.event.WorldEvent.{WorldEvent}
 use Rattle.stm_events.specs.declared.event.WorldEvent.TheVariants as event
 use Rattle.stm_events.specs.declared.reply.Reply.{Reply}
 use Rattle.stm_events.specs.declared.reply.Reply.TheVariants.{Started, Prefetched, Fetched, Committed, Conflict, GaveUp, Aborted, Faulted, Ended}
-use Rattle.stm_events.specs.declared.reply.Reply.TheVariants.{Txn, Granted, Kept, Revoked, Advanced, Compacted, Watching, Batch, Lost, Cancelled}
+use Rattle.stm_events.specs.declared.reply.Reply.TheVariants.{Txn, Revoked, Advanced, Watching, Batch, Lost}
 use Rattle.stm_events.specs.declared.reply.KeyRead.{KeyRead}
 use Rattle.stm_events.specs.declared.refusal.Denied.{Denied}
 use Rattle.stm_events.specs.declared.refusal.EventRefusal.{EventRefusal}
@@ -180,7 +180,7 @@ batch_words cuts watcher upto events =
 abbrev pub lost_words : ℕ → ℕ → List ℕ
 lost_words watcher floor = joined (codes "LOST watcher " ∷ decimal watcher ∷ codes ": kept from @" ∷ decimal floor ∷ [])
 
--- the words of an event that was taken, before which the store was at a revision
+-- The words of an event that was taken, before which the store was at a revision: of a grant, a renewal, a cancellation and a compaction what was asked for.
 abbrev pub reply_words : Cuts → List RunnerLabel → History → ℕ → WorldEvent → Reply → List ℕ
 reply_words cuts labels h before event (Started runner) = start_words cuts.value labels runner event
 reply_words cuts labels h before event (Prefetched runner revision reads) = listed_words cuts h revision reads
@@ -192,15 +192,12 @@ reply_words cuts labels h before event (Aborted runner text) = reported_words cu
 reply_words cuts labels h before event (Faulted runner fault) = reported_words cuts.value (codes "FAULT") (fault_name fault)
 reply_words cuts labels h before event (Ended runner cause) = reported_words cuts.value (codes "ENDED") (refusal_name cause)
 reply_words cuts labels h before event (Txn succeeded revision answers) = txn_words cuts.value event succeeded revision
-reply_words cuts labels h before event (Granted id) = asked_words event
-reply_words cuts labels h before event (Kept id) = named_words (codes "keep") id
 reply_words cuts labels h before event (Revoked id revision) = revoked_words id revision
 reply_words cuts labels h before event (Advanced now expired) = advanced_words now expired
-reply_words cuts labels h before event (Compacted revision) = changed_words (codes "compact") revision
 reply_words cuts labels h before event (Watching watcher) = watch_words cuts watcher event
 reply_words cuts labels h before event (Batch watcher upto events) = batch_words cuts watcher upto events
 reply_words cuts labels h before event (Lost watcher floor) = lost_words watcher floor
-reply_words cuts labels h before event (Cancelled watcher) = named_words (codes "cancel") watcher
+reply_words cuts labels h before event other = asked_words event
 
 abbrev pub refusal_words : EventRefusal → List ℕ
 refusal_words cause = joined (codes ": " ∷ refusal_name cause ∷ [])

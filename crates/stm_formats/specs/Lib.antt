@@ -11,6 +11,7 @@ pub mod FormatWords
 pub mod FormatRows
 pub mod FormatColumns
 pub mod FormatNotes
+pub mod FormatWrap
 pub mod FormatText
 pub mod FormatSvg
 pub mod FormatPage

@@ -1,13 +1,16 @@
 //! The columns of a report.
 ghost use Rattle.std.specs.Prelude.{◌≡◌, ◌≤◌, IfOk};
-ghost use Rattle.stm_formats.specs.FormatColumns.{lane_number, column, last_column, width_in, least_width, width, titled_width, most_width, all_places, place};
+ghost use Rattle.stm_formats.specs.FormatColumns.{lane_number, column, last_column, width_in, shortest, least_width, width, titled_width, each, most_width, all_places, place};
 
 use crate::format_label::{MOST_COLUMNS, RunnerLabel, title};
 use crate::format_row::{Lane, Row};
 use std::alloc::{AllocError, Global};
 
-/// The least width of a column, in characters.
+/// So wide is a column at least, in characters, where the width of a report has room for that.
 const LEAST_WIDTH: u64 = 10;
+
+/// So many characters the last column has at least, where columns are narrower than it would have them.
+const LAST_WIDTH: u64 = 40;
 
 /// The greatest width of a column, in characters, where no width of a report says otherwise.
 pub(crate) const MOST_WIDTH: u64 = 28;
@@ -63,13 +66,22 @@ fn width_in(limit: u64, number: u64, row: &Row) -> u64
     }
 }
 
+/// The width of the shortest title of a column: of the store's name, or of a runner's number.
+fn shortest(number: u64) -> u64
+    ensures width { result ≡ shortest number }
+    ensures within { result ≤ 5 }
+{
+    if number == 0 { 5 } else { 1 }
+}
+
 /// The least width of a column with this title, up to a limit.
-fn least_width(limit: u64, title: &[u8]) -> u64
+fn least_width(limit: u64, number: u64, title: &[u8]) -> u64
     requires { limit ≤ 1000 }
-    ensures width { result ≡ least_width limit title.now }
+    ensures width { result ≡ least_width limit number title.now }
     ensures within { result ≤ 1000 }
 {
-    (title.len() as u64).min(limit).max(LEAST_WIDTH)
+    let titled = (title.len() as u64).max(LEAST_WIDTH).min(limit);
+    titled.max(shortest(number))
 }
 
 /// The width of a column of these rows, up to a limit, and at least this one.
@@ -98,19 +110,35 @@ fn titled_width(
     ensures within { IfOk result (λ width. width ≤ 1000) }
 {
     let words = title(alloc, labels, number)?;
-    Ok(width(limit, least_width(limit, words.as_slice()), number, rows))
+    Ok(width(
+        limit,
+        least_width(limit, number, words.as_slice()),
+        number,
+        rows,
+    ))
 }
 
-/// The greatest width of a column of a report with so many runners' columns, so that the last one begins before its middle.
+/// How wide so many columns are together behind the number of an event, each with two spaces behind it, in so many characters.
+fn each(characters: u64, columns: u64) -> u64
+    ensures { result ≡ each characters columns }
+{
+    (characters.saturating_sub(8) / columns.max(1)).saturating_sub(2)
+}
+
+/// The greatest width of a column of a report with so many runners' columns, so that the last one begins before its middle, or columns are not narrower than
+/// leaves it its least width.
 pub(crate) fn most_width(width: Option<u32>, last: u64) -> u64
     ensures width { result ≡ most_width width last }
     ensures within { result ≤ 1000 }
 {
     match width {
-        None => (MOST_TOGETHER / last.max(1)).min(MOST_WIDTH),
+        None => (MOST_TOGETHER / last.max(1))
+            .min(MOST_WIDTH)
+            .max(LEAST_WIDTH),
         Some(width) => {
-            let half = (width as u64 / 2).saturating_sub(8);
-            (half / last.max(1)).saturating_sub(2).min(WIDEST)
+            let half = each(width as u64 / 2, last);
+            let narrow = each((width as u64).saturating_sub(LAST_WIDTH), last);
+            narrow.min(LEAST_WIDTH).max(half).min(WIDEST)
         }
     }
 }

@@ -1,6 +1,6 @@
 //! On what values a run aborted or came to a fault, as notes.
-ghost use Rattle.std.specs.Prelude.{◌≡◌, ◌++◌, ◌+◌, ◌<◌, ◌≤◌, length, IfOk, OnOk};
-ghost use Rattle.stm_formats.specs.FormatEnds.{begins, read_at, fetched_at, listed_at, own_read, attempt_reads, noted, end_words, taken_note, end_note, end_notes};
+ghost use Rattle.std.specs.Prelude.{◌≡◌, ◌++◌, ◌+◌, ◌<◌, ◌≤◌, length, option_map, IfOk, OnOk};
+ghost use Rattle.stm_formats.specs.FormatEnds.{begins, read_at, fetched_at, listed_at, own_read, attempt_reads, noted, end_words, ended, end_note, end_notes};
 
 use crate::format_keys::Cuts;
 use crate::format_label::{RunnerLabel, runner_words};
@@ -202,73 +202,18 @@ fn push_noted<'a>(
     Ok(())
 }
 
-/// Adds the note of a run that ended at the event after so many, where its attempt had read something.
-fn push_ended(
-    alloc: Global,
-    cuts: &Cuts,
-    labels: &[RunnerLabel],
-    notes: &mut Vec<Sequence<u8>>,
-    keys: &Keys,
-    replies: &[Result<Reply, Denied>],
-    before: usize,
-    word: &str,
-    runner: u64,
-) -> Result<(), AllocError>
-    requires { before < length replies.now }
-    ensures { OnOk result (notes.new.items ≡ notes.old.items
-        ++ noted (end_words labels.now word.now runner (before + 1)) (attempt_reads cuts.now keys.now.history runner replies.now before)) }
-{
-    let words = end_words(alloc, labels, word, runner, before as u64 + 1)?;
-    let reads = attempt_reads(alloc, cuts, keys, runner, replies, before)?;
-    push_noted(alloc, notes, words.as_slice(), reads.as_slice())
-}
-
-/// Adds the note of the event after so many, which was taken, if a run aborted or came to a fault there.
-fn push_taken(
-    alloc: Global,
-    cuts: &Cuts,
-    labels: &[RunnerLabel],
-    notes: &mut Vec<Sequence<u8>>,
-    keys: &Keys,
-    replies: &[Result<Reply, Denied>],
-    before: usize,
-    reply: &Reply,
-) -> Result<(), AllocError>
-    requires { before < length replies.now }
-    ensures { OnOk result (notes.new.items ≡ notes.old.items ++ taken_note cuts.now labels.now keys.now.history replies.now before reply.now) }
+/// The run that a reply ends by an abort or a fault, and the words for that.
+fn ended(reply: &Result<Reply, Denied>) -> Option<(u64, &'static str)>
+    ensures { option_map (λ end. (end.0, end.1.now)) result ≡ ended reply.now }
 {
     match reply {
-        Reply::Aborted { runner, .. } => {
-            push_ended(
-                alloc,
-                cuts,
-                labels,
-                notes,
-                keys,
-                replies,
-                before,
-                " aborts at event ",
-                *runner,
-            )
-        }
-        Reply::Faulted { runner, .. } => {
-            push_ended(
-                alloc,
-                cuts,
-                labels,
-                notes,
-                keys,
-                replies,
-                before,
-                " faults at event ",
-                *runner,
-            )
-        }
-        _ => Ok(()),
+        Ok(Reply::Aborted { runner, .. }) => Some((*runner, " aborts at event ")),
+        Ok(Reply::Faulted { runner, .. }) => Some((*runner, " faults at event ")),
+        _ => None,
     }
 }
 
-/// Adds the note of the event after so many, if a run aborted or came to a fault there.
+/// Adds the note of the event after so many, if a run aborted or came to a fault there and its attempt had read something.
 fn push_end(
     alloc: Global,
     cuts: &Cuts,
@@ -282,10 +227,12 @@ fn push_end(
     requires { before < length replies.now }
     ensures { OnOk result (notes.new.items ≡ notes.old.items ++ end_note cuts.now labels.now keys.now.history replies.now before reply.now) }
 {
-    match reply {
-        Ok(reply) => push_taken(alloc, cuts, labels, notes, keys, replies, before, reply),
-        Err(_) => Ok(()),
-    }
+    let Some((runner, word)) = ended(reply) else {
+        return Ok(());
+    };
+    let words = end_words(alloc, labels, word, runner, before as u64 + 1)?;
+    let reads = attempt_reads(alloc, cuts, keys, runner, replies, before)?;
+    push_noted(alloc, notes, words.as_slice(), reads.as_slice())
 }
 
 /// Adds a note for each run that aborted or came to a fault after it had read something. It fails where a growth was refused.

@@ -107,7 +107,7 @@ pub(crate) fn short_title(
     ensures { IfOk result (λ words. words ≡ short_title labels.now column) }
 {
     match name_of(labels, column) {
-        None => title(alloc, labels, column),
-        Some(name) => said(alloc, &[Piece::Key(name)]),
+        Some(name) if column < MOST_COLUMNS => said(alloc, &[Piece::Key(name)]),
+        _ => title(alloc, labels, column),
     }
 }

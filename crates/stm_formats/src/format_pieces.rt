@@ -39,7 +39,7 @@ pub(crate) enum Piece<'a> {
 }
 
 /// Whether a byte goes on with a character of UTF-8.
-fn is_continuation(byte: u8) -> bool
+pub(crate) fn is_continuation(byte: u8) -> bool
     ensures { result ≡ is_continuation byte }
 {
     byte >= 128 && byte < 192
@@ -252,7 +252,7 @@ fn push_number(out: &mut Vec<u8>, number: u64) -> Result<(), AllocError>
 }
 
 /// Adds a number in decimal, and spaces before it where it has fewer than six digits.
-fn push_padded(out: &mut Vec<u8>, number: u64) -> Result<(), AllocError>
+pub(crate) fn push_padded(out: &mut Vec<u8>, number: u64) -> Result<(), AllocError>
     ensures { OnOk result (out.new.items ≡ out.old.items ++ padded number) }
 {
     let mut buffer = Buffer::new();
@@ -262,7 +262,7 @@ fn push_padded(out: &mut Vec<u8>, number: u64) -> Result<(), AllocError>
 }
 
 /// Adds that many spaces.
-fn push_spaces(out: &mut Vec<u8>, count: u64) -> Result<(), AllocError>
+pub(crate) fn push_spaces(out: &mut Vec<u8>, count: u64) -> Result<(), AllocError>
     ensures { OnOk result (out.new.items ≡ out.old.items ++ replicate count 32) }
 {
     for _ in 0..count {

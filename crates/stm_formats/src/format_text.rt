@@ -1,11 +1,12 @@
 //! A report as text.
 ghost use Rattle.std.specs.Prelude.{◌≡◌, ◌++◌, ◌≤◌, IfOk, OnOk};
-ghost use Rattle.stm_formats.specs.FormatText.{titled, room, fitted, heading, headings, row_text, rows_text, note_text, notes_text, text_in, text_of};
+ghost use Rattle.stm_formats.specs.FormatText.{titled, room, fitted, heading, headings, row_text, rows_text, note_text, notes_text, text_of};
 
 use crate::format_columns::{all_places, column, last_column, most_width, place};
 use crate::format_label::{RunnerLabel, short_title, title};
-use crate::format_pieces::{Piece, push_pieces};
+use crate::format_pieces::{Piece, push_padded, push_pieces, push_spaces, said};
 use crate::format_row::Row;
+use crate::format_wrap::push_fitted;
 use std::alloc::{AllocError, Global};
 use stm_history::Sequence;
 
@@ -40,7 +41,7 @@ fn room(places: &[u64], number: u64) -> u64
         .saturating_sub(LEAST_SPACE)
 }
 
-/// The title of a column, in its short form where the whole one is too long for the column.
+/// The title of a column, in its short form where the whole one is too long for the column, or its number alone.
 fn fitted_title(
     alloc: Global,
     labels: &[RunnerLabel],
@@ -54,7 +55,11 @@ fn fitted_title(
     if words.len() as u64 <= room(places, number) {
         return Ok(words);
     }
-    short_title(alloc, labels, number)
+    let words = short_title(alloc, labels, number)?;
+    if words.len() as u64 <= room(places, number) {
+        return Ok(words);
+    }
+    said(alloc, &[Piece::Number(number)])
 }
 
 /// Adds the title of a runner's column.
@@ -91,26 +96,37 @@ fn push_headings(
 }
 
 /// Adds a row.
-fn push_row(out: &mut Vec<u8>, places: &[u64], row: &Row) -> Result<(), AllocError>
-    ensures { OnOk result (out.new.items ≡ out.old.items ++ row_text places.now row.now) }
+fn push_row(
+    alloc: Global,
+    width: Option<u32>,
+    out: &mut Vec<u8>,
+    places: &[u64],
+    row: &Row,
+) -> Result<(), AllocError>
+    ensures { OnOk result (out.new.items ≡ out.old.items ++ row_text width places.now row.now) }
 {
     let indent = 2 + place(places, column(row.lane));
-    let pieces = [
-        Piece::Padded(row.number),
-        Piece::Spaces(indent),
-        Piece::Tag(row.lane),
-        Piece::Raw(row.words.as_slice()),
-        Piece::Say("\n"),
-    ];
-    push_pieces(out, &pieces)
+    let pieces = [Piece::Tag(row.lane), Piece::Raw(row.words.as_slice())];
+    let words = said(alloc, &pieces)?;
+    push_padded(out, row.number)?;
+    push_spaces(out, indent)?;
+    push_fitted(out, width, indent + 6, words.as_slice())?;
+    out.push(b'\n')?;
+    Ok(())
 }
 
-/// Adds the rows, one line for each.
-fn push_rows(out: &mut Vec<u8>, places: &[u64], rows: &[Row]) -> Result<(), AllocError>
-    ensures { OnOk result (out.new.items ≡ out.old.items ++ rows_text places.now rows.now) }
+/// Adds the rows, one line for each, or more where a width wants that.
+fn push_rows(
+    alloc: Global,
+    width: Option<u32>,
+    out: &mut Vec<u8>,
+    places: &[u64],
+    rows: &[Row],
+) -> Result<(), AllocError>
+    ensures { OnOk result (out.new.items ≡ out.old.items ++ rows_text width places.now rows.now) }
 {
     for row in rows {
-        push_row(out, places, row)?;
+        push_row(alloc, width, out, places, row)?;
     }
     Ok(())
 }
@@ -132,17 +148,17 @@ fn push_notes(out: &mut Vec<u8>, notes: &[Sequence<u8>]) -> Result<(), AllocErro
     Ok(())
 }
 
-/// The text of a report of these rows and notes, with columns that are as wide as a limit at most.
-fn text_in(
+/// The text of a report of these rows and notes, of a width, with runners of these labels. It fails where a growth was refused.
+pub(crate) fn text_of(
     alloc: Global,
-    limit: u64,
+    width: Option<u32>,
     labels: &[RunnerLabel],
     rows: &[Row],
     notes: &[Sequence<u8>],
 ) -> Result<Vec<u8>, AllocError>
-    requires { limit ≤ 1000 }
-    ensures { IfOk result (λ text. text.items ≡ text_in limit labels.now rows.now notes.now) }
+    ensures { IfOk result (λ text. text.items ≡ text_of width labels.now rows.now notes.now) }
 {
+    let limit = most_width(width, last_column(rows));
     let places = all_places(alloc, limit, labels, rows)?;
     let mut out = Vec::new(alloc);
     out.extend_from_slice(b" event  store")?;
@@ -154,27 +170,8 @@ fn text_in(
         last_column(rows),
     )?;
     out.push(b'\n')?;
-    push_rows(&mut out, places.as_slice(), rows)?;
+    push_rows(alloc, width, &mut out, places.as_slice(), rows)?;
     out.push(b'\n')?;
     push_notes(&mut out, notes)?;
     Ok(out)
-}
-
-/// The text of a report of these rows and notes, of a width, with runners of these labels. It fails where a growth was refused.
-pub(crate) fn text_of(
-    alloc: Global,
-    width: Option<u32>,
-    labels: &[RunnerLabel],
-    rows: &[Row],
-    notes: &[Sequence<u8>],
-) -> Result<Vec<u8>, AllocError>
-    ensures { IfOk result (λ text. text.items ≡ text_of width labels.now rows.now notes.now) }
-{
-    text_in(
-        alloc,
-        most_width(width, last_column(rows)),
-        labels,
-        rows,
-        notes,
-    )
 }

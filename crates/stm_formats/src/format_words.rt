@@ -623,11 +623,8 @@ fn taken_words(
             revision,
             ..
         } => transacted(alloc, cuts.value, event, *succeeded, *revision),
-        Reply::Granted { .. } => asked_words(alloc, event),
-        Reply::Kept { id } => named(alloc, "keep", *id),
         Reply::Revoked { id, revision } => revoked(alloc, *id, *revision),
         Reply::Advanced { now, expired } => advanced(alloc, *now, expired.as_slice()),
-        Reply::Compacted { revision } => changed(alloc, "compact", *revision),
         Reply::Watching { watcher } => watching(alloc, cuts, *watcher, event),
         Reply::Batch {
             watcher,
@@ -635,7 +632,8 @@ fn taken_words(
             events,
         } => batch(alloc, cuts, *watcher, *upto, events.as_slice()),
         Reply::Lost { watcher, floor } => lost(alloc, *watcher, *floor),
-        Reply::Cancelled { watcher } => named(alloc, "cancel", *watcher),
+        // The others say no more than what was asked for.
+        _ => asked_words(alloc, event),
     }
 }
 

@@ -22,6 +22,7 @@ mod format_source;
 mod format_svg;
 mod format_text;
 mod format_words;
+mod format_wrap;
 
 pub use format_keys::Cuts;
 pub use format_label::RunnerLabel;

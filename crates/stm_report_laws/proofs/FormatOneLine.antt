@@ -1,6 +1,6 @@
 -- The words of a row have no line feed, and so each row is one line.
 use Rattle.std.proofs.Common.{◌≡◌, ℕ, ℤ, zero, suc, pred, ◌+◌, ◌/◌, ◌%◌, Bool, true, false, cond, ◌==◌, List, [], ◌∷◌, ◌++◌, length, replicate}
-use Rattle.std.proofs.Common.{nat_eq, nat_lt, Option, codes, decimal, Result, refl, ap, ◌∙◌, arith}
+use Rattle.std.proofs.Common.{nat_eq, nat_lt, Option, None, codes, decimal, Result, refl, ap, ◌∙◌, arith}
 use Rattle.std.proofs.lemmas.Bool.Decides.{nat_tests}
 use Rattle.std.specs.Fmt.{digits, digits_onto, digit_glyph, signed_decimal}
 use Rattle.std.proofs.lemmas.Bool.{cond-false, or_from, or_parts}
@@ -220,7 +220,7 @@ count-append [] ys = omega arith
 count-append (x ∷ xs) ys = ap (λ (n : ℕ). cond (nat_eq x 10) (n + 1) n) (count-append xs ys) ∙ line_by (nat_eq x 10) (count 10 xs) (count 10 ys)
 
 one_line : (cuts : Cuts) (labels : List RunnerLabel) (places : List ℕ) (n : ℕ) (h : History) (before : ℕ) (e : WorldEvent)
-    (reply : Result Reply Denied) → count 10 (row_text places (row_of cuts labels h before n e reply)) ≡ 1
+    (reply : Result Reply Denied) → count 10 (row_text None places (row_of cuts labels h before n e reply)) ≡ 1
 one_line cuts labels places n h before e reply = grind (arith, nat_tests, count-before, has_both, spaces_without, decimal_without, tag_without, words_without)
 
 one_more : (m : ℕ) → 1 + m ≡ suc m
@@ -231,7 +231,7 @@ one_line_a_row cuts labels places n h before [] replies = refl
 one_line_a_row cuts labels places n h before (e ∷ es) [] = refl
 one_line_a_row cuts labels places n h before (e ∷ es) (r ∷ rs) =
     let rest = rows_of cuts labels h (counter_after before r) (suc n) es rs in
-    count-append (row_text places (row_of cuts labels h before n e r)) (rows_text places rest)
-    ∙ ap (λ (m : ℕ). m + count 10 (rows_text places rest)) (one_line cuts labels places n h before e r)
+    count-append (row_text None places (row_of cuts labels h before n e r)) (rows_text None places rest)
+    ∙ ap (λ (m : ℕ). m + count 10 (rows_text None places rest)) (one_line cuts labels places n h before e r)
     ∙ ap (λ (m : ℕ). 1 + m) (one_line_a_row cuts labels places (suc n) h (counter_after before r) es rs)
     ∙ one_more (length rest)

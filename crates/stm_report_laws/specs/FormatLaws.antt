@@ -1,5 +1,5 @@
 -- Laws of the formats.
-use Rattle.std.specs.Prelude.{◌≡◌, ℕ, List, [], ◌∷◌, ◌+◌, ◌||◌, length, map, Bool, false, if◌then◌else◌, nat_eq, Result}
+use Rattle.std.specs.Prelude.{◌≡◌, ℕ, List, [], ◌∷◌, ◌+◌, ◌||◌, length, map, Bool, false, None, if◌then◌else◌, nat_eq, Result}
 use Rattle.stm_history.specs.History.{History}
 use Rattle.stm_events.specs.declared.event.WorldEvent.{WorldEvent}
 use Rattle.stm_events.specs.declared.reply.Reply.{Reply}
@@ -33,10 +33,10 @@ abbrev pub count : ℕ → List ℕ → ℕ
 count b [] = 0
 count b (x ∷ xs) = if nat_eq x b then count b xs + 1 else count b xs
 
--- Rows have as many line feeds as there are rows: the words of a row have none.
+-- Without a width, rows have as many line feeds as there are rows: the words of a row have none.
 abbrev pub OneLineARow : Type 0
 OneLineARow = (cuts : Cuts) (labels : List RunnerLabel) (places : List ℕ) (n : ℕ) (h : History) (before : ℕ) (events : List WorldEvent) (replies : List (Result Reply Denied)) →
-    count 10 (rows_text places (rows_of cuts labels h before n events replies)) ≡ length (rows_of cuts labels h before n events replies)
+    count 10 (rows_text None places (rows_of cuts labels h before n events replies)) ≡ length (rows_of cuts labels h before n events replies)
 
 -- Two keys that rows show alike are the same key, whichever keys the report has.
 abbrev pub KeysApart : Type 0

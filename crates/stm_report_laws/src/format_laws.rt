@@ -12,7 +12,7 @@ pub fn one_object_an_event()
     ensures { OneObjectAnEvent }
 {}
 
-/// Each row of a text is one line: no key, value or message breaks it.
+/// Each row of a text without a width is one line: no key, value or message breaks it.
 #[tactic(auto, using(crate::proofs::FormatOneLine::one_line_a_row))]
 pub fn one_line_a_row()
     ensures { OneLineARow }

@@ -14,8 +14,8 @@ use Rattle.stm_shared_hall.specs.Sharing.{IsCommittedThere}
 
 pub is_there : (before after : JournalState) (level : Level) (reads : List ReadAnswer) (writes : List Change) (result : Result CommitOutcome Refusal)
     → IsLocked before → CommitReturns (IsCommittedInHall before level reads writes after) (after ≡ before) result
-    → CommitReturns (IsCommittedThere level reads writes) (Unit {0}) result
+    → CommitReturns (IsCommittedThere level reads writes) (after ≡ before) result
 is_there before after level reads writes (Ok Committed) locked done = record { before = before; left = after; locked = locked; committed = done }
-is_there before after level reads writes (Ok (Conflict again)) locked left = tt
-is_there before after level reads writes (Ok Exchanged) locked left = tt
-is_there before after level reads writes (Err cause) locked left = tt
+is_there before after level reads writes (Ok (Conflict again)) locked left = left
+is_there before after level reads writes (Ok Exchanged) locked left = left
+is_there before after level reads writes (Err cause) locked left = left

@@ -1,5 +1,6 @@
 //! Closures that threads call, side by side.
 ghost use Rattle.std.specs.Prelude.{◌≡◌, IfOk, vec_len};
+ghost use Rattle.stm_shared_hall.specs.Sharing.{MayGive, MayGiveEach, MayReturn, MayReturnEach};
 
 use crate::turns::{SharedHall, Turns};
 use std::alloc::{AllocError, Global};
@@ -16,10 +17,12 @@ fn call_each<X: Send + Drop, W: Threads + Sync, S: Sync, F: Fn(usize, &S) -> X +
     call: &F,
 ) -> Result<Vec<X>, AllocError>
     requires { F.IsAlwaysCallable call.now }
-    ensures { IfOk result (λ results. vec_len results ≡ threads) }
+    ensures count { IfOk result (λ results. vec_len results ≡ threads) }
+    ensures each { IfOk result (λ results. MayGiveEach F.Fn call.now threads results.items) }
 {
     let one = move |number: usize| -> X
         requires { F.IsAlwaysCallable call.now }
+        ensures { MayGive F.Fn call.entry.now number result }
     { call(number, shared) };
     map_indices(rt, alloc, threads, &one)
 }
@@ -34,11 +37,13 @@ pub fn run_on_threads<
     F: Fn(usize, &mut Turns<W>) -> X + Sync,
 >(rt: &W, alloc: Global, hall: Hall, threads: usize, body: &F) -> (Result<Vec<X>, AllocError>, Hall)
     requires { F.IsAlwaysCallable body.now }
-    ensures { IfOk result.0 (λ results. vec_len results ≡ threads) }
+    ensures count { IfOk result.0 (λ results. vec_len results ≡ threads) }
+    ensures each { IfOk result.0 (λ results. MayReturnEach F.Fn body.now (λ turns. (turns.made ≡ 0) × (turns.sent ≡ 0)) threads results.items) }
 {
     let shared = SharedHall::new(hall);
     let call = move |number: usize, shared: &SharedHall| -> X
         requires { F.IsAlwaysCallable body.now }
+        ensures { MayReturn F.Fn body.entry.now (λ turns. (turns.made ≡ 0) × (turns.sent ≡ 0)) number result }
     {
         let mut turns = Turns::new(rt, shared);
         body(number, &mut turns)

@@ -52,7 +52,7 @@ fn commit_locked(
     reads: &ReadSet,
     writes: &WriteBuffer,
 ) -> Result<CommitOutcome, Refusal>
-    ensures { CommitReturns (IsCommittedThere level reads.now writes.now) (Unit {0}) result }
+    ensures { CommitReturns (IsCommittedThere level reads.now writes.now) (hall.new ≡ hall.old) result }
 {
     // (what a hall's type keeps)
     let _entries = hall.entries();

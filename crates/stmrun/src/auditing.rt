@@ -2,12 +2,14 @@
 ghost use Rattle.std.specs.Prelude.{◌≡◌, false};
 
 use crate::explaining::{BAD, kept, say_seeming, say_unread, say_unwritten};
+use crate::found::print;
 use crate::kinds::{begins_report, seeming};
 use crate::noting::Noting;
-use crate::wording::{Lines, TEXT, held, print_words};
+use crate::sources::out_of_memory;
+use crate::wording::{TEXT, held};
 use std::io::Write;
 use stm_arguments::AuditWords;
-use stm_audit::{audit_to, explain_older, explain_trace};
+use stm_audit::{audit_in_words, audit_to, explain_older, explain_trace};
 use stm_commands::Std;
 
 /// The status where a promise is broken, or commits are missing.
@@ -41,13 +43,22 @@ fn say_no_trace(rt: &HostRuntime, name: &str, text: &str) {
     say_seeming(rt, name, seems, TRACE);
 }
 
+/// What an audit came to.
+#[derive(Drop)]
+struct Ended {
+    /// The status.
+    status: u8,
+    /// The bytes that were read; nothing, where an allocation failed for them.
+    bytes: Option<Vec<u8>>,
+}
+
 /// Audits the trace of a path, or that on standard input, and prints on `out` what was found. A fault is explained, or is not.
 fn audit_on<W: Write + Drop>(
     rt: &HostRuntime,
     words: &AuditWords<'_>,
     explain: bool,
     out: &mut Std<Noting<W>>,
-) -> u8
+) -> Ended
     requires { out.old.failed ≡ false }
 {
     let mut input = kept(rt, words.trace.unwrap_or("-"));
@@ -63,16 +74,36 @@ fn audit_on<W: Write + Drop>(
         say_no_trace(rt, input.name, input.text().unwrap_or(""));
     }
     say_unread(rt, input.name, input.source.device.failure);
-    status
+    let bytes = if input.is_cut {
+        None
+    } else {
+        Some(input.bytes)
+    };
+    Ended { status, bytes }
+}
+
+/// Prints an audit in words, and gives its status, or that of a failed output; nothing, where it has none, and where memory ran out.
+fn print_in_words(rt: &HostRuntime, ended: &Ended, explain: bool) -> u8 {
+    let Some(bytes) = &ended.bytes else {
+        return out_of_memory(rt);
+    };
+    match audit_in_words(rt.alloc(), bytes.as_slice()) {
+        Ok(Some(said)) => print(rt, said.as_str().as_bytes(), ended.status, explain),
+        Ok(None) => ended.status,
+        Err(_) => out_of_memory(rt),
+    }
 }
 
 /// Audits the trace that words name, and prints what was found, in words or as lines.
 pub(crate) fn run_audit(rt: &HostRuntime, words: &AuditWords<'_>, explain: bool) -> u8 {
     if words.format == Some(TEXT) {
         let mut out = held(rt);
-        let status = audit_on(rt, words, explain, &mut out);
-        return print_words(rt, Lines::OfAudit, out, status, explain);
+        let ended = audit_on(rt, words, explain, &mut out);
+        if ended.status > BROKEN {
+            return ended.status;
+        }
+        return print_in_words(rt, &ended, explain);
     }
     let mut out = Std::new(Noting::new(rt.stdout()));
-    audit_on(rt, words, explain, &mut out)
+    audit_on(rt, words, explain, &mut out).status
 }

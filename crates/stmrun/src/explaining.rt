@@ -219,12 +219,39 @@ fn due_words(alloc: Global, name: &str, scenario: &str, line: usize) -> Said {
     }
 }
 
-/// Says that of the line of which an answer says that it is wrong; nothing, where memory runs out.
-fn say_due(rt: &HostRuntime, name: &str, scenario: &str, answer: &[u8]) {
+/// The number of the first line of a report that is not the one that is due there, though each has one.
+fn unlike_line(due: &str, report: &str) -> Option<usize> {
+    let mut lines = report.lines();
+    for (index, line) in due.lines().enumerate() {
+        if lines.next()? != line {
+            return Some(index + 1);
+        }
+    }
+    None
+}
+
+/// What script prints of a scenario in the place of a line of a report to which an answer says yes though it is another line; nothing, where there is none.
+fn unasked_words(alloc: Global, name: &str, scenario: &str, report: &str) -> Said {
+    let due = run_of(alloc, None, Format::Lines, scenario)?;
+    match unlike_line(due.as_str(), report) {
+        Some(line) => {
+            let words = due_words(alloc, name, scenario, line)?;
+            format!(in alloc; "{words}, which a yes does not ask for (--whole does)\n")
+        }
+        None => Ok(String::new(alloc)),
+    }
+}
+
+/// Says that of the line of which an answer says that it is wrong, or that is another one though the answer is yes; nothing, where memory runs out.
+fn say_due(rt: &HostRuntime, name: &str, scenario: &str, report: &str, answer: &[u8]) {
     let answer = str::from_utf8(answer).unwrap_or("");
     if let Some(line) = wrong_line_in(answer) {
         if let Ok(words) = due_words(rt.alloc(), name, scenario, line) {
             let _ = rt.eprintln(words.as_str());
+        }
+    } else if answer == "yes\n" {
+        if let Ok(words) = unasked_words(rt.alloc(), name, scenario, report) {
+            let _ = rt.eprint(words.as_str());
         }
     }
 }
@@ -280,7 +307,8 @@ pub(crate) fn run_check(
     }
     if explain && !whole {
         let answer = out.device.into_device().into_bytes();
-        say_due(rt, report.name, text, answer.as_slice());
+        let given = report.text().unwrap_or("");
+        say_due(rt, report.name, text, given, answer.as_slice());
     }
     status
 }

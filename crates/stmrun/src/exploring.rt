@@ -344,6 +344,7 @@ fn form_of<'a>(words: &ExploreWords<'_>, source: Option<&'a SourceText>) -> Form
         (Some("text"), _) => Form::Text(Table {
             source,
             width: words.width,
+            has_rules: false,
             waits: &[],
         }),
         (_, Some(source)) => Form::Source(source),

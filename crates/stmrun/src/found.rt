@@ -6,7 +6,7 @@ use crate::resuming::resumed;
 use crate::ruling::{Question, run_rules, search_silently};
 use crate::sources::{SourceText, out_of_memory};
 use std::alloc::{AllocError, Global};
-use stm_answers::{NamedRunner, in_words, schedule_in_words};
+use stm_answers::{Asked, NamedRunner, in_words, schedule_in_words};
 use stm_arguments::{Level, Levels};
 use stm_commands::{Format, KeptSource, Std, script_as_to};
 use stm_devices::write_all;
@@ -31,14 +31,20 @@ pub(crate) struct Table<'a> {
     pub(crate) source: Option<&'a SourceText>,
     /// How many characters wide it is, where that is said.
     pub(crate) width: Option<u32>,
+    /// Whether rules were asked.
+    pub(crate) has_rules: bool,
     /// Which runners wait for which others.
     pub(crate) waits: &'a [Wait],
 }
 
-/// A form of a search in which these runners wait.
-fn with_waits<'a>(form: Form<'a>, waits: &'a [Wait]) -> Form<'a> {
+/// A form of a search for rules, in which these runners wait.
+fn of_rules<'a>(form: Form<'a>, waits: &'a [Wait]) -> Form<'a> {
     match form {
-        Form::Text(table) => Form::Text(Table { waits, ..table }),
+        Form::Text(table) => Form::Text(Table {
+            has_rules: true,
+            waits,
+            ..table
+        }),
         Form::Lines | Form::Source(_) => form,
     }
 }
@@ -106,7 +112,11 @@ fn heading_of(alloc: Global, form: Form<'_>, levels: Levels, printed: &str) -> S
     let (Form::Text(table), Levels::All, Some(line)) = (form, levels, broken_line(printed)) else {
         return Ok(String::new(alloc));
     };
-    let words = in_words(alloc, line, printed, true, runners_of(table.source))?;
+    let asked = Asked {
+        has_rules: true,
+        has_level: true,
+    };
+    let words = in_words(alloc, line, printed, asked, runners_of(table.source))?;
     match words {
         Some(words) => match words.as_str().split_once(IS_BROKEN) {
             Some((rule, _)) => format!(in alloc; "\n{rule}:\n"),
@@ -150,10 +160,13 @@ fn push_answer(
     printed: &str,
     line: &str,
 ) -> Result<(), AllocError> {
-    let has_level = matches!(levels, Levels::All);
     let words = match form {
         Form::Text(table) => {
-            in_words(alloc, line, printed, has_level, runners_of(table.source))?
+            let asked = Asked {
+                has_rules: table.has_rules,
+                has_level: matches!(levels, Levels::All),
+            };
+            in_words(alloc, line, printed, asked, runners_of(table.source))?
         }
         Form::Lines | Form::Source(_) => None,
     };
@@ -341,6 +354,6 @@ pub(crate) fn run_rules_in(
     let status = run_rules(rt, question, levels, explain, &mut out);
     let kept = out.device.into_device();
     let printed = printed_in(rt, question, levels, form, status, kept);
-    let form = with_waits(form, question.waits);
+    let form = of_rules(form, question.waits);
     print_found(rt, form, levels, printed, status, explain)
 }

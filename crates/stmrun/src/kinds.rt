@@ -1,12 +1,7 @@
 //! What an input is, by its lines: a source, JSON, a report in some form, or what explore answers.
 
 use crate::naming::digits_of;
-
-/// The words with which a source begins behind its comments, and nothing that is JSON.
-const BEGINNINGS: &[&str] = &[
-    "program", "rule", "let", "finally", "begin", "start", "step", "txn", "grant", "keep",
-    "revoke", "advance", "watch", "poll", "cancel", "compact",
-];
+use stm_compiling::EVENTS as BEGINNINGS;
 
 /// With this begins a comment.
 const COMMENT: &str = "//";
@@ -107,7 +102,7 @@ pub(crate) fn begins_source(text: &str) -> bool {
         if line.starts_with(COMMENT) {
             has_comment = true;
         } else if !line.is_empty() {
-            return begins_with(line, BEGINNINGS) || (has_comment && !is_json(line));
+            return begins_with(line, &BEGINNINGS) || (has_comment && !is_json(line));
         }
     }
     has_comment

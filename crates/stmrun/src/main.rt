@@ -23,6 +23,7 @@ mod sources;
 mod storing;
 mod terminals;
 mod threading;
+mod under_way;
 mod waits;
 mod wording;
 
@@ -30,7 +31,7 @@ use auditing::run_audit;
 use explaining::{name_of, run_check, run_script};
 use exploring::run_search;
 use showing::run_show;
-use sources::{Given, given_at, is_source, labels_of, run_compile, scenario_at};
+use sources::{Given, is_source, labels_of, played_at, run_compile};
 use std::alloc::{AllocError, Global};
 use std::process::ExitCode;
 use std::sync::Wait;
@@ -73,7 +74,7 @@ fn labels_in(rt: &HostRuntime, given: &Given<'_>, format: Format) -> Result<Vec<
 
 /// Writes the report of the scenario of a path in a format. A fault is explained, or is not.
 fn report_script(rt: &HostRuntime, path: &str, format: Format, explain: bool) -> Result<u8, u8> {
-    let given = given_at(rt, path, explain)?;
+    let given = played_at(rt, path, explain)?;
     let labels = labels_in(rt, &given, format)?;
     Ok(run_script(rt, &given, format, labels.as_slice(), explain))
 }
@@ -97,8 +98,8 @@ fn check_report(rt: &HostRuntime, words: &CheckWords<'_>, explain: bool) -> u8 {
         let _ = rt.eprintln("stmrun: standard input can be only one of SCENARIO and REPORT");
         return 2;
     }
-    match scenario_at(rt, words.scenario, explain) {
-        Ok(scenario) => run_check(rt, &scenario, report, words.whole, explain),
+    match played_at(rt, words.scenario, explain) {
+        Ok(given) => run_check(rt, &given.scenario, report, words.whole, explain),
         Err(status) => status,
     }
 }

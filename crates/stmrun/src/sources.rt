@@ -3,6 +3,7 @@ ghost use Rattle.std.specs.Prelude.{◌≡◌, false};
 
 use crate::explaining::{has_hidden, name_of, say_unread, say_unwritten};
 use crate::files::{Opened, open, open_beside};
+use crate::found::run_of;
 use crate::kinds::{
     Kind, begins_json, begins_source, front_of, kind_of, say_kind, without_answers,
 };
@@ -11,7 +12,8 @@ use crate::noting::Noting;
 use std::alloc::{AllocError, Global};
 use std::io::Input;
 use std::rt::Files;
-use stm_commands::{KeptSource, RunnerLabel, Std};
+use stm_answers::waits_broken;
+use stm_commands::{Format, KeptSource, RunnerLabel, Std};
 use stm_compiling::{
     Beside, CalledRunner, Compiled, NamedRunner, Part, PlacedLine, Printed, Refused, Rule,
     SourcePlaces, Wait, called_runners, compile_to, compiled, compiled_part, events_without_jobs,
@@ -468,10 +470,9 @@ pub(crate) fn runners_of(alloc: Global, given: &Given<'_>) -> Result<Vec<NamedRu
     named_runners(alloc, text.as_bytes(), &given.beside)
 }
 
-/// Says which rules of a scenario's source are not asked, and which runners do not wait.
-fn say_left_out(rt: &HostRuntime, given: &Given<'_>) -> Result<(), u8> {
+/// Says which rules of a scenario's source are not asked, and which runners do not wait as these waits say.
+fn say_left_out(rt: &HostRuntime, given: &Given<'_>, waits: &[Wait]) -> Result<(), u8> {
     let rules = given.beside.rules.as_slice();
-    let waits = given.beside.waits.as_slice();
     if waits.is_empty() {
         return say_unasked(rt, rules, waits, &[]);
     }
@@ -499,7 +500,33 @@ pub(crate) fn given_at<'a>(
     explain: bool,
 ) -> Result<Given<'a>, u8> {
     let given = source_at(rt, path, explain)?;
-    say_left_out(rt, &given)?;
+    say_left_out(rt, &given, given.beside.waits.as_slice())?;
+    say_empty(rt, path, &given);
+    Ok(given)
+}
+
+/// The waits of a scenario's source that its steps do not keep, in a new store.
+fn broken_waits(alloc: Global, given: &Given<'_>) -> Result<Vec<Wait>, AllocError> {
+    let waits = given.beside.waits.as_slice();
+    if waits.is_empty() {
+        return Ok(Vec::new(alloc));
+    }
+    let report = run_of(alloc, None, Format::Lines, given.scenario.text())?;
+    waits_broken(alloc, report.as_str(), waits)
+}
+
+/// The same of a scenario that is run in a new store: of the runners those alone do not wait that make a step too early.
+pub(crate) fn played_at<'a>(
+    rt: &HostRuntime,
+    path: &'a str,
+    explain: bool,
+) -> Result<Given<'a>, u8> {
+    let given = source_at(rt, path, explain)?;
+    let broken = broken_waits(rt.alloc(), &given);
+    match &broken {
+        Ok(waits) => say_left_out(rt, &given, waits.as_slice())?,
+        Err(_) => say_left_out(rt, &given, given.beside.waits.as_slice())?,
+    }
     say_empty(rt, path, &given);
     Ok(given)
 }

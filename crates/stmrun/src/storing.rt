@@ -15,18 +15,18 @@ use crate::sources::{
     scenario_at,
 };
 use crate::threading::{jobs_at, print_jobs};
+use crate::under_way::say_under_way;
 use crate::wording::{Lines, TEXT, held, print_words};
-use std::io::Write;
+use std::io::{self, Write};
 use std::sync::Wait;
 use std::thread::Threads;
-use std::{fs, io};
 use stm_arguments::{RunWords, ScriptWords, Shown, StoreWords, ThreadsWords, Which};
 use stm_commands::{Format, KeptSource, Std};
 use stm_compiling::indices_in;
 use stm_devices::Source;
 use stm_explain::{Input, explained_at};
 use stm_faulted_runs::{State, fault_on};
-use stm_file_disk::{FileDisk, open, open_to_read};
+use stm_file_disk::{FileDisk, OpenError, open, open_to_read};
 use stm_lasting::Kept;
 use stm_storing::{
     HIGHEST_REVISION, InputFault, JobEnd, JobsAsked, Manner, Program, RecordFile, Scenario,
@@ -54,6 +54,13 @@ fn say_fault(rt: &HostRuntime, path: &str, fault: &StoreFault, refusal: Option<i
     }
 }
 
+/// Says why a store was not opened, of its file or of what is beside it, and gives the status.
+fn say_unopened(rt: &HostRuntime, path: &str, error: &OpenError) -> u8 {
+    let (beginning, rest) = error.name(path);
+    let _ = eprintln!(rt; "stmrun: {beginning}{rest}: {error}");
+    3
+}
+
 /// Opens the file of a store. Where that is refused, it was said why, and the status is given.
 fn opened(rt: &HostRuntime, path: &str) -> Result<(RecordFile<FileDisk>, Vec<u8>), u8>
     ensures bytes { IfOk result (λ opened. (replay (events_of opened.0.disk.calls.items)).seen ≡ opened.1.items) }
@@ -69,24 +76,8 @@ fn opened(rt: &HostRuntime, path: &str) -> Result<(RecordFile<FileDisk>, Vec<u8>
             };
             Ok((records, bytes))
         }
-        Err(error) => {
-            let _ = eprintln!(rt; "stmrun: {path}: {error}");
-            Err(3)
-        }
+        Err(error) => Err(say_unopened(rt, path, &error)),
     }
-}
-
-/// Opens the file of a store that is there already.
-fn opened_there(rt: &HostRuntime, path: &str) -> Result<(RecordFile<FileDisk>, Vec<u8>), u8>
-    ensures bytes { IfOk result (λ opened. (replay (events_of opened.0.disk.calls.items)).seen ≡ opened.1.items) }
-    ensures usable { IfOk result (λ opened. IsTrue (replay (events_of opened.0.disk.calls.items)).is_usable) }
-    ensures durable { IfOk result (λ opened. (c : List ℕ) → (replay (events_of opened.0.disk.calls.items)).may c → c ≡ opened.1.items) }
-{
-    if let Err(error) = fs::metadata(rt, path) {
-        let _ = eprintln!(rt; "stmrun: {path}: {error}");
-        return Err(3);
-    }
-    opened(rt, path)
 }
 
 /// Opens the file of a store that is there already, to be read: it is not changed.
@@ -95,10 +86,6 @@ fn read_there(rt: &HostRuntime, path: &str) -> Result<(RecordFile<FileDisk>, Vec
     ensures usable { IfOk result (λ opened. IsTrue (replay (events_of opened.0.disk.calls.items)).is_usable) }
     ensures durable { IfOk result (λ opened. (c : List ℕ) → (replay (events_of opened.0.disk.calls.items)).may c → c ≡ opened.1.items) }
 {
-    if let Err(error) = fs::metadata(rt, path) {
-        let _ = eprintln!(rt; "stmrun: {path}: {error}");
-        return Err(3);
-    }
     match open_to_read(rt, path) {
         Ok((disk, bytes)) => {
             say_empty(rt, path, &bytes);
@@ -109,11 +96,22 @@ fn read_there(rt: &HostRuntime, path: &str) -> Result<(RecordFile<FileDisk>, Vec
             };
             Ok((records, bytes))
         }
-        Err(error) => {
-            let _ = eprintln!(rt; "stmrun: {path}: {error}");
-            Err(3)
-        }
+        Err(error) => Err(say_unopened(rt, path, &error)),
     }
+}
+
+/// Opens the file of a store that is there already. One with no bytes is only read, since there is nothing in it to be written anew.
+fn opened_there(rt: &HostRuntime, path: &str) -> Result<(RecordFile<FileDisk>, Vec<u8>), u8>
+    ensures bytes { IfOk result (λ opened. (replay (events_of opened.0.disk.calls.items)).seen ≡ opened.1.items) }
+    ensures usable { IfOk result (λ opened. IsTrue (replay (events_of opened.0.disk.calls.items)).is_usable) }
+    ensures durable { IfOk result (λ opened. (c : List ℕ) → (replay (events_of opened.0.disk.calls.items)).may c → c ≡ opened.1.items) }
+{
+    let (records, bytes) = read_there(rt, path)?;
+    if bytes.is_empty() {
+        return Ok((records, bytes));
+    }
+    drop(records);
+    opened(rt, path)
 }
 
 /// What becomes of bytes that are no whole record, in a file that is only read.
@@ -703,13 +701,18 @@ fn compact(rt: &HostRuntime, store: &str, word: Option<&str>) -> Result<(), u8> 
         None => None,
     };
     let (mut records, bytes) = opened_there(rt, store)?;
-    say_empty(rt, store, &bytes);
     let compacted = compact_kept(&mut records, bytes, from);
     say_torn(rt, store, &records.disk, CUT);
     match compacted {
         Ok(checked) => {
             let said = println!(rt; "yes {} {}", checked.records, checked.bytes);
             if said.is_ok() { Ok(()) } else { Err(3) }
+        }
+        Err(StoreFault::CannotCompact) => {
+            drop(records);
+            let status = say_fault(rt, store, &StoreFault::CannotCompact, None);
+            say_under_way(rt, store);
+            Err(status)
         }
         Err(fault) => Err(say_fault(rt, store, &fault, records.disk.failure())),
     }

@@ -9,7 +9,7 @@ use std::time::Clock;
 use stm_compiling::{
     NamedRunner, PlacedLine, event_lines, line_of_event, line_of_rule, placed_rule, placed_runner,
 };
-use stm_exploring::{Audience, Budget, Observer, ProgressLine, ProgressNotes};
+use stm_exploring::{Audience, Budget, Level, Observer, ProgressLine, ProgressNotes};
 
 /// Standard error, if it is a terminal.
 fn terminal(rt: &HostRuntime) -> Option<Stderr> {
@@ -29,6 +29,16 @@ pub(crate) enum Progress<'a, C> {
     Shown(ProgressLine<Stderr>),
     /// A line each ten seconds.
     Noted(ProgressNotes<'a, Stderr, C>),
+}
+
+impl<C: Clock> Progress<'_, C> {
+    /// A search at all levels begins at this one.
+    fn begin(&mut self, level: Level) {
+        match self {
+            Progress::Shown(line) => line.begin(level),
+            Progress::Noted(notes) => notes.begin(level),
+        }
+    }
 }
 
 impl<C: Clock> Observer for Progress<'_, C> {
@@ -189,6 +199,10 @@ impl Observer for SearchLines<'_> {
 impl Audience for SearchLines<'_> {
     fn wants_all(&self) -> bool {
         self.explain
+    }
+
+    fn begins(&mut self, level: Level) {
+        self.progress.begin(level);
     }
 
     fn hear(&mut self, line: &str) {

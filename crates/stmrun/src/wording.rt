@@ -1,11 +1,11 @@
-//! What jobs, a store and an audit print, in words.
+//! What jobs and a store print, in words.
 ghost use Rattle.std.specs.Prelude.{◌≡◌, false};
 
 use crate::found::print;
 use crate::noting::{Kept, Noting};
 use crate::sources::out_of_memory;
 use std::alloc::{AllocError, Global};
-use stm_answers::{NamedRunner, audit_line_in_words, job_line_in_words, store_line_in_words};
+use stm_answers::{NamedRunner, job_line_in_words, store_line_in_words};
 use stm_commands::Std;
 use stm_explain::Said;
 
@@ -19,8 +19,6 @@ pub(crate) enum Lines<'a> {
     OfJobs(&'a [NamedRunner]),
     /// Those of a store.
     OfStore,
-    /// Those of an audit.
-    OfAudit,
 }
 
 /// An output that is kept.
@@ -39,7 +37,6 @@ fn line_in_words(
     match lines {
         Lines::OfJobs(runners) => job_line_in_words(alloc, line, runners),
         Lines::OfStore => store_line_in_words(alloc, line),
-        Lines::OfAudit => audit_line_in_words(alloc, line),
     }
 }
 

@@ -1,4 +1,4 @@
-use Rattle.std.proofs.Common.{Bool, true, false, subst, ◌∙◌, ap, rules}
+use Rattle.std.proofs.Common.{Bool, subst, ◌∙◌, ap, rules}
 use Rattle.stm_txn.specs.Standing.{Standing}
 use Rattle.stm_driving.specs.WorldCommits.{IsTaken}
 use Rattle.stm_driving.proofs.TakenTxns.{committed_in_world, turned_down_in_world}

@@ -1,7 +1,7 @@
 use Rattle.std.proofs.Common.{◌≡◌, ◌+◌, ◌≤◌, ℕ, suc, sym, ap, ◌∙◌, subst, true, List, inl, inr, arith}
 use Rattle.stm_schedules.specs.declared.moves.Move.{Move}
 use Rattle.stm_schedules.specs.declared.outcome.Outcome.{Outcome}
-use Rattle.stm_visited.specs.Layers.{Reached, StandFor, on_among, moved_from_each, shown_among, count_among}
+use Rattle.stm_visited.specs.Layers.{Reached, StandFor, on_among, moved_from_each, shown_among}
 use Rattle.stm_explore.specs.declared.places.ReportedPlace.{ReportedPlace}
 use Rattle.stm_explore.specs.Gathering.{Gathers}
 use Rattle.stm_explore.specs.Explored.{AreOutcomesUpTo, count_up_to}

@@ -1,4 +1,4 @@
-use Rattle.std.proofs.Common.{◌∙◌, sym, ap, length}
+use Rattle.std.proofs.Common.{◌∙◌, ap, length}
 use Rattle.stm_txn.specs.Standing.{Standing}
 use Rattle.stm_explore.proofs.SameStores.{none_counted}
 use Rattle.stm_explore.proofs.sharing.has_never_watched.Goals as goal

@@ -1,4 +1,4 @@
-use Rattle.std.proofs.Common.{List, length, ap, ◌∙◌, subst, sym}
+use Rattle.std.proofs.Common.{List, subst, sym}
 use Rattle.std.specs.List.{AllZip}
 use Rattle.stm_schedules.specs.declared.moves.Move.{Move}
 use Rattle.stm_visited.specs.declared.visited.Visited.{Visited}

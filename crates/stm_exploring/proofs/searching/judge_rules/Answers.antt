@@ -1,8 +1,7 @@
-use Rattle.std.proofs.Common.{◌≡◌, ◌-◌, ◌++◌, ◌≤◌, All, List, length, get_or, take, drop, sym, ap, ◌∙◌, subst, arith}
+use Rattle.std.proofs.Common.{◌≡◌, ◌-◌, ◌++◌, ◌≤◌, All, List, length, get_or, take, sym, ap, ◌∙◌, subst, arith}
 use Rattle.std.proofs.lemmas.List.{get_or_default, take_all}
-use Rattle.stm_schedules.specs.Places.{Place}
 use Rattle.stm_exploring.specs.declared.rules.Rule.{Rule}
-use Rattle.stm_exploring.specs.Judging.{AreFoundFrom}
+use Rattle.stm_exploring.specs.Beginnings.{AreFoundThere}
 use Rattle.stm_exploring.proofs.AnswerLemmas.{group_asked, joined_parts}
 use Rattle.stm_exploring.proofs.searching.judge_rules.Goals as goal
 
@@ -26,12 +25,11 @@ judge_group-requires-clause-when g c =
 pub loop-turn-preserved : goal.loop-turn-preserved
 loop-turn-preserved g c =
     let rules = c.args.rules.now in
-    let p : Place = record { world = c.args.world.now; others = c.args.others.now } in
     let further = c.end_of_group-end.ensures.further in
     record {
       within = c.end_of_group-end.ensures.within;
       further = omega (arith, further, c.loop-turn.invariant.further);
-      found = subst (λ (done : List Rule). AreFoundFrom c.args.waits.now done p c.args.ends.now c.judge_group.new.answers.items)
+      found = subst (λ (done : List Rule). AreFoundThere c.args.at.now done c.judge_group.new.answers.items)
           (ap (λ (group : List Rule). take c.loop-turn.done rules ++ group) c.group_of-group.ensures
           ∙ joined_parts rules c.loop-turn.done c.end_of_group-end.result (omega (arith, further)))
           (c.in_ok-judge_group.ensures (take c.loop-turn.done rules) c.loop-turn.invariant.found);
@@ -39,13 +37,11 @@ loop-turn-preserved g c =
 
 pub returns-then-done-rules : goal.returns-then-done-rules
 returns-then-done-rules g c =
-    let p : Place = record { world = c.args.world.now; others = c.args.others.now } in
-    subst (λ (done : List Rule). AreFoundFrom c.args.waits.now done p c.args.ends.now c.loop-turn.answers.items)
+    subst (λ (done : List Rule). AreFoundThere c.args.at.now done c.loop-turn.answers.items)
     (take_all c.loop-turn.done c.args.rules.now c.if-done-rules.true) c.loop-turn.invariant.found
 
 pub returns : goal.returns
 returns g c =
-    let p : Place = record { world = c.args.world.now; others = c.args.others.now } in
     let all : length c.args.rules.now ≤ c.loop-turn.done = omega (arith, c.loop-turn-test.false, c.loop-turn.invariant.further) in
-    subst (λ (done : List Rule). AreFoundFrom c.args.waits.now done p c.args.ends.now c.loop-turn.answers.items)
+    subst (λ (done : List Rule). AreFoundThere c.args.at.now done c.loop-turn.answers.items)
     (take_all c.loop-turn.done c.args.rules.now all) c.loop-turn.invariant.found

@@ -1,4 +1,4 @@
-use Rattle.std.proofs.Common.{◌≡◌, ◌∙◌, List, subst, sym}
+use Rattle.std.proofs.Common.{◌∙◌, List, subst, sym}
 use Rattle.stm_watch.specs.declared.page.Page.{Page}
 use Rattle.stm_watch.specs.Pages.{IsAny, ReachesOn, ReachesOver}
 use Rattle.stm_watch.proofs.Ordered.{is_concerned}

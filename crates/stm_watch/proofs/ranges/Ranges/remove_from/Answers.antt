@@ -1,4 +1,4 @@
-use Rattle.std.proofs.Common.{◌≡◌, ◌∙◌, ℕ, List, nat_eq, slice_set, ap, subst, sym}
+use Rattle.std.proofs.Common.{◌∙◌, ℕ, List, nat_eq, slice_set, ap, subst, sym}
 use Rattle.stm_watch.specs.declared.shelf.Shelf.{Shelf}
 use Rattle.stm_watch.specs.Pages.{IsAny, IsShelved, StandsOn}
 use Rattle.stm_watch.proofs.Entered.{any-set, any-without, any-none}

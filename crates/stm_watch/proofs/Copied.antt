@@ -1,5 +1,5 @@
 -- What copies of the tables and of the pages keep.
-use Rattle.std.proofs.Common.{◌≡◌, ℕ, zero, suc, List, Option, [], ◌∷◌, String, refl, arith}
+use Rattle.std.proofs.Common.{◌≡◌, ℕ, zero, suc, List, Option, [], ◌∷◌, String, inl, inr, refl, arith}
 use Rattle.std.specs.Prelude.{bytes_eq, string_bytes}
 use Rattle.std.specs.List.{AllZip}
 use Rattle.std.specs.Map.{lookup}
@@ -7,8 +7,9 @@ use Rattle.std.proofs.lemmas.Bool.Decides.{nat_tests}
 use Rattle.stm_watch.specs.declared.page.Page.{Page}
 use Rattle.stm_watch.specs.declared.page.RangeEntry.{RangeEntry}
 use Rattle.stm_watch.specs.declared.ranges.Ranges.{Ranges}
+use Rattle.stm_watch.specs.declared.shelf.Shelf.{Shelf}
 use Rattle.stm_watch.specs.declared.watched.Watcher.{Watcher}
-use Rattle.stm_watch.specs.Pages.{HasIn, Keeps, KeepsAll}
+use Rattle.stm_watch.specs.Pages.{HasIn, IsAny, IsShelved, Keeps, KeepsAll, KeepsShelved}
 use Rattle.stm_watch.proofs.Entered.{unsettled}
 
 -- copies of texts and numbers are found like their originals
@@ -28,6 +29,13 @@ pub keeps_copied : (pages copies : List Page) → AllZip IsPageCopy pages copies
 keeps_copied [] copies p ws e has = absurd has
 keeps_copied (page ∷ pages) [] p ws e has = absurd p
 keeps_copied (page ∷ pages) (copy ∷ copies) p ws e has = grind (arith, nat_tests, unsettled, keeps_copied pages copies p.1)
+
+pub shelves_copied : (shelves copies : List Shelf) → AllZip KeepsShelved shelves copies → (ws : List (Option Watcher)) (e : RangeEntry)
+    → IsAny (IsShelved ws e) shelves → IsAny (IsShelved ws e) copies
+shelves_copied [] copies p ws e had = absurd had
+shelves_copied (shelf ∷ shelves) [] p ws e had = absurd p
+shelves_copied (shelf ∷ shelves) (copy ∷ copies) p ws e had =
+    elim had [ inl here ↦ inl (p.0 ws e here) | inr there ↦ inr (shelves_copied shelves copies p.1 ws e there) ]
 
 pub groups_copied : (groups copies : List Ranges) → AllZip KeepsAll groups copies → (ws : List (Option Watcher)) (g : ℕ) (e : RangeEntry)
     → HasIn ws groups g e → HasIn ws copies g e

@@ -1,6 +1,6 @@
 -- The entries on pages after each change.
-use Rattle.std.proofs.Common.{◌≡◌, ◌≢◌, ◌⊎◌, ℕ, zero, suc, ◌<◌, ◌≤◌, Bool, true, false, cond, ◌&&◌, nat_eq, List, [], ◌∷◌, ◌++◌, take, drop, length, map, Option, Some, None}
-use Rattle.std.proofs.Common.{IsSome, is_some, option_map, slice_index_or, slice_set, refl, sym, ap, subst, ◌∙◌, inl, inr, arith}
+use Rattle.std.proofs.Common.{◌≡◌, ◌≢◌, ◌⊎◌, ℕ, zero, suc, ◌<◌, ◌≤◌, Bool, true, cond, ◌&&◌, nat_eq, List, [], ◌∷◌, ◌++◌, take, drop, length, map, Option, Some, None}
+use Rattle.std.proofs.Common.{IsSome, option_map, slice_index_or, slice_set, refl, sym, ap, subst, ◌∙◌, inl, inr, arith}
 use Rattle.std.specs.Prelude.{nat_lt}
 use Rattle.std.specs.Str.{bytes_eq}
 use Rattle.std.proofs.lemmas.Bool.{cases_Bool, cases_eq, ne_eqb, Decides.nat_tests}
@@ -17,8 +17,9 @@ use Rattle.stm_watch.specs.Keys.{is_watched, first_key}
 use Rattle.stm_watch.specs.Touch.{first_with, touch_key}
 use Rattle.stm_watch.specs.declared.groups.Groups.{Groups}
 use Rattle.stm_watch.specs.declared.ranges.Ranges.{Ranges}
-use Rattle.stm_watch.specs.Pages.{IsAny, IsOneOf, IsIn, IsInside, IsQuiet, StandsOn, HasEntry, At, HasIn, GroupsKeep, IsGrouped, AreEntered, group_of}
-use Rattle.stm_watch.proofs.At.{not_some, within, slot_of_map, slot_of_more}
+use Rattle.stm_watch.specs.declared.shelf.Shelf.{Shelf}
+use Rattle.stm_watch.specs.Pages.{IsAny, IsOneOf, IsIn, IsShelved, StandsOn, HasEntry, At, HasIn, GroupsKeep, IsGrouped, AreEntered, group_of}
+use Rattle.stm_watch.proofs.At.{within, slot_of_map, slot_of_more}
 
 -- ---- one of a list
 
@@ -150,23 +151,9 @@ keys_more of_key new_of_key group key none keys k g is = grind (arith, nat_tests
 pub unsettled : (ws : List (Option Watcher)) (e : RangeEntry) (page : Page) → page.reach.until ≡ 0 → IsOneOf e page.entries.items → StandsOn ws e page
 unsettled ws e page none there = record { met = λ w at idle. inl (omega (arith, none)); there = there }
 
--- a change that concerns nobody so far, and nobody on one page more
-pub quiet_more : (ws : List (Option Watcher)) (e : RangeEntry) (pages more : List Page) (x : Page) (until least : ℕ) → more ≡ pages ++ x ∷ []
-    → is_some x.reach.bounds ≡ false → least ≤ until → least ≤ x.reach.until → (HasEntry ws pages e → IsQuiet ws e until) → HasEntry ws more e → IsQuiet ws e least
-quiet_more ws e pages more x until least is nobody below here quiet any w at idle = elim (any-parts (StandsOn ws e) pages (x ∷ []) (subst (λ (l : List Page). HasEntry ws l e) is any)) [
-  | inl before ↦ let le = quiet before w at idle in omega (arith, le, below)
-  | inr last ↦ elim last [
-    | inl stands ↦ elim (stands.met w at idle) [
-      | inl le ↦ omega (arith, le, here)
-      | inr inside ↦ absurd (subst (IsInside e) (not_some x.reach.bounds nobody) inside)
-    ]
-    | inr nothing ↦ absurd nothing
-  ]
-]
-
--- an entry of a group of which all pages are looked at for each change
-pub looked_at : (ws : List (Option Watcher)) (e : RangeEntry) (group : Ranges) → group.until ≡ 0 → HasEntry ws group.pages.items e → IsIn ws e group
-looked_at ws e group none there = record { quiet = λ w at idle. omega (arith, none); there = there }
+-- and on a shelf of which all pages are
+pub unsettled_shelf : (ws : List (Option Watcher)) (e : RangeEntry) (shelf : Shelf) → shelf.reach.until ≡ 0 → HasEntry ws shelf.pages.items e → IsShelved ws e shelf
+unsettled_shelf ws e shelf none there = record { met = λ w at idle. inl (omega (arith, none)); there = there }
 
 -- the entry of a watcher stays in its group
 pub grouped_same : (old new : Groups) (ws after : List (Option Watcher)) (w : Watched) (i : ℕ)
@@ -200,11 +187,14 @@ grouped_still groups old new w i still grouped =
     stands_still : (e : RangeEntry) → e.place ≡ i → (page : Page) → StandsOn old e page → StandsOn new e page
     stands_still e place page stands = grind (arith, nat_tests)
 
-    in_still : (e : RangeEntry) → e.place ≡ i → (group : Ranges) → IsIn old e group → IsIn new e group
-    in_still e place group had = record {
-      quiet = λ v at idle. grind (arith, nat_tests, had.quiet);
-      there = any-map (StandsOn old e) (StandsOn new e) (stands_still e place) group.pages.items had.there;
+    shelved_still : (e : RangeEntry) → e.place ≡ i → (shelf : Shelf) → IsShelved old e shelf → IsShelved new e shelf
+    shelved_still e place shelf had = record {
+      met = λ v at idle. grind (arith, nat_tests, had.met);
+      there = any-map (StandsOn old e) (StandsOn new e) (stands_still e place) shelf.pages.items had.there;
     }
+
+    in_still : (e : RangeEntry) → e.place ≡ i → (group : Ranges) → IsIn old e group → IsIn new e group
+    in_still e place group had = any-map (IsShelved old e) (IsShelved new e) (shelved_still e place) group.shelves.items had
 
 -- after a change of a key
 pub entered_touched : (revision : ℕ) (key : List ℕ) (groups : Groups) (ws : List (Option Watcher)) → AreEntered groups ws

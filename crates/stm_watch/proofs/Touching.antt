@@ -18,7 +18,9 @@ use Rattle.stm_watch.specs.Keys.{is_watched}
 use Rattle.stm_watch.specs.declared.ranges.Ranges.{Ranges}
 use Rattle.stm_watch.specs.declared.groups.Groups.{Groups}
 use Rattle.stm_watch.specs.declared.page.RangeEntry.{RangeEntry}
-use Rattle.stm_watch.specs.Pages.{IsAny, IsOneOf, At, HasIn, ReachesIn, ReachesAt, IsTouched, IsEntryOf, IsGrouped, AreEntered}
+use Rattle.stm_watch.specs.declared.page.Reach.{Reach}
+use Rattle.stm_watch.specs.declared.shelf.Shelf.{Shelf}
+use Rattle.stm_watch.specs.Pages.{IsAny, IsOneOf, IsIn, IsLooked, IsMet, IsShelved, StandsOn, At, HasIn, Reaches, ReachesIn, ReachesOn, ReachesOver, ReachesAt, IsTouched, IsEntryOf, IsGrouped, AreEntered}
 use Rattle.stm_watch.specs.Touch.{touch, touch_key, touch_at, touch_each, first_with, wants}
 use Rattle.stm_watch.proofs.Entered.{any-left, any-right, any-parts, any-map, at-map}
 use Rattle.stm_watch.proofs.At.{not_some, read_at, slot_of_map}
@@ -134,7 +136,26 @@ module _ (revision : ℕ) (key : List ℕ) where
   in_group : (ws : List (Option Watcher)) (w : Watcher) (j : ℕ) (watched : Watched) (groups : List Ranges) (g : ℕ) (e : RangeEntry)
       → slice_index_or ws j None ≡ Some w → is_some w.first ≡ false → nat_lt w.seen revision ≡ true → is_watched watched key ≡ true
       → IsEntryOf watched j e → HasIn ws groups g e → At (ReachesIn revision key j) groups g
-  in_group ws w j watched groups g e is idle begun matches its = grind (arith, nat_tests, ltb-true, not_some, at-map, any-map)
+  in_group ws w j watched groups g e is idle begun matches its =
+      at-map (IsIn ws e) (ReachesIn revision key j) (λ group. any-map (IsShelved ws e) (ReachesOver revision key j) over group.shelves.items) groups g
+    where
+      reaches : Reaches key j e
+      reaches = (its.stands, its.all key matches)
+
+      looked : (reach : Reach) → IsMet ws e reach → IsLooked revision e reach
+      looked reach met =
+          elim (met w (subst (λ (n : ℕ). slice_index_or ws n None ≡ Some w) (sym its.stands) is) (not_some w.first idle)) [
+            | inl le ↦ inl (let less = ltb-true w.seen revision begun in omega (arith, le, less))
+            | inr inside ↦ inr inside
+          ]
+
+      over : (shelf : Shelf) → IsShelved ws e shelf → ReachesOver revision key j shelf
+      over shelf had = record {
+        entry = e;
+        its = reaches;
+        looked = looked shelf.reach had.met;
+        pages = any-map (StandsOn ws e) (ReachesOn revision key j) (λ page stands. (e, stands.there, reaches, looked page.reach stands.met)) shelf.pages.items had.there;
+      }
 
   -- The watchers of the key are in a group of their own, and those of ranges in another. Once those of both groups that are due were touched, all are.
   module _ (groups : Groups) (rest : List Ranges) (ws mid new : List (Option Watcher)) (entered : AreEntered groups ws)

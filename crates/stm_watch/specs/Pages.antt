@@ -10,6 +10,7 @@ use Rattle.stm_watch.specs.declared.page.Bounds.{Bounds}
 use Rattle.stm_watch.specs.declared.page.Page.{Page}
 use Rattle.stm_watch.specs.declared.page.Reach.{Reach}
 use Rattle.stm_watch.specs.declared.ranges.Ranges.{Ranges}
+use Rattle.stm_watch.specs.declared.shelf.Shelf.{Shelf}
 use Rattle.stm_watch.specs.declared.watched.Watched.{Watched}
 use Rattle.stm_watch.specs.declared.watched.Watched.TheVariants.{Key, Range}
 use Rattle.stm_watch.specs.declared.watched.Watcher.{Watcher}
@@ -61,10 +62,6 @@ abbrev pub IsMet : List (Option Watcher) → RangeEntry → Reach → Type 0
 IsMet ws e reach =
     (w : Watcher) → slice_index_or ws e.place None ≡ Some w → w.first ≡ None → (reach.until ≤ w.seen) ⊎ IsInside e reach.bounds
 
--- where the watcher of the entry is idle, what it has seen is not below a revision
-abbrev pub IsQuiet : List (Option Watcher) → RangeEntry → ℕ → Type 0
-IsQuiet ws e until = (w : Watcher) → slice_index_or ws e.place None ≡ Some w → w.first ≡ None → until ≤ w.seen
-
 -- this is what the watcher at a place has seen, if one is idle there
 abbrev pub IsSeenAt : List (Option Watcher) → ℕ → Option ℕ → Type 0
 IsSeenAt ws i seen = (w : Watcher) → slice_index_or ws i None ≡ Some w → w.first ≡ None → seen ≡ Some w.seen
@@ -82,6 +79,15 @@ HasEntry ws pages e = IsAny (StandsOn ws e) pages
 abbrev pub Keeps : List Page → List Page → Type 0
 Keeps old new = (ws : List (Option Watcher)) (e : RangeEntry) → HasEntry ws old e → HasEntry ws new e
 
+-- the entry is on the pages of a shelf, which are looked at where a change concerns its watcher
+pub record IsShelved (ws : List (Option Watcher)) (e : RangeEntry) (shelf : Shelf) : Type 0 where
+  pub met : IsMet ws e shelf.reach
+  pub there : HasEntry ws shelf.pages.items e
+
+-- no entry of a shelf is lost
+abbrev pub KeepsShelved : Shelf → Shelf → Type 0
+KeepsShelved old new = (ws : List (Option Watcher)) (e : RangeEntry) → IsShelved ws e old → IsShelved ws e new
+
 -- the watcher at a place has its entry here
 pub record IsEntered (watched : Watched) (place : ℕ) (here : RangeEntry → Type 0) : Type 0 where
   pub entry : RangeEntry
@@ -90,10 +96,9 @@ pub record IsEntered (watched : Watched) (place : ℕ) (here : RangeEntry → Ty
 
 -- ---- groups
 
--- the entry is on the pages of a group, which are looked at where a change concerns its watcher
-pub record IsIn (ws : List (Option Watcher)) (e : RangeEntry) (group : Ranges) : Type 0 where
-  pub quiet : IsQuiet ws e group.until
-  pub there : HasEntry ws group.pages.items e
+-- the entry is on a shelf of a group
+abbrev pub IsIn : List (Option Watcher) → RangeEntry → Ranges → Type 0
+IsIn ws e group = IsAny (IsShelved ws e) group.shelves.items
 
 -- no entry of a group is lost
 abbrev pub KeepsAll : Ranges → Ranges → Type 0
@@ -140,14 +145,24 @@ pub record AreFound (index : Index) (groups : Groups) (ws : List (Option Watcher
 abbrev pub Reaches : List ℕ → ℕ → RangeEntry → Type 0
 Reaches key i e = (e.place ≡ i) × (is_watched (Range e.first e.end) key ≡ true)
 
+-- what has the bounds is looked at for the entry
+abbrev pub IsLooked : ℕ → RangeEntry → Reach → Type 0
+IsLooked revision e reach = (reach.until < revision) ⊎ IsInside e reach.bounds
+
 -- there is such an entry on a page, which is looked at for it
 abbrev pub ReachesOn : ℕ → List ℕ → ℕ → Page → Type 0
-ReachesOn revision key i page =
-    (e : RangeEntry) × IsOneOf e page.entries.items × Reaches key i e × ((page.reach.until < revision) ⊎ IsInside e page.reach.bounds)
+ReachesOn revision key i page = (e : RangeEntry) × IsOneOf e page.entries.items × Reaches key i e × IsLooked revision e page.reach
 
--- there is one on a page of a group, which is looked at for it
+-- there is one on a shelf, which is looked at for it
+pub record ReachesOver (revision : ℕ) (key : List ℕ) (i : ℕ) (shelf : Shelf) : Type 0 where
+  pub entry : RangeEntry
+  pub its : Reaches key i entry
+  pub looked : IsLooked revision entry shelf.reach
+  pub pages : IsAny (ReachesOn revision key i) shelf.pages.items
+
+-- there is one on a shelf of a group
 abbrev pub ReachesIn : ℕ → List ℕ → ℕ → Ranges → Type 0
-ReachesIn revision key i group = (group.until < revision) × IsAny (ReachesOn revision key i) group.pages.items
+ReachesIn revision key i group = IsAny (ReachesOver revision key i) group.shelves.items
 
 -- the same of a group by its number
 abbrev pub ReachesAt : ℕ → List ℕ → ℕ → List Ranges → Option ℕ → Type 0

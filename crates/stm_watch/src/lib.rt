@@ -14,6 +14,7 @@ mod page;
 mod pending_revision;
 mod ranges;
 mod refusal;
+mod shelf;
 mod slots;
 mod table;
 mod touch;

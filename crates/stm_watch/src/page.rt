@@ -7,7 +7,7 @@ ghost use Rattle.stm_watch.specs.declared.page.RangeEntry.{RangeEntry as Entry};
 ghost use Rattle.stm_watch.specs.declared.watched.Watched.TheVariants.{Range};
 ghost use Rattle.stm_watch.specs.declared.watched.Watcher.{Watcher as Kept};
 ghost use Rattle.stm_watch.specs.Keys.{is_watched};
-ghost use Rattle.stm_watch.specs.Pages.{IsAny, IsOneOf, IsWithin, IsInside, IsMet, IsSeenAt, StandsOn, IsEntryOf, HasAll, end_of, may_have};
+ghost use Rattle.stm_watch.specs.Pages.{IsAny, IsOneOf, IsWithin, IsInside, IsMet, IsSeenAt, StandsOn, HasEntry, IsEntryOf, HasAll, end_of, may_have};
 
 use crate::copies::copy_entries;
 use crate::slots::Slots;
@@ -117,15 +117,6 @@ pub(crate) struct Bounds {
 }
 
 impl Bounds {
-    /// Those of one range.
-    fn of(entry: &RangeEntry) -> Result<Bounds, AllocError>
-        ensures { IfOk result (λ bounds. IsWithin entry.now bounds) }
-    {
-        let low = entry.first.clone()?;
-        let high = entry.end.clone()?;
-        Ok(Bounds { low, high })
-    }
-
     /// Whether a range within the bounds may have a key.
     fn may_have(&self, key: &Text) -> bool
         ensures { result ≡ is_watched (Range self.now.low self.now.high) key.now }
@@ -133,27 +124,29 @@ impl Bounds {
         self.low.cmp(key).is_le() && key.cmp(&self.high).is_lt()
     }
 
-    /// Widens the bounds, so that a range is within them. A failed allocation leaves none outside.
-    fn widen(&mut self, entry: &RangeEntry) -> Result<(), AllocError>
+    /// Widens the bounds, so that ranges from `low` to `high` are within them. A failed allocation leaves none outside.
+    fn widen(&mut self, low: &Text, high: &Text) -> Result<(), AllocError>
         ensures kept { (e : Entry) → IsWithin e self.old → IsWithin e self.new }
-        ensures ok { OnOk result (IsWithin entry.now self.new) }
+        ensures ok { OnOk result ((e : Entry) → IsWithin e (record { low = low.now; high = high.now }) → IsWithin e self.new) }
     {
-        lower(&mut self.low, &entry.first)?;
-        raise(&mut self.high, &entry.end)?;
+        lower(&mut self.low, low)?;
+        raise(&mut self.high, high)?;
         Ok(())
     }
 }
 
-/// Widens bounds, which may be those of nobody. A failed allocation leaves none outside.
-fn include(bounds: &mut Option<Bounds>, entry: &RangeEntry) -> Result<(), AllocError>
+/// Widens bounds, which may be those of nobody, so that ranges from `low` to `high` are within them. A failed allocation leaves none outside.
+fn include(bounds: &mut Option<Bounds>, low: &Text, high: &Text) -> Result<(), AllocError>
     ensures kept { (e : Entry) → IsInside e bounds.old → IsInside e bounds.new }
-    ensures ok { OnOk result (IsInside entry.now bounds.new) }
+    ensures ok { OnOk result ((e : Entry) → IsWithin e (record { low = low.now; high = high.now }) → IsInside e bounds.new) }
 {
     if let Some(bounds) = bounds {
-        bounds.widen(entry)?;
+        bounds.widen(low, high)?;
         return Ok(());
     }
-    *bounds = Some(Bounds::of(entry)?);
+    let low = low.clone()?;
+    let high = high.clone()?;
+    *bounds = Some(Bounds { low, high });
     Ok(())
 }
 
@@ -165,6 +158,16 @@ pub(crate) struct Reach {
 }
 
 impl Reach {
+    /// That of those of whom nothing is known.
+    pub(crate) fn unknown() -> Reach
+        ensures { result.until ≡ 0 }
+    {
+        Reach {
+            bounds: None,
+            until: 0,
+        }
+    }
+
     /// That of these entries at a revision.
     fn of_all(entries: &[RangeEntry], slots: &Slots, revision: u64) -> Result<Reach, AllocError>
         ensures { IfOk result (λ reach. (e : Entry) → IsOneOf e entries.now → IsMet slots.now e reach) }
@@ -193,14 +196,40 @@ impl Reach {
             return Ok(());
         };
         if seen < revision {
-            return include(&mut self.bounds, entry);
+            return include(&mut self.bounds, &entry.first, &entry.end);
         }
         self.until = self.until.min(seen);
         Ok(())
     }
 
+    /// Includes all whom another one has.
+    fn include_all(&mut self, other: &Reach) -> Result<(), AllocError>
+        ensures kept { (ws : List (Option Kept)) (e : Entry) → IsMet ws e self.old → IsMet ws e self.new }
+        ensures ok { OnOk result ((ws : List (Option Kept)) (e : Entry) → IsMet ws e other.now → IsMet ws e self.new) }
+    {
+        self.until = self.until.min(other.until);
+        let Some(bounds) = &other.bounds else {
+            return Ok(());
+        };
+        include(&mut self.bounds, &bounds.low, &bounds.high)
+    }
+
+    /// That of all on these pages.
+    pub(crate) fn of_pages(pages: &[Page]) -> Result<Reach, AllocError>
+        ensures { IfOk result (λ reach. (ws : List (Option Kept)) (e : Entry) → HasEntry ws pages.now e → IsMet ws e reach) }
+    {
+        let mut reach = Reach {
+            bounds: None,
+            until: u64::MAX,
+        };
+        for page in pages {
+            reach.include_all(&page.reach)?;
+        }
+        Ok(reach)
+    }
+
     /// Whether a range within the bounds may have a key.
-    fn may_have(&self, key: &Text) -> bool
+    pub(crate) fn may_have(&self, key: &Text) -> bool
         ensures { result ≡ may_have self.now.bounds key.now }
     {
         match &self.bounds {
@@ -208,10 +237,17 @@ impl Reach {
             Some(bounds) => bounds.may_have(key),
         }
     }
+
+    /// Whether a change of a key at a revision may concern a watcher.
+    pub(crate) fn may_concern(&self, revision: u64, key: &Text) -> bool
+        ensures { result ≡ (nat_lt self.now.until revision || may_have self.now.bounds key.now) }
+    {
+        self.until < revision || self.may_have(key)
+    }
 }
 
-/// Moves the upper half of these entries before those of another list, which has room for them.
-fn move_half(entries: &mut Vec<RangeEntry>, upper: &mut Vec<RangeEntry>)
+/// Moves the upper half of these, entries or pages, before those of another list, which has room for them.
+pub(crate) fn move_half<T: Drop>(entries: &mut Vec<T>, upper: &mut Vec<T>)
     requires { vec_len entries.old + vec_len upper.old ≤ vec_capacity upper.old }
     ensures { entries.new.items ++ upper.new.items ≡ entries.old.items ++ upper.old.items }
 {
@@ -250,10 +286,7 @@ impl Page {
         ensures entries { result.entries.items ≡ entries.items }
     {
         Page {
-            reach: Reach {
-                bounds: None,
-                until: 0,
-            },
+            reach: Reach::unknown(),
             entries,
         }
     }
@@ -341,13 +374,6 @@ impl Page {
         move_half(&mut self.entries, &mut entries);
         self.reach.until = 0;
         Ok(Page::unsettled(entries))
-    }
-
-    /// Whether a change of a key at a revision may concern a watcher on the page.
-    pub(crate) fn may_concern(&self, revision: u64, key: &Text) -> bool
-        ensures { result ≡ (nat_lt self.now.reach.until revision || may_have self.now.reach.bounds key.now) }
-    {
-        self.reach.until < revision || self.reach.may_have(key)
     }
 
     /// Forgets whom a change may concern, where one of this key may concern anybody: one of them was made ready.

@@ -2,13 +2,14 @@
 ghost use Rattle.std.specs.Prelude.{◌≡◌, map, option_map};
 ghost use Rattle.stm_keys.specs.Events.{change_of_event};
 ghost use Rattle.stm_watch.specs.Kept.{Covers};
-ghost use Rattle.stm_watch.specs.Pages.{AreFound, GroupsKeep, IsAny, IsTouched, KeepsAll, Reaches, ReachesAt, ReachesIn, ReachesOn};
+ghost use Rattle.stm_watch.specs.Pages.{AreFound, GroupsKeep, IsAny, IsTouched, KeepsAll, Reaches, ReachesAt, ReachesIn, ReachesOn, ReachesOver};
 ghost use Rattle.stm_watch.specs.Touch.{touch, touch_key};
 
 use crate::groups::{Groups, OF_RANGES};
 use crate::index::Index;
 use crate::page::{Page, RangeEntry};
 use crate::ranges::Ranges;
+use crate::shelf::Shelf;
 use crate::slots::Slots;
 use stm_history::Text;
 use stm_keys::Event;
@@ -49,7 +50,7 @@ fn touch_page(slots: &mut Slots, index: &mut Index, page: &Page, revision: u64, 
     ensures slots { IsTouched revision key.now (λ i. ReachesOn revision key.now i page.now) slots.old slots.new }
     ensures covers { Covers index.new slots.new }
 {
-    if page.may_concern(revision, key) {
+    if page.reach.may_concern(revision, key) {
         touch_entries(slots, index, page.entries.as_slice(), revision, key);
     }
 }
@@ -65,7 +66,29 @@ fn touch_pages(slots: &mut Slots, index: &mut Index, pages: &[Page], revision: u
     }
 }
 
-/// Notes it for those on pages. Where that makes one ready, the bounds of its page are to leave it out.
+/// Notes it for those on a shelf, if it may concern one of them.
+fn touch_shelf(slots: &mut Slots, index: &mut Index, shelf: &Shelf, revision: u64, key: &Text)
+    requires { Covers index.old slots.old }
+    ensures slots { IsTouched revision key.now (λ i. ReachesOver revision key.now i shelf.now) slots.old slots.new }
+    ensures covers { Covers index.new slots.new }
+{
+    if shelf.reach.may_concern(revision, key) {
+        touch_pages(slots, index, shelf.pages.as_slice(), revision, key);
+    }
+}
+
+/// Notes it for those on these shelves.
+fn touch_shelves(slots: &mut Slots, index: &mut Index, shelves: &[Shelf], revision: u64, key: &Text)
+    requires { Covers index.old slots.old }
+    ensures slots { IsTouched revision key.now (λ i. IsAny (ReachesOver revision key.now i) shelves.now) slots.old slots.new }
+    ensures covers { Covers index.new slots.new }
+{
+    for shelf in shelves {
+        touch_shelf(slots, index, shelf, revision, key);
+    }
+}
+
+/// Notes it for those on shelves. Where that makes one ready, the bounds of its page and its shelf are to leave it out.
 fn touch_ranges(
     slots: &mut Slots,
     index: &mut Index,
@@ -78,11 +101,8 @@ fn touch_ranges(
     ensures covers { Covers index.new slots.new }
     ensures kept { KeepsAll ranges.old ranges.new }
 {
-    if revision <= ranges.until {
-        return;
-    }
     let before = index.ready_count();
-    touch_pages(slots, index, ranges.pages.as_slice(), revision, key);
+    touch_shelves(slots, index, ranges.shelves.as_slice(), revision, key);
     let after = index.ready_count();
     if after > before {
         ranges.unsettle(key);

@@ -2,7 +2,7 @@ use Rattle.std.proofs.Common.{◌∷◌, [], List, inl, subst, sym}
 use Rattle.stm_watch.specs.declared.page.Page.{Page}
 use Rattle.stm_watch.specs.Pages.{StandsOn, HasEntry}
 use Rattle.stm_watch.proofs.Entered.{any-left, any-right}
-use Rattle.stm_watch.proofs.ranges.Ranges.add_page.Goals as goal
+use Rattle.stm_watch.proofs.shelf.Shelf.add_page.Goals as goal
 
 pub returns-clause-kept : goal.returns-clause-kept
 returns-clause-kept c ws e has =

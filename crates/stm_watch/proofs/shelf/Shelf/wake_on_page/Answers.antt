@@ -2,12 +2,12 @@ use Rattle.std.proofs.Common.{◌∙◌, ◌<◌, List, length, vec_len, arith, 
 use Rattle.stm_watch.specs.declared.page.Page.{Page}
 use Rattle.stm_watch.specs.Pages.{StandsOn, IsOneOf, IsEntryOf}
 use Rattle.stm_watch.proofs.At.{read_same}
-use Rattle.stm_watch.proofs.Entered.{any-set, any-at, any-found, looked_at, unsettled}
-use Rattle.stm_watch.proofs.ranges.Ranges.wake_on_page.Goals as goal
+use Rattle.stm_watch.proofs.Entered.{any-set, any-at, any-found, unsettled_shelf, unsettled}
+use Rattle.stm_watch.proofs.shelf.Shelf.wake_on_page.Goals as goal
 
 pub returns-clause-kept : goal.returns-clause-kept
 returns-clause-kept c ws e had =
-    looked_at ws e _ refl
+    unsettled_shelf ws e _ refl
     (any-set (StandsOn ws e) c.args.self.now.pages.items c.page_of-at.result _ c.index_mut.result.now
     (λ stands. unsettled ws e _ refl (subst (StandsOn ws e) (sym c.index_mut.ensures.value) stands).there) had.there)
 
@@ -21,6 +21,6 @@ returns-clause-woken c same ws =
     record {
       entry = found.0;
       its = found.1;
-      there = looked_at ws found.0 _ refl (any-at (StandsOn ws found.0) pages c.page_of-at.result _ below
+      there = unsettled_shelf ws found.0 _ refl (any-at (StandsOn ws found.0) pages c.page_of-at.result _ below
           (unsettled ws found.0 _ refl (subst (λ (p : Page). IsOneOf found.0 p.entries.items) page found.2)));
     }

@@ -1,7 +1,7 @@
 use Rattle.std.proofs.Common.{arith, subst, sym}
 use Rattle.stm_watch.specs.Pages.{StandsOn}
 use Rattle.stm_watch.proofs.Entered.{any-set, any-at}
-use Rattle.stm_watch.proofs.ranges.Ranges.enter.Goals as goal
+use Rattle.stm_watch.proofs.shelf.Shelf.enter.Goals as goal
 
 pub returns-in_err-add-clause-kept : goal.returns-in_err-add-clause-kept
 returns-in_err-add-clause-kept c ws e has =

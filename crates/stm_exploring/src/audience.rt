@@ -13,6 +13,9 @@ pub trait Audience: Observer {
     /// A search at all levels begins at this one.
     fn begins(&mut self, _level: Level) {}
 
+    /// Of several rules this is said of one that is broken, while the search goes on for others. It is in the answer, too.
+    fn hear_early(&mut self, _line: &str) {}
+
     /// This is said, without a line feed at its end.
     fn hear(&mut self, line: &str);
 

@@ -3,6 +3,7 @@
 use crate::audience::Audience;
 use crate::level_lines::level_name;
 use crate::leveled::LEVELS;
+use crate::progress::at_level;
 use std::alloc::{AllocError, Global};
 use stm_explain::Said;
 use stm_explore::Observer;
@@ -130,6 +131,13 @@ impl<O: Observer> Observer for AtLevel<'_, O> {
 impl<O: Audience> Audience for AtLevel<'_, O> {
     fn wants_all(&self) -> bool {
         self.audience.wants_all()
+    }
+
+    fn hear_early(&mut self, line: &str) {
+        let at = at_level(self.level);
+        if let Ok(line) = format!(in self.alloc; "{at}{line}") {
+            self.audience.hear_early(line.as_str());
+        }
     }
 
     fn hear(&mut self, line: &str) {

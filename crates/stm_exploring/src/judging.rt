@@ -74,6 +74,10 @@ impl<O: Observer> Observer for Part<'_, O> {
         self.observer.spent(left.saturating_add(self.later));
     }
 
+    fn broke(&mut self, rule: usize, length: u64) {
+        self.observer.broke(rule, length);
+    }
+
     fn ended(&mut self) {}
 }
 

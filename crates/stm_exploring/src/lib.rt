@@ -14,6 +14,7 @@ mod audience;
 mod beginning;
 mod command;
 mod counted_ends;
+mod early;
 mod elses;
 mod enough;
 mod explaining;

@@ -5,7 +5,7 @@ use stm_explore::Observer;
 use stm_program::Level;
 
 /// What stands before how far a search is at one of the four levels, the weakest of which is the first.
-fn at_level(level: Level) -> &'static str {
+pub(crate) fn at_level(level: Level) -> &'static str {
     match level {
         Level::ReadCommitted => "at ReadCommitted (1 of 4): ",
         Level::RepeatableReads => "at RepeatableReads (2 of 4): ",
@@ -141,6 +141,11 @@ impl<'a, W, C: Clock> ProgressNotes<'a, W, C> {
         self.at = at_level(level);
     }
 
+    /// Whether a line was written.
+    pub fn has_written(&self) -> bool {
+        self.pauses > 0
+    }
+
     /// How many seconds ago the search began.
     fn seconds(&self) -> u64 {
         match self.begun {
@@ -179,7 +184,7 @@ impl<W: Write, C: Clock> ProgressNotes<'_, W, C> {
     /// Writes how far the search came, where there was a line before: so many moves are left, or as few as it was notified of,
     /// at the last of several levels.
     pub fn close(&mut self, left: u64) {
-        if self.pauses > 0 {
+        if self.has_written() {
             self.left = self.left.min(left);
             let seconds = self.seconds();
             self.write("ended: ", seconds);

@@ -10,6 +10,7 @@ use crate::accounts::tell_account;
 use crate::advice::tell_open;
 use crate::audience::Audience;
 use crate::beginning::{Begun, begin};
+use crate::early::Early;
 use crate::faulted::tell_faults;
 use crate::grouping::{asked_by, end_of_group, group_of, push_answers};
 use crate::judging::{Answer, Searched, judge, judge_waiting};
@@ -58,8 +59,32 @@ fn judge_when<O: Observer>(
     }
 }
 
+/// The same of these rules, whose programs are asked. It is said which are broken while the search goes on for others.
+fn judge_early<O: Audience>(
+    alloc: Global,
+    at: &Searched<'_>,
+    when: When,
+    rules: &[Rule],
+    asked: &[Program],
+    seen: &SeenEnds,
+    budget: &mut Budget<O>,
+) -> Result<Vec<Answer>, AllocError>
+    requires { CanSearch at.now }
+    ensures { IfOk result (λ answers. AreFoundWhen when at.now.waits.now asked.now (place_at at.now) at.now.ends.now answers.items) }
+{
+    let mut part = Budget {
+        left: budget.left,
+        observer: Early::new(alloc, rules, &mut budget.observer),
+    };
+    let found = judge_when(alloc, at, when, asked, seen, &mut part);
+    let left = part.left;
+    drop(part);
+    budget.left = left;
+    found
+}
+
 /// What is known of these rules, all of which are asked then: they are searched for in one walk, for which at most so many moves are made.
-fn judge_group<O: Observer>(
+fn judge_group<O: Audience>(
     alloc: Global,
     at: &Searched<'_>,
     when: When,
@@ -75,14 +100,14 @@ fn judge_group<O: Observer>(
 {
     let asked = asked_by(alloc, rules)?;
     budget.left = most;
-    let found = judge_when(alloc, at, when, asked.as_slice(), seen, budget)?;
+    let found = judge_early(alloc, at, when, rules, asked.as_slice(), seen, budget)?;
     push_answers(rules, when, found, answers)?;
     Ok(())
 }
 
 /// What is known of each of these rules. Those that stand side by side and are asked at the same places are searched for in one walk, for which as many
 /// moves may be made as `budget` has left.
-fn judge_rules<O: Observer>(
+fn judge_rules<O: Audience>(
     alloc: Global,
     at: &Searched<'_>,
     rules: &[Rule],

@@ -5,6 +5,7 @@ ghost use Rattle.std.specs.Option.{option_or};
 ghost use Rattle.stm_visited.specs.Answers.{EachIs, answer_of};
 ghost use Rattle.stm_visited.specs.Layers.{bad_among};
 
+use crate::budget::Observer;
 use crate::layer::first_broken;
 use crate::reached::Reached;
 use crate::system::System;
@@ -79,6 +80,21 @@ pub(crate) fn founds_among<S: System>(
         founds.push(found)?;
     }
     Ok(founds)
+}
+
+/// Notifies an observer of each rule that is broken by a schedule of this length.
+pub(crate) fn tell_broken<M, O: Observer>(
+    founds: &[Option<Sequence<M>>],
+    length: u64,
+    observer: &mut O,
+) {
+    for rule in 0..founds.len() {
+        if let Some(moves) = &founds[rule] {
+            if moves.as_slice().len() as u64 == length {
+                observer.broke(rule, length);
+            }
+        }
+    }
 }
 
 /// Whether for each rule a schedule was found that breaks it.

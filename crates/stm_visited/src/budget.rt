@@ -15,6 +15,10 @@ pub trait Observer {
     /// Moves were made, and at most `left` more may be.
     fn spent(&mut self, left: u64);
 
+    /// Of several rules the one of this number is broken, by a schedule of `length` moves, and the search goes on for others. Notified of next is that
+    /// all schedules of up to `length` moves were gone through.
+    fn broke(&mut self, _rule: usize, _length: u64) {}
+
     /// The search has ended.
     fn ended(&mut self);
 }

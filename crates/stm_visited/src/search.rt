@@ -4,7 +4,7 @@ ghost use Rattle.std.specs.List.{list_all};
 ghost use Rattle.stm_visited.specs.Answers.{EachIs, IsVisited, OpenIsSpent, OpenIsFar};
 ghost use Rattle.stm_visited.specs.Layers.{bad_among, on_among};
 
-use crate::breaks::{Ending, answers_of, are_all_found, founds_among, none_found};
+use crate::breaks::{Ending, answers_of, are_all_found, founds_among, none_found, tell_broken};
 use crate::budget::{Budget, Observer};
 use crate::halt::Halt;
 use crate::layer::{can_go_on, next_layer, opening_layer};
@@ -73,6 +73,7 @@ pub fn find_first_bad<S: System, O: Observer>(
     }
     let most = budget.left;
     for kept in 0..most {
+        tell_broken(founds.as_slice(), kept, &mut budget.observer);
         budget.observer.passed(kept, budget.left);
         match next_layer(alloc, system, layer, budget) {
             Ok(next) => {

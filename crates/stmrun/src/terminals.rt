@@ -5,6 +5,7 @@ use crate::naming::{RUNNERS, with_names};
 use crate::sources::{NamedSource, say_line};
 use std::alloc::{AllocError, Global};
 use std::io::{IsTerminal, Stderr};
+use std::mem;
 use std::time::Clock;
 use stm_compiling::{
     NamedRunner, PlacedLine, event_lines, line_of_event, line_of_rule, placed_rule, placed_runner,
@@ -89,9 +90,28 @@ pub(crate) struct SearchLines<'a> {
     is_strict: bool,
     /// Whether something was said that makes the answer worth little.
     is_doubtful: bool,
+    /// Whether the search has made thousands of moves.
+    is_long: bool,
+    /// What was found early, and is yet to be said.
+    early: Vec<String>,
 }
 
 impl SearchLines<'_> {
+    /// Says what was found early, where it is seen that the search takes long.
+    fn say_early(&mut self) {
+        let is_seen = match &self.progress {
+            Progress::Shown(_) => self.is_long,
+            Progress::Noted(notes) => notes.has_written(),
+        };
+        if !is_seen || self.early.is_empty() {
+            return;
+        }
+        self.progress.ended();
+        for line in mem::replace(&mut self.early, Vec::new(self.rt.alloc())) {
+            self.say(line.as_str());
+        }
+    }
+
     /// Says a line on standard error.
     fn say(&self, line: &str) {
         if let Ok(line) = with_names(self.rt.alloc(), RUNNERS, self.runners, line) {
@@ -184,10 +204,13 @@ fn placed_in<'a>(
 
 impl Observer for SearchLines<'_> {
     fn passed(&mut self, length: u64, left: u64) {
+        self.say_early();
         self.progress.passed(length, left);
     }
 
     fn spent(&mut self, left: u64) {
+        self.is_long = true;
+        self.say_early();
         self.progress.spent(left);
     }
 
@@ -203,6 +226,12 @@ impl Audience for SearchLines<'_> {
 
     fn begins(&mut self, level: Level) {
         self.progress.begin(level);
+    }
+
+    fn hear_early(&mut self, line: &str) {
+        if let Ok(line) = String::from_str(self.rt.alloc(), line) {
+            let _ = self.early.push(line);
+        }
     }
 
     fn hear(&mut self, line: &str) {
@@ -276,6 +305,8 @@ pub(crate) fn shown_budget<'a>(
             source,
             is_strict: strict,
             is_doubtful: false,
+            is_long: false,
+            early: Vec::new(rt.alloc()),
         },
     }
 }

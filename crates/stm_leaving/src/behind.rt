@@ -10,7 +10,7 @@ use std::sync::Arc;
 use stm_program::{Block, Stmt};
 
 /// A block that grows at its front. A contract sees the block.
-#[derive(Debug, Drop)]
+#[derive(Drop)]
 pub(crate) struct Behind {
     /// What it begins with, the first of these last.
     statements: Vec<Stmt>,

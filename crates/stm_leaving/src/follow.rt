@@ -8,7 +8,6 @@ use std::sync::Arc;
 use stm_program::Block;
 
 /// What follows a part of a source, by the way in which it is left. Nothing follows a `return`.
-#[derive(Debug, Drop)]
 pub struct Follow {
     /// What follows where it goes on.
     pub next: Block,
@@ -16,6 +15,16 @@ pub struct Follow {
     pub broken: Block,
     /// What follows where it is left by a `continue` of the loop around it.
     pub continued: Block,
+}
+
+impl Drop for Follow {
+    fn drop(self) {
+        let Follow {
+            next: _,
+            broken: _,
+            continued: _,
+        } = self;
+    }
 }
 
 /// The block of no statements. It fails only when out of memory.

@@ -6,7 +6,6 @@ use stm_program::{Cond, Expr, Stmt, Variable};
 
 /// A statement of a source.
 #[cycle(part)]
-#[derive(Debug, Drop)]
 pub struct Part {
     /// Which statement it is.
     pub node: PartNode,
@@ -14,7 +13,7 @@ pub struct Part {
 
 /// The kinds of statement.
 #[cycle(part)]
-#[derive(Debug, Drop)]
+#[derive(Drop)]
 pub enum PartNode {
     /// A statement of a program.
     Plain(Stmt),
@@ -34,7 +33,7 @@ pub enum PartNode {
 
 /// Statements of a source, one after another. They are shared.
 #[cycle(part)]
-#[derive(Debug, Drop)]
+#[derive(Drop)]
 pub struct Parts {
     /// The statements in order.
     pub parts: Arc<Vec<Part>>,
@@ -42,10 +41,17 @@ pub struct Parts {
 
 /// Copies of the block of a loop over items, one after another. They are shared.
 #[cycle(part)]
-#[derive(Debug, Drop)]
+#[derive(Drop)]
 pub struct Copies {
     /// The copies in order.
     pub copies: Arc<Vec<Parts>>,
+}
+
+impl Drop for Part {
+    #[cycle(part)]
+    fn drop(self) {
+        let Part { node: _ } = self;
+    }
 }
 
 impl Model for Part {

@@ -8,7 +8,7 @@ use std::sync::Arc;
 
 /// A condition. Its parts are shared.
 #[cycle(condition)]
-#[derive(Debug, Drop)]
+#[derive(Debug)]
 pub struct Cond {
     /// Which condition it is.
     pub node: CondNode,
@@ -28,6 +28,13 @@ pub enum CondNode {
     And(Arc<Cond>, Arc<Cond>),
     /// Whether one of the conditions holds. The right one is looked at where the left one does not hold.
     Or(Arc<Cond>, Arc<Cond>),
+}
+
+impl Drop for Cond {
+    #[cycle(condition)]
+    fn drop(self) {
+        let Cond { node: _ } = self;
+    }
 }
 
 impl Model for Cond {

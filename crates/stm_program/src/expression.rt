@@ -10,7 +10,7 @@ use stm_history::Text;
 
 /// An expression. Its parts are shared, so that a copy of an expression that is no text allocates nothing.
 #[cycle(expression)]
-#[derive(Debug, Drop)]
+#[derive(Debug)]
 pub struct Expr {
     /// Which expression it is.
     pub node: ExprNode,
@@ -38,6 +38,13 @@ pub enum ExprNode {
     TextOf(Arc<Expr>),
     /// A decimal text as a number.
     NumOf(Arc<Expr>),
+}
+
+impl Drop for Expr {
+    #[cycle(expression)]
+    fn drop(self) {
+        let Expr { node: _ } = self;
+    }
 }
 
 impl Model for Expr {

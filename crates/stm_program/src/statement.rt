@@ -10,7 +10,7 @@ use std::sync::Arc;
 
 /// A statement. Its parts are shared.
 #[cycle(statement)]
-#[derive(Debug, Drop)]
+#[derive(Debug)]
 pub struct Stmt {
     /// Which statement it is.
     pub node: StmtNode,
@@ -43,6 +43,13 @@ pub enum StmtNode {
 pub struct Block {
     /// The statements in order.
     pub statements: Arc<Vec<Stmt>>,
+}
+
+impl Drop for Stmt {
+    #[cycle(statement)]
+    fn drop(self) {
+        let Stmt { node: _ } = self;
+    }
 }
 
 impl Model for Stmt {

@@ -31,7 +31,7 @@ fn make_step(world: &mut World, runner: u64, made: &mut Vec<Move>) -> Result<(),
     let event = WorldEvent::Step { runner };
     let taken = take(world, &event);
     drop(event);
-    let _reply = taken?;
+    taken?;
     made.push(Move::Step { runner })?;
     Ok(())
 }
@@ -66,7 +66,7 @@ fn make_other<'a>(
     if others.is_empty() {
         return Ok(others);
     }
-    let _reply = take(world, &others[0])?;
+    take(world, &others[0])?;
     made.push(Move::Other)?;
     Ok(rest_of(others))
 }

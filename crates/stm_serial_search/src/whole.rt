@@ -65,11 +65,8 @@ fn txn_of(alloc: Global, writes: &[Write]) -> Result<Txn, AllocError>
     Ok(txn)
 }
 
-/// Takes an event.
-pub(crate) fn take(
-    world: &mut World,
-    event: &WorldEvent,
-) -> Result<Result<Reply, Denied>, AllocError>
+/// Takes an event, and gives the reply to it.
+fn take_replied(world: &mut World, event: &WorldEvent) -> Result<Result<Reply, Denied>, AllocError>
     ensures { OnOk result (world.new ≡ (step event.now world.old).next) }
 {
     let reply = world.step(event);
@@ -79,13 +76,21 @@ pub(crate) fn take(
     Ok(reply)
 }
 
+/// Takes an event.
+pub(crate) fn take(world: &mut World, event: &WorldEvent) -> Result<(), AllocError>
+    ensures { OnOk result (world.new ≡ (step event.now world.old).next) }
+{
+    let _reply = take_replied(world, event)?;
+    Ok(())
+}
+
 /// Takes another client's event.
 pub(crate) fn take_foreign(world: &mut World, event: &WorldEvent) -> Result<(), AllocError>
     requires { is_foreign event.now ≡ true }
     ensures store { OnOk result (world.new.standing ≡ after_foreign event.now world.old.standing) }
     ensures runners { OnOk result (world.new.runners ≡ world.old.runners) }
 {
-    let _reply = take(world, event)?;
+    take(world, event)?;
     Ok(())
 }
 
@@ -99,7 +104,7 @@ fn apply(
 {
     let txn = txn_of(alloc, writes)?;
     let event = WorldEvent::Txn { txn };
-    let reply = take(world, &event);
+    let reply = take_replied(world, &event);
     drop(event);
     reply
 }

@@ -31,7 +31,7 @@ const MOST_MARKED: usize = 2 * MAX_NODES;
 const START: &str = "start";
 
 /// The statements of a program, each behind the mark that says where it begins.
-#[derive(Debug, Drop)]
+#[derive(Drop)]
 pub struct MarkedProgram {
     /// How many elements stand before them in the program's JSON.
     pub first: usize,
@@ -40,7 +40,7 @@ pub struct MarkedProgram {
 }
 
 /// A start with its program.
-#[derive(Debug, Drop)]
+#[derive(Drop)]
 pub struct MarkedStart {
     /// The index of the start among the elements of the scenario's JSON: of the first one, where it gives several names.
     pub element: usize,
@@ -49,7 +49,7 @@ pub struct MarkedStart {
 }
 
 /// A rule or a final with its program.
-#[derive(Debug, Drop)]
+#[derive(Drop)]
 pub struct MarkedRule {
     /// Its name.
     pub name: Text,
@@ -58,7 +58,7 @@ pub struct MarkedRule {
 }
 
 /// The programs of a source that are run.
-#[derive(Debug, Drop)]
+#[derive(Drop)]
 pub struct MarkedPrograms {
     /// Those of its starts, in their order.
     pub starts: Sequence<MarkedStart>,

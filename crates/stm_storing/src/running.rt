@@ -37,7 +37,6 @@ pub struct Manner {
 }
 
 /// A run that was tried.
-#[derive(Drop)]
 struct Tried {
     /// Its runner.
     runner: u64,
@@ -45,6 +44,16 @@ struct Tried {
     events: u64,
     /// The reply to the last of them.
     end: Result<Reply, Denied>,
+}
+
+impl Drop for Tried {
+    fn drop(self) {
+        let Tried {
+            runner: _,
+            events: _,
+            end: _,
+        } = self;
+    }
 }
 
 /// The word of a level.

@@ -14,7 +14,7 @@ use stm_history::{Sequence, Text};
 use stm_tokens::Token;
 
 /// What a parameter stands for.
-#[derive(Debug, Drop)]
+#[derive(Drop)]
 pub enum Argument {
     /// A text or a number: where a program is defined, either may come.
     Either,
@@ -25,7 +25,7 @@ pub enum Argument {
 }
 
 /// An argument, and where it stands.
-#[derive(Debug, Drop)]
+#[derive(Drop)]
 pub struct Given {
     /// What it is.
     pub argument: Argument,
@@ -34,7 +34,7 @@ pub struct Given {
 }
 
 /// The parameters of a program, each with what it stands for.
-#[derive(Debug, Drop)]
+#[derive(Drop)]
 pub struct Arguments {
     /// The names of the parameters.
     pub names: Shared<Names>,
@@ -45,7 +45,7 @@ pub struct Arguments {
 }
 
 /// A text that is wanted, which a parameter may stand for.
-#[derive(Debug, Drop)]
+#[derive(Drop)]
 pub struct GivenText {
     /// The text. It is not known, where either a text or a number may come.
     pub text: Option<Text>,

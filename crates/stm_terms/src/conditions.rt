@@ -23,7 +23,7 @@ use stm_program::{Cond, CondNode, MAX_NODES, Stmt};
 use stm_tokens::{Symbol, Token};
 
 /// A condition that was read.
-#[derive(Debug, Drop)]
+#[derive(Drop)]
 pub struct Tested {
     /// What is set in front of its statement.
     pub front: Sequence<Stmt>,

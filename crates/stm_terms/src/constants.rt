@@ -16,7 +16,7 @@ use stm_history::{Sequence, Text};
 use stm_tokens::Token;
 
 /// One of a list: a text or a number.
-#[derive(Debug, Drop)]
+#[derive(Drop)]
 pub struct Item {
     /// What it is.
     pub argument: Shared<Argument>,
@@ -25,7 +25,7 @@ pub struct Item {
 }
 
 /// What a name stands for that is defined outside of programs.
-#[derive(Debug, Drop)]
+#[derive(Drop)]
 pub enum Constant {
     /// A text or a number.
     Alone(Shared<Argument>),
@@ -36,7 +36,7 @@ pub enum Constant {
 }
 
 /// The names that a source defines so far, each with what it stands for.
-#[derive(Debug, Drop)]
+#[derive(Drop)]
 pub struct Constants {
     /// The names.
     pub names: Names,

@@ -20,7 +20,7 @@ use stm_program::{Expr, ExprNode};
 use stm_tokens::{Symbol, Token};
 
 /// The runners that a final names.
-#[derive(Debug, Drop)]
+#[derive(Drop)]
 pub struct Runners {
     /// Their names.
     pub names: Names,

@@ -22,7 +22,7 @@ pub enum Kind {
 }
 
 /// A value that was read, and what it is.
-#[derive(Debug, Drop)]
+#[derive(Drop)]
 pub struct Valued {
     /// The value.
     pub expression: Expr,

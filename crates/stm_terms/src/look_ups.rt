@@ -15,7 +15,7 @@ use stm_history::{Sequence, Text};
 use stm_program::{Block, Cond, CondNode, Expr, ExprNode, MAX_VARIABLE, Stmt, StmtNode, Variable};
 
 /// What stands for a look-up where the key is absent or its value is empty.
-#[derive(Debug, Drop)]
+#[derive(Drop)]
 pub struct Other {
     /// Where its `else` stands.
     pub at: usize,
@@ -26,7 +26,7 @@ pub struct Other {
 }
 
 /// A look-up of a value.
-#[derive(Debug, Drop)]
+#[derive(Drop)]
 pub struct LookUp {
     /// Where it begins.
     pub at: usize,
@@ -53,7 +53,7 @@ pub(crate) struct Fronts {
 }
 
 /// A value of a statement, behind what is set in front of it.
-#[derive(Debug, Drop)]
+#[derive(Drop)]
 pub struct Fronted {
     /// The statements in front.
     pub front: Sequence<Stmt>,
@@ -62,7 +62,7 @@ pub struct Fronted {
 }
 
 /// Two values of a statement, behind what is set in front of it.
-#[derive(Debug, Drop)]
+#[derive(Drop)]
 pub struct FrontedPair {
     /// The statements in front.
     pub front: Sequence<Stmt>,

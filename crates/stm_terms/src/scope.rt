@@ -15,7 +15,7 @@ use stm_program::{MAX_VARIABLE, Variable};
 use stm_tokens::{Symbol, Token, TokenKind, Word, number_length, number_of};
 
 /// An item of a loop, by the loop's name for it.
-#[derive(Debug, Drop)]
+#[derive(Drop)]
 pub struct NamedItem {
     /// The name.
     pub name: SharedText,
@@ -24,7 +24,6 @@ pub struct NamedItem {
 }
 
 /// What the names of a program stand for where it is read.
-#[derive(Debug, Drop)]
 pub struct Scope {
     /// Whether the program calls them `v0` to `v15`. Else it gives them names.
     pub numbered: bool,
@@ -50,6 +49,25 @@ pub struct Scope {
     pub constants: Shared<Constants>,
     /// In a final, the runners that it names.
     pub runners: Option<Shared<Runners>>,
+}
+
+impl Drop for Scope {
+    fn drop(self) {
+        let Scope {
+            numbered: _,
+            takes_else: _,
+            names: _,
+            kinds: _,
+            looks_at_kinds: _,
+            kinds_at: _,
+            program: _,
+            room: _,
+            items: _,
+            arguments: _,
+            constants: _,
+            runners: _,
+        } = self;
+    }
 }
 
 /// The place of a name among names that are shared.

@@ -2,7 +2,6 @@
 ghost use Rattle.std.specs.Prelude.{◌≡◌, IfOk};
 
 use std::alloc::{AllocError, Global};
-use std::fmt;
 use std::marker::Model;
 use std::sync::Arc;
 
@@ -50,13 +49,6 @@ impl<T> Shared<T> {
         ensures { result.now ≡ self.now }
     {
         &self.value
-    }
-}
-
-/// It shows the value.
-impl<T: fmt::Debug> fmt::Debug for Shared<T> {
-    fn fmt<W: fmt::Write>(&self, f: &mut fmt::Formatter<W>) -> fmt::Result {
-        fmt::Debug::fmt(self.get(), f)
     }
 }
 

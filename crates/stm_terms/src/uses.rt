@@ -17,7 +17,7 @@ use stm_program::{Expr, ExprNode, MAX_NODES, Variable};
 use stm_tokens::Token;
 
 /// A value that is defined. Its parameters are its variables, in their order.
-#[derive(Debug, Drop)]
+#[derive(Drop)]
 pub struct Defined {
     /// How many parameters it has.
     pub parameters: usize,
